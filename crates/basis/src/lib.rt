@@ -1,0 +1,22 @@
+// What every crate above shares: the limits of time, and the test for a finite float.
+
+ghost use mathlib.Core.Path.{_≡_};
+ghost use lib.Ieee.Scale.{finite};
+
+// Moments are whole milliseconds from 0 up to but not including this.
+pub const END_OF_TIME: u64 = 3_155_760_000_000;
+
+pub const DAY_LENGTH: u64 = 86_400_000;
+
+pub const LONGEST_DUT: u32 = 100_000;
+
+// Whether x is a number: neither an infinity nor a NaN.
+pub fn is_finite(x: f64) -> bool
+    ensures { λ r. ⌜ r ≡ finite x ⌝ }
+{
+    let top = f64::from_bits(0x7ff0_0000_0000_0000);
+    if x < top {
+        return -top < x;
+    }
+    false
+}
