@@ -1,0 +1,28 @@
+-- Document 01: "Float" is IEEE 754 binary64, round to nearest even, one rounding for each written operation.
+-- A circle around an operation says that it is the float's: x ⊕ y is the float nearest to the sum.
+use Prim.Native.Nat.{ℕ}
+use mathlib.Core.Bool.{false}
+use lib.IntN.{pos}
+use lib.Ieee.{Float, binary64, add, sub, mul, div, ofInt, round}
+
+infixl 60 _⊕_ _⊖_
+infixl 70 _⊗_ _⊘_
+abbrev pub _⊕_ : Float → Float → Float
+x ⊕ y = add binary64 x y
+
+abbrev pub _⊖_ : Float → Float → Float
+x ⊖ y = sub binary64 x y
+
+abbrev pub _⊗_ : Float → Float → Float
+x ⊗ y = mul binary64 x y
+
+abbrev pub _⊘_ : Float → Float → Float
+x ⊘ y = div binary64 x y
+
+-- a whole number as a float
+abbrev pub whole : ℕ → Float
+whole n = ofInt binary64 (pos n)
+
+-- the float nearest to the fraction n / d, as a decimal number in the document is read
+abbrev pub decimal : ℕ → ℕ → Float
+decimal n d = round binary64 false n d

@@ -1,0 +1,62 @@
+-- `sine::sine_cosine` meets its contract. Assumes nothing.
+use mathlib.Core.Bool.{Bool, true, false}
+use mathlib.Core.Path.{_≡_, ap}
+use Prim.Native.Nat.{ℕ, _≤_, _<_, _%_, _-_}
+use native.Mathlib.Omega.{arith}
+use borrow.Author.Needs.{needs}
+use borrow.Author.Tests.{lt-ltb, le-ltb}
+use Rattle.basis.specs.Choice.{if_then_else_, _=?_}
+use Rattle.sine.specs.Sine.{octant, within, sineCosine, sineCosineAnswer}
+use Rattle.sine.proofs.sine_cosine.Statement.{statement}
+use Rattle.sine.proofs.sine_cosine.Tie as tie
+
+from-axis-requires : tie.Need-from-axis-requires
+from-axis-requires c κs = search needs
+
+within-le : (q r : ℕ) → r < octant → within q r ≤ octant
+unfolding within
+within-le q r h = go (q % 2 =? 0)
+  where
+    go : (b : Bool) → (if b then r else octant - r) ≤ octant
+    go true = omega arith
+    go false = omega arith
+
+radians-requires : tie.Need-radians-requires
+radians-requires c κs = rw (c .from-axis .ensures) (within-le _ _ (search needs))
+
+sine-of-requires : tie.Need-sine-of-requires
+sine-of-requires c κs = search needs
+
+cosine-of-requires : tie.Need-cosine-of-requires
+cosine-of-requires c κs = search needs
+
+of-octant-requires : tie.Need-of-octant-requires
+of-octant-requires c κs = search needs
+
+returns : tie.Need-returns
+unfolding sineCosineAnswer sineCosine
+returns c =
+    simp (
+      lt-ltb _ _ (c .before .before .before .before .before .if1 .taken),
+      c .of-octant .ensures,
+      c .before .cosine-of .ensures,
+      c .before .before .sine-of .ensures,
+      c .before .before .before .radians .ensures,
+      c .before .before .before .before .from-axis .ensures,
+    )
+
+returns-2 : tie.Need-returns-2
+unfolding sineCosineAnswer
+returns-2 c = simp (le-ltb _ _ (c .if1 .left))
+
+pub sine-cosine-spec : {M : Type 1} → statement M
+sine-cosine-spec =
+    tie.close
+    (tie.spec
+    from-axis-requires
+    radians-requires
+    sine-of-requires
+    cosine-of-requires
+    of-octant-requires
+    returns
+    returns-2)
