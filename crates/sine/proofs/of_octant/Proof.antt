@@ -61,18 +61,11 @@ of-octant-spec =
     tie.close
     (tie.spec
     (λ c κs. tt)
-    returns
     (λ c κs. tt)
-    returns-2
     (λ c κs. tt)
-    returns-3
     (λ c κs. tt)
-    returns-4
     (λ c κs. tt)
-    returns-5
     (λ c κs. tt)
-    returns-6
     (λ c κs. tt)
-    returns-7
     (λ c κs. tt)
-    returns-8)
+    returns returns-2 returns-3 returns-4 returns-5 returns-6 returns-7 returns-8)
