@@ -1,9 +1,9 @@
 -- Document 01: "Float" is IEEE 754 binary64, round to nearest even, one rounding for each written operation.
 -- A circle around an operation says that it is the float's: x ⊕ y is the float nearest to the sum.
 use Prim.Native.Nat.{ℕ}
-use mathlib.Core.Bool.{false}
+use mathlib.Core.Bool.{Bool, false}
 use lib.IntN.{pos}
-use lib.Ieee.{Float, binary64, add, sub, mul, div, ofInt, round}
+use lib.Ieee.{Float, binary64, add, sub, mul, div, lt, ofBits, ofInt, round}
 
 infixl 60 _⊕_ _⊖_
 infixl 70 _⊗_ _⊘_
@@ -18,6 +18,16 @@ x ⊗ y = mul binary64 x y
 
 abbrev pub _⊘_ : Float → Float → Float
 x ⊘ y = div binary64 x y
+
+-- +0.0, whose bits are all 0
+abbrev pub zero64 : Float
+zero64 = ofBits binary64 0
+
+abbrev pub above0 : Float → Bool
+above0 x = lt zero64 x
+
+abbrev pub below0 : Float → Bool
+below0 x = lt x zero64
 
 -- a whole number as a float
 abbrev pub whole : ℕ → Float

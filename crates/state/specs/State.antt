@@ -1,0 +1,46 @@
+-- Document 01, "Setting, state, acceleration": what a state and a setting hold, and which are allowed.
+use mathlib.Core.Bool.{Bool, not, _&&_}
+use lib.Ieee.{Float}
+use lib.Ieee.Scale.{finite}
+use Rattle.basis.specs.Floats.{_⊕_, _⊗_, above0, below0}
+use Rattle.basis.specs.Limits.{isDUT}
+use Rattle.state.specs.declared.Vector.{Vector}
+use Rattle.state.specs.declared.State.{State}
+use Rattle.state.specs.declared.Setting.{Setting}
+
+abbrev pub position : State → Vector
+position s = record { x = s .x; y = s .y; z = s .z }
+
+abbrev pub velocity : State → Vector
+velocity s = record { x = s .vx; y = s .vy; z = s .vz }
+
+-- "For a vector v: n = (x·x + y·y) + z·z"
+unfoldable pub n : Vector → Float
+n v = (v .x ⊗ v .x ⊕ v .y ⊗ v .y) ⊕ v .z ⊗ v .z
+
+abbrev pub finiteVector : Vector → Bool
+finiteVector v = finite (v .x) && finite (v .y) && finite (v .z)
+
+abbrev pub finiteState : State → Bool
+finiteState s = finiteVector (position s) && finiteVector (velocity s)
+
+-- "A body is used when its coefficient is above 0"
+abbrev pub used : Float → Bool
+used m = above0 m
+
+-- "Coefficients are finite and not negative; the Earth's is above 0"
+abbrev pub coefficientAllowed : Float → Bool
+coefficientAllowed m = finite m && not (below0 m)
+
+abbrev pub earthAllowed : Float → Bool
+earthAllowed m = finite m && above0 m
+
+unfoldable pub settingAllowed : Setting → Bool
+settingAllowed s =
+    earthAllowed (s .earth)
+    && coefficientAllowed (s .moon)
+    && coefficientAllowed (s .sun)
+    && coefficientAllowed (s .venus)
+    && coefficientAllowed (s .mars)
+    && coefficientAllowed (s .jupiter)
+    && isDUT (s .dut)

@@ -1,0 +1,117 @@
+// A spacecraft's state, the setting it moves under, and the tests that both have to pass.
+
+ghost use mathlib.Core.Path.{_≡_};
+ghost use Rattle.state.specs.State.{position, velocity, n, finiteVector, finiteState, coefficientAllowed, earthAllowed, settingAllowed};
+
+pub struct Vector {
+    pub x: f64,
+    pub y: f64,
+    pub z: f64,
+}
+
+// A moment, with the position in km and the velocity in km/s.
+pub struct State {
+    pub moment: u64,
+    pub x: f64,
+    pub y: f64,
+    pub z: f64,
+    pub vx: f64,
+    pub vy: f64,
+    pub vz: f64,
+}
+
+// The gravitational coefficients of the bodies 1 to 6 in km³/s², and DUT in milliseconds.
+pub struct Setting {
+    pub earth: f64,
+    pub moon: f64,
+    pub sun: f64,
+    pub venus: f64,
+    pub mars: f64,
+    pub jupiter: f64,
+    pub dut: u32,
+}
+
+pub fn position_of(s: State) -> Vector
+    ensures { λ r. ⌜ r ≡ position s ⌝ }
+{
+    Vector {
+        x: s.x,
+        y: s.y,
+        z: s.z,
+    }
+}
+
+pub fn velocity_of(s: State) -> Vector
+    ensures { λ r. ⌜ r ≡ velocity s ⌝ }
+{
+    Vector {
+        x: s.vx,
+        y: s.vy,
+        z: s.vz,
+    }
+}
+
+// The square of a vector's length.
+pub fn square(v: Vector) -> f64
+    ensures { λ r. ⌜ r ≡ n v ⌝ }
+{
+    (v.x * v.x + v.y * v.y) + v.z * v.z
+}
+
+pub fn vector_is_finite(v: Vector) -> bool
+    ensures { λ r. ⌜ r ≡ finiteVector v ⌝ }
+{
+    if basis::is_finite(v.x) {
+        if basis::is_finite(v.y) {
+            return basis::is_finite(v.z);
+        }
+    }
+    false
+}
+
+pub fn state_is_finite(s: State) -> bool
+    ensures { λ r. ⌜ r ≡ finiteState s ⌝ }
+{
+    if vector_is_finite(position_of(s)) {
+        return vector_is_finite(velocity_of(s));
+    }
+    false
+}
+
+// Whether a body other than the Earth may have the coefficient m.
+fn coefficient_is_allowed(m: f64) -> bool
+    ensures { λ r. ⌜ r ≡ coefficientAllowed m ⌝ }
+{
+    if m < 0.0 {
+        return false;
+    }
+    basis::is_finite(m)
+}
+
+fn earth_is_allowed(m: f64) -> bool
+    ensures { λ r. ⌜ r ≡ earthAllowed m ⌝ }
+{
+    if 0.0 < m {
+        return basis::is_finite(m);
+    }
+    false
+}
+
+pub fn setting_is_allowed(s: Setting) -> bool
+    ensures { λ r. ⌜ r ≡ settingAllowed s ⌝ }
+{
+    if earth_is_allowed(s.earth) {
+        if coefficient_is_allowed(s.moon) {
+            if coefficient_is_allowed(s.sun) {
+                if coefficient_is_allowed(s.venus) {
+                    if coefficient_is_allowed(s.mars) {
+                        if coefficient_is_allowed(s.jupiter) {
+                            return s.dut <= basis::LONGEST_DUT;
+                        }
+                    }
+                }
+            }
+        }
+    }
+    false
+}
