@@ -1,0 +1,5 @@
+pub mod Dates
+pub mod Figures
+pub mod Lengths
+pub mod MonthSearch
+pub mod Runs

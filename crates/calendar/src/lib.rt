@@ -1,0 +1,150 @@
+// Dates of the Gregorian calendar from 1950 to 2049, and their days counted from 1950 January 1.
+
+ghost use mathlib.Core.Path.{_≡_};
+ghost use Prim.Native.Nat.{_+_, _*_, _<_, _≤_};
+ghost use Rattle.calendar.specs.Gregorian.{ymd, isLeap, yearLength, monthLength, daysBeforeMonth, daysBeforeYear, isDate, dateOf};
+ghost use Rattle.calendar.specs.Answers.{dateAnswer, dayAnswer, julianAnswer};
+
+// A date.
+pub struct Calendar {
+    pub year: u64,
+    pub month: u64,
+    pub day: u64,
+}
+
+pub enum DateAnswer {
+    Date(Calendar),
+    Refused(u64),
+}
+
+pub enum DayAnswer {
+    Day(u64),
+    Refused(u64),
+}
+
+pub enum JulianAnswer {
+    Twice(u64),
+    Refused(u64),
+}
+
+const COMMON_YEAR: [u64; 12] = [31, 28, 31, 30, 31, 30, 31, 31, 30, 31, 30, 31];
+
+const LEAP_YEAR: [u64; 12] = [31, 29, 31, 30, 31, 30, 31, 31, 30, 31, 30, 31];
+
+// Within 1950 to 2049 every fourth year is leap: 2000 is the only year that 100 divides.
+fn is_leap(year: u64) -> bool
+    requires { ⌜ (1950 ≤ year) × (year ≤ 2049) ⌝ }
+    ensures { λ r. ⌜ r ≡ isLeap year ⌝ }
+{
+    year % 4 == 0
+}
+
+fn days_before_year(year: u64) -> u64
+    requires { ⌜ (1950 ≤ year) × (year ≤ 2049) ⌝ }
+    ensures { λ r. ⌜ r ≡ daysBeforeYear year ⌝ }
+{
+    let years = year - Calendar::FIRST_YEAR;
+    365 * years + (years + 1) / 4
+}
+
+fn month_length(leap: bool, month: u64) -> u64
+    requires { ⌜ (1 ≤ month) × (month ≤ 12) ⌝ }
+    ensures { λ r. ⌜ r ≡ monthLength leap month ⌝ }
+{
+    let i = (month - 1) as usize;
+    if leap { LEAP_YEAR[i] } else { COMMON_YEAR[i] }
+}
+
+fn days_before_month(leap: bool, month: u64) -> u64
+    requires { ⌜ (1 ≤ month) × (month ≤ 12) ⌝ }
+    ensures { λ r. ⌜ r ≡ daysBeforeMonth leap month ⌝ }
+{
+    let mut days = 0;
+    for m in 1..month {
+        days += month_length(leap, m);
+    }
+    days
+}
+
+// The date after so many days of a year.
+fn date_in_year(year: u64, elapsed: u64) -> Calendar
+    requires { ⌜ (1950 ≤ year) × ((year ≤ 2049) × (elapsed < yearLength (isLeap year))) ⌝ }
+    ensures { λ r. ⌜ r ≡ dateOf (daysBeforeYear year + elapsed) ⌝ }
+{
+    let leap = is_leap(year);
+    let mut month = 1;
+    let mut rest = elapsed;
+    let mut length = month_length(leap, 1);
+    while length <= rest {
+        rest -= length;
+        month += 1;
+        length = month_length(leap, month);
+    }
+    Calendar {
+        year,
+        month,
+        day: rest + 1,
+    }
+}
+
+fn is_date(year: u64, month: u64, day: u64) -> bool
+    ensures { λ r. ⌜ r ≡ isDate (ymd year month day) ⌝ }
+{
+    if year < Calendar::FIRST_YEAR {
+        return false;
+    }
+    if Calendar::LAST_YEAR < year {
+        return false;
+    }
+    if month < 1 {
+        return false;
+    }
+    if 12 < month {
+        return false;
+    }
+    if day < 1 {
+        return false;
+    }
+    day <= month_length(is_leap(year), month)
+}
+
+impl Calendar {
+    pub const FIRST_DAY: u64 = 0;
+
+    pub const LAST_DAY: u64 = 36_524;
+
+    pub const FIRST_YEAR: u64 = 1950;
+
+    pub const LAST_YEAR: u64 = 2049;
+
+    pub fn from_day(day: u64) -> DateAnswer
+        ensures { λ r. ⌜ r ≡ dateAnswer day ⌝ }
+    {
+        if Calendar::LAST_DAY < day {
+            return DateAnswer::Refused(8);
+        }
+        // Four years have 1461 days.
+        let year = Calendar::FIRST_YEAR + (4 * day + 2) / 1461;
+        DateAnswer::Date(date_in_year(year, day - days_before_year(year)))
+    }
+
+    pub fn from_date(year: u64, month: u64, day: u64) -> DayAnswer
+        ensures { λ r. ⌜ r ≡ dayAnswer year month day ⌝ }
+    {
+        if is_date(year, month, day) {
+            let before = days_before_year(year) + days_before_month(is_leap(year), month);
+            return DayAnswer::Day(before + (day - 1));
+        }
+        DayAnswer::Refused(8)
+    }
+
+    // Twice, to be whole: at 0h a Julian date ends in a half.
+    pub fn twice_julian_date(day: u64) -> JulianAnswer
+        ensures { λ r. ⌜ r ≡ julianAnswer day ⌝ }
+    {
+        if day <= Calendar::LAST_DAY {
+            return JulianAnswer::Twice(4_866_565 + 2 * day);
+        }
+        JulianAnswer::Refused(8)
+    }
+}

@@ -1,0 +1,4 @@
+pub mod Figures
+pub mod LongDivision
+pub mod Rounding
+pub mod Sum
