@@ -1,0 +1,78 @@
+// A float taken apart for its root, and the root put together.
+
+use crate::digits;
+ghost use mathlib.Core.Path.{_≡_};
+ghost use Prim.Native.Nat.{_*_, _^_, _≤_, _<_};
+ghost use Rattle.root.specs.Root.{nearestRoot, rootOf};
+ghost use Rattle.root.specs.Parts.{Split, Opened};
+
+pub struct Parts {
+    pub m: u64,
+    pub half: u64,
+}
+
+// digits·2^exponent with an even exponent.
+fn split(digits: u64, exponent: u64) -> Parts
+    requires { ⌜ (2 ^ 52 ≤ digits) × (digits < 2 ^ 53) × (exponent ≤ 3067) ⌝ }
+    ensures { λ r. ⌜ Split digits exponent (r .m) (r .half) ⌝ }
+{
+    let half = exponent >> 1;
+    if half + half < exponent {
+        return Parts {
+            m: digits + digits,
+            half: half,
+        };
+    }
+    Parts {
+        m: digits,
+        half: half,
+    }
+}
+
+// A subnormal's digits shifted up to 53 of them.
+fn subnormal(bits: u64) -> Parts
+    requires { ⌜ (0 < bits) × (bits < 2 ^ 52) ⌝ }
+    ensures { λ r. ⌜ Split bits 1022 (r .m) (r .half) ⌝ }
+{
+    let up = u64::leading_zeros(bits) as u64 - 11;
+    split(bits << up, 1022 - up)
+}
+
+// x as its digits and half its exponent; of no use where x is not finite and above zero.
+pub fn opened(x: f64) -> Parts
+    ensures { λ r. ⌜ Opened x (r .m) (r .half) ⌝ }
+{
+    if 0.0 < x {
+        let bits = f64::to_bits(x);
+        let field = bits >> 52;
+        if field == 0 {
+            return subnormal(bits);
+        }
+        if field < 2047 {
+            return split(bits - (field << 52) + digits::LEADING, field + 1021);
+        }
+    }
+    Parts {
+        m: digits::LEADING,
+        half: 0,
+    }
+}
+
+// The root of x, of which q is the digits' root. A zero and a NaN are their own roots.
+pub fn closed(x: f64, p: Parts, q: u64) -> f64
+    requires { ⌜ Opened x (p .m) (p .half) × (q ≡ nearestRoot (p .m * 2 ^ 52)) ⌝ }
+    ensures { λ r. ⌜ r ≡ rootOf x ⌝ }
+{
+    let top = f64::from_bits(0x7ff0_0000_0000_0000);
+    if x < 0.0 {
+        // infinity less infinity is a NaN
+        return top - top;
+    }
+    if 0.0 < x {
+        if x < top {
+            return f64::from_bits((p.half << 52) + q);
+        }
+        return top;
+    }
+    x
+}

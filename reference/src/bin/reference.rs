@@ -1,0 +1,42 @@
+//! The reference as a program: `reference ask [BOOK]` and `reference strip`.
+
+use std::io::{self, BufWriter, Read, Write};
+use std::process::ExitCode;
+
+use reference::{ask, strip};
+
+fn standard_input() -> io::Result<Vec<u8>> {
+    let mut input = Vec::new();
+    io::stdin().lock().read_to_end(&mut input)?;
+    Ok(input)
+}
+
+fn answer(words: &[String]) -> io::Result<bool> {
+    let mut out = BufWriter::new(io::stdout().lock());
+    match words.iter().map(String::as_str).collect::<Vec<_>>()[..] {
+        ["ask"] => out.write_all(&ask::answers(&[], &standard_input()?))?,
+        ["ask", file] => {
+            let book = std::fs::read(file)?;
+            out.write_all(&ask::answers(&book, &standard_input()?))?;
+        }
+        ["strip"] => strip::strip_into(&standard_input()?, &mut out)?,
+        _ => return Ok(false),
+    }
+    out.flush()?;
+    Ok(true)
+}
+
+fn main() -> ExitCode {
+    let words: Vec<String> = std::env::args().skip(1).collect();
+    match answer(&words) {
+        Ok(true) => ExitCode::SUCCESS,
+        Ok(false) => {
+            eprintln!("reference ask [BOOK] | reference strip");
+            ExitCode::from(2)
+        }
+        Err(error) => {
+            eprintln!("reference: {error}");
+            ExitCode::from(2)
+        }
+    }
+}

@@ -1,0 +1,15 @@
+//! Document 01 written a second time, in plain Rust, from the document alone.
+//! Every call is total: a refusal is the document's number in `Err`.
+
+pub mod ask;
+pub mod book;
+pub mod calendar;
+pub mod conic;
+pub mod fixed;
+pub mod hour;
+pub mod motion;
+pub mod root;
+pub mod sine;
+pub mod strip;
+pub mod trial;
+pub mod vector;

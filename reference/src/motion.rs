@@ -1,0 +1,202 @@
+//! Acceleration, the step and the run.
+
+use crate::book;
+use crate::hour::{DUT_MOST, END};
+use crate::root::root;
+use crate::vector::{add, along, finite, n, sub, Vector};
+
+/// Six gravitational coefficients by body number from 1, and DUT.
+#[derive(Clone, Copy, Debug)]
+pub struct Setting {
+    pub coefficients: [f64; 6],
+    pub dut: u32,
+}
+
+/// A moment with position and velocity.
+#[derive(Clone, Copy, Debug)]
+pub struct State {
+    pub moment: u64,
+    pub position: Vector,
+    pub velocity: Vector,
+}
+
+#[derive(Clone, Copy, Debug, PartialEq, Eq)]
+pub enum Outcome {
+    Arrived,
+    Going,
+    Refused(u64),
+}
+
+/// What a run answers.
+#[derive(Clone, Copy, Debug)]
+pub struct Ran {
+    pub outcome: Outcome,
+    pub steps: u64,
+    pub state: State,
+    pub guesses: [u64; 5],
+}
+
+/// Coefficients and DUT; else 4.
+pub fn setting_allowed(setting: &Setting) -> Result<(), u64> {
+    let m = setting.coefficients;
+    let allowed = m.iter().all(|c| c.is_finite() && *c >= 0.0) && m[0] > 0.0;
+    if allowed && setting.dut <= DUT_MOST {
+        Ok(())
+    } else {
+        Err(4)
+    }
+}
+
+/// The body numbers from 2 on whose coefficient is above 0.
+pub fn used(setting: &Setting) -> impl Iterator<Item = (usize, f64)> + '_ {
+    (2..=6).map(|body| (body, setting.coefficients[body - 1])).filter(|&(_, m)| m > 0.0)
+}
+
+/// g(v, m); 7 when n is not finite, or r3 is zero or not finite.
+pub fn pull(v: Vector, m: f64) -> Result<Vector, u64> {
+    let n = n(v);
+    if !n.is_finite() {
+        return Err(7);
+    }
+    let r3 = n * root(n).map_err(|_| 7u64)?;
+    if r3 == 0.0 || !r3.is_finite() {
+        return Err(7);
+    }
+    Ok([(m * v[0]) / r3, (m * v[1]) / r3, (m * v[2]) / r3])
+}
+
+/// Positions of the used bodies, looked up in rising number: 6, then 7, body by body.
+pub fn lookups(book: &[u8], setting: &Setting, t: u64) -> Result<[Vector; 7], u64> {
+    let mut places = [[0.0; 3]; 7];
+    for (body, _) in used(setting) {
+        let i = book::find(book, body as u64, t).ok_or(6u64)?;
+        places[body] = book::position(book, i, t)?;
+    }
+    Ok(places)
+}
+
+/// The acceleration's own rule, for a book that passes and a setting that is allowed.
+pub fn slope(book: &[u8], setting: &Setting, t: u64, p: Vector) -> Result<Vector, u64> {
+    let places = lookups(book, setting, t)?;
+    let g = pull(p, setting.coefficients[0])?;
+    let mut a = [-g[0], -g[1], -g[2]];
+    for (body, m) in used(setting) {
+        let r = places[body];
+        a = sub(a, add(pull(sub(p, r), m)?, pull(r, m)?));
+    }
+    if finite(a) {
+        Ok(a)
+    } else {
+        Err(7)
+    }
+}
+
+/// The acceleration call: 1, 4, 3, 7 (position), then its own rule.
+pub fn acceleration(book: &[u8], setting: &Setting, t: u64, p: Vector) -> Result<Vector, u64> {
+    book::check(book)?;
+    setting_allowed(setting)?;
+    if t >= END {
+        return Err(3);
+    }
+    if !finite(p) {
+        return Err(7);
+    }
+    slope(book, setting, t, p)
+}
+
+/// base + (H/6)·(((k1 + 2·k2) + 2·k3) + k4)
+pub fn blend(base: Vector, sixth: f64, k: [Vector; 4]) -> Vector {
+    let mut new = base;
+    for c in 0..3 {
+        new[c] = base[c] + sixth * (((k[0][c] + 2.0 * k[1][c]) + 2.0 * k[2][c]) + k[3][c]);
+    }
+    new
+}
+
+/// One step of h milliseconds.
+pub fn step(book: &[u8], setting: &Setting, s: &State, h: u32) -> Result<State, u64> {
+    let whole = f64::from(h) / 1000.0;
+    let half = whole * 0.5;
+    let (t, p, v) = (s.moment, s.position, s.velocity);
+    let middle = t.saturating_add(u64::from(h) / 2);
+    let last = t.saturating_add(u64::from(h));
+    let a1 = slope(book, setting, t, p)?;
+    let (p2, v2) = (along(p, half, v), along(v, half, a1));
+    let a2 = slope(book, setting, middle, p2)?;
+    let (p3, v3) = (along(p, half, v2), along(v, half, a2));
+    let a3 = slope(book, setting, middle, p3)?;
+    let (p4, v4) = (along(p, whole, v3), along(v, whole, a3));
+    let a4 = slope(book, setting, last, p4)?;
+    let position = blend(p, whole / 6.0, [v, v2, v3, v4]);
+    let velocity = blend(v, whole / 6.0, [a1, a2, a3, a4]);
+    if !finite(position) || !finite(velocity) {
+        return Err(7);
+    }
+    Ok(State { moment: last, position, velocity })
+}
+
+/// What is refused before any step: 1, 4, 3 (state, then target), 7, 2, 5.
+pub fn order(book: &[u8], setting: &Setting, s: &State, h: u32, target: u64) -> Result<(), u64> {
+    book::check(book)?;
+    setting_allowed(setting)?;
+    if s.moment >= END || target >= END {
+        return Err(3);
+    }
+    if !finite(s.position) || !finite(s.velocity) {
+        return Err(7);
+    }
+    if !(2..=86_400_000).contains(&h) || h % 2 != 0 {
+        return Err(2);
+    }
+    if target < s.moment || (target - s.moment) % u64::from(h) != 0 {
+        return Err(5);
+    }
+    Ok(())
+}
+
+/// Steps until the target, the end of the budget or a refusal.
+pub fn walk(
+    book: &[u8], setting: &Setting, from: &State, h: u32, target: u64, budget: u32,
+) -> (Outcome, u64, State) {
+    let (mut state, mut steps) = (*from, 0u64);
+    loop {
+        if state.moment == target {
+            return (Outcome::Arrived, steps, state);
+        }
+        if steps == u64::from(budget) {
+            return (Outcome::Going, steps, state);
+        }
+        match step(book, setting, &state, h) {
+            Ok(next) => state = next,
+            Err(number) => return (Outcome::Refused(number), steps, state),
+        }
+        steps += 1;
+    }
+}
+
+/// The run call. The guesses are not used for looking up, only given back.
+pub fn run(
+    book: &[u8], setting: &Setting, state: &State, h: u32, target: u64, budget: u32,
+    guesses: [u64; 5],
+) -> Ran {
+    if let Err(number) = order(book, setting, state, h, target) {
+        return Ran { outcome: Outcome::Refused(number), steps: 0, state: *state, guesses };
+    }
+    let (outcome, steps, state) = walk(book, setting, state, h, target, budget);
+    let mut guesses = guesses;
+    if steps > 0 {
+        for (body, _) in used(setting) {
+            if let Some(i) = book::find(book, body as u64, state.moment) {
+                guesses[body - 2] = i as u64;
+            }
+        }
+    }
+    Ran { outcome, steps, state, guesses }
+}
+
+/// A single step: a run with budget 1 and the target one step on.
+pub fn single(book: &[u8], setting: &Setting, state: &State, h: u32, guesses: [u64; 5]) -> Ran {
+    // At or past the end of time the target is refused with 3, wrapped or not.
+    let target = state.moment.saturating_add(u64::from(h));
+    run(book, setting, state, h, target, 1, guesses)
+}

@@ -1,0 +1,79 @@
+//! The program strip, as a function from its input to its output.
+
+use std::io::{self, Write};
+
+use crate::book::{bytes_at, float_at, LIMIT};
+use crate::motion::{self, Setting, State};
+
+/// Bytes of an order.
+pub const ORDER: usize = 120;
+
+#[derive(Clone, Copy, Debug)]
+pub struct Order {
+    pub setting: Setting,
+    pub state: State,
+    pub h: u32,
+    pub target: u64,
+}
+
+/// The order at the front of the input, if it is long enough.
+pub fn read_order(input: &[u8]) -> Option<Order> {
+    let mut f = [0.0; 6];
+    for (i, value) in f.iter_mut().enumerate() {
+        *value = float_at(input, 8 * i)?;
+    }
+    let three = |at| Some([float_at(input, at)?, float_at(input, at + 8)?, float_at(input, at + 16)?]);
+    let state = State {
+        moment: bytes_at(input, 48).map(u64::from_le_bytes)?,
+        position: three(56)?,
+        velocity: three(80)?,
+    };
+    let h = bytes_at(input, 104).map(u32::from_le_bytes)?;
+    let dut = bytes_at(input, 108).map(u32::from_le_bytes)?;
+    let target = bytes_at(input, 112).map(u64::from_le_bytes)?;
+    Some(Order { setting: Setting { coefficients: f, dut }, state, h, target })
+}
+
+/// One line for a state.
+pub fn state_line(s: &State) -> String {
+    let mut line = s.moment.to_string();
+    for c in s.position.iter().chain(&s.velocity) {
+        line.push_str(&format!(" {:016x}", c.to_bits()));
+    }
+    line.push('\n');
+    line
+}
+
+/// Header, states and outcome, written as they come.
+pub fn strip_into(input: &[u8], out: &mut impl Write) -> io::Result<()> {
+    let Some(order) = read_order(input) else {
+        return out.write_all(b"REFUSED 1\n");
+    };
+    let book = input.get(ORDER..).unwrap_or(&[]);
+    let Order { setting, mut state, h, target } = order;
+    if book.len() > LIMIT {
+        return out.write_all(b"REFUSED 1\n");
+    }
+    if let Err(number) = motion::order(book, &setting, &state, h, target) {
+        return writeln!(out, "REFUSED {number}");
+    }
+    writeln!(out, "STRIP {h}")?;
+    out.write_all(state_line(&state).as_bytes())?;
+    let mut steps = 0u64;
+    while state.moment != target {
+        match motion::step(book, &setting, &state, h) {
+            Ok(next) => state = next,
+            Err(number) => return writeln!(out, "REFUSED {number} {steps}"),
+        }
+        steps += 1;
+        out.write_all(state_line(&state).as_bytes())?;
+    }
+    writeln!(out, "ARRIVED {steps}")
+}
+
+pub fn strip(input: &[u8]) -> Vec<u8> {
+    let mut out = Vec::new();
+    // Writing into memory does not fail.
+    let _ = strip_into(input, &mut out);
+    out
+}

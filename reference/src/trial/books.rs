@@ -1,0 +1,172 @@
+//! Books that pass, built from pieces.
+
+use super::chance::Chance;
+use crate::book::{Entry, ENTRY, HEAD};
+use crate::hour::END;
+
+/// One entry with its coefficients: n for X, n for Y, n for Z.
+#[derive(Clone, Debug)]
+pub struct Piece {
+    pub body: u16,
+    pub start: u64,
+    pub span: u64,
+    pub coefficients: Vec<f64>,
+}
+
+impl Piece {
+    pub fn n(&self) -> u16 {
+        (self.coefficients.len() / 3) as u16
+    }
+}
+
+/// The bytes of a book with these pieces, whether it passes or not.
+pub fn build(pieces: &[Piece]) -> Vec<u8> {
+    let blocks: usize = pieces.iter().map(|p| 8 * p.coefficients.len()).sum();
+    let mut place = HEAD + ENTRY * pieces.len();
+    let mut book = Vec::new();
+    book.extend(((place + blocks) as u32).to_le_bytes());
+    book.extend((pieces.len() as u32).to_le_bytes());
+    for p in pieces {
+        book.extend(p.body.to_le_bytes());
+        book.extend(p.n().to_le_bytes());
+        book.extend((place as u32).to_le_bytes());
+        book.extend(p.start.to_le_bytes());
+        book.extend(p.span.to_le_bytes());
+        place += 8 * p.coefficients.len();
+    }
+    for x in pieces.iter().flat_map(|p| &p.coefficients) {
+        book.extend(x.to_le_bytes());
+    }
+    book
+}
+
+/// All entries of a book that passes.
+pub fn entries(book: &[u8]) -> Vec<Entry> {
+    let count = crate::book::count(book) as usize;
+    (0..count).map_while(|i| crate::book::entry(book, i)).collect()
+}
+
+/// Coefficients as a body has them, and one in so many times others.
+pub fn coefficients(c: &mut Chance, n: u16, others: u64) -> Vec<f64> {
+    let style = if c.one_in(others) { c.below(5) } else { 5 };
+    let size = c.pick(&[2e5, 4e5, 1e8, 5e8]);
+    let mut list = Vec::new();
+    for _ in 0..3 {
+        for k in 0..n {
+            list.push(match style {
+                0 => 0.0,
+                1 => c.pick(&[1e308, -1e308, 1.7e308, 1.0]),
+                2 => c.sized(-400, 400),
+                3 => c.pick(&[0.0, -0.0, 1.0, -2.0, 4.0]),
+                4 => f64::from_bits(c.any_length(52)),
+                _ => c.within(size / 8f64.powi(i32::from(k))),
+            });
+        }
+    }
+    list
+}
+
+/// Cuts of a window into at most `most` spans, some with a gap behind them.
+pub fn spans(c: &mut Chance, first: u64, width: u64, most: u64) -> Vec<(u64, u64)> {
+    let mut cuts = vec![first, first + width];
+    for _ in 1..c.between(1, most) {
+        cuts.push(first + c.below(width));
+    }
+    cuts.sort_unstable();
+    cuts.dedup();
+    let mut list = Vec::new();
+    for pair in cuts.windows(2) {
+        let length = pair[1] - pair[0];
+        let gap = match c.below(3) {
+            0 => c.below(length),
+            1 => c.below(length.min(20)),
+            _ => 0,
+        };
+        list.push((pair[0], length - gap));
+    }
+    list
+}
+
+/// A window of time: at the front, at the end or anywhere.
+pub fn window(c: &mut Chance) -> (u64, u64) {
+    let width = c.any_length(36).max(12);
+    let first = match c.below(5) {
+        0 => 0,
+        1 => END - width,
+        _ => c.below(END - width),
+    };
+    (first, width)
+}
+
+/// Pieces of a random passing book.
+pub fn pieces(c: &mut Chance) -> Vec<Piece> {
+    let (first, width) = window(c);
+    let bodies = c.between(1, 31);
+    let others = c.pick(&[4, 20, 1000, 1000]);
+    let mut list = Vec::new();
+    for body in 2..=6u16 {
+        if bodies & (1 << (body - 2)) == 0 {
+            continue;
+        }
+        for (start, span) in spans(c, first, width, 6) {
+            let n = c.between(2, 16) as u16;
+            list.push(Piece { body, start, span, coefficients: coefficients(c, n, others) });
+        }
+    }
+    list
+}
+
+/// Two bodies at least, of which the first has two entries that touch.
+pub fn sturdy(c: &mut Chance) -> Vec<Piece> {
+    let start = c.between(1000, END / 2);
+    let mut list = Vec::new();
+    for (body, at) in [(2, 0), (2, 1), (2, 2), (3, 0), (5, 0), (5, 2)] {
+        let n = c.between(3, 7) as usize;
+        let coefficients = (0..3 * n).map(|_| c.within(1e6)).collect();
+        list.push(Piece { body, start: start + at * 100_000, span: 100_000, coefficients });
+    }
+    list
+}
+
+/// A book of as many units of 24 bytes behind its head as wished, by one body.
+pub fn long(c: &mut Chance, units: usize) -> Vec<Piece> {
+    let (mut left, mut list) = (units, Vec::new());
+    while left >= 3 {
+        // An entry takes n + 1 units; no rest of 1 or 2 may stay behind.
+        let n = if left <= 17 { left - 1 } else if left - 17 < 3 { 13 } else { 16 };
+        let coefficients = (0..3 * n).map(|_| c.within(4e5)).collect();
+        list.push(Piece { body: 2, start: 1000 * list.len() as u64, span: 1000, coefficients });
+        left -= n + 1;
+    }
+    list
+}
+
+/// Coefficients of zero, each with either sign.
+pub fn zeros(c: &mut Chance) -> Vec<Piece> {
+    let signs = |c: &mut Chance, n: u64| (0..3 * n).map(|_| c.pick(&[0.0, -0.0])).collect();
+    let piece = |c: &mut Chance, i: u64| {
+        let coefficients = signs(c, 2 + i % 3);
+        Piece { body: 2 + (i / 6) as u16, start: 1000 * (i % 6), span: 1000, coefficients }
+    };
+    (0..30).map(|i| piece(c, i)).collect()
+}
+
+/// Books that pass and are of a kind of their own.
+pub fn special(c: &mut Chance) -> Vec<(&'static str, Vec<u8>)> {
+    let whole = Piece { body: 6, start: 0, span: END, coefficients: coefficients(c, 16, 1000) };
+    let last = Piece { body: 2, start: END - 1, span: 1, coefficients: vec![4.0; 6] };
+    let centre = Piece { body: 2, start: 0, span: 10_000_000, coefficients: vec![0.0; 6] };
+    let huge = Piece { body: 4, start: 0, span: 10_000_000, coefficients: vec![1.7e308; 9] };
+    let later = Piece { body: 3, start: 5_000_000, span: 5_000_000, coefficients: vec![1e8; 6] };
+    let near = Piece { body: 5, start: 0, span: 5_000_000, coefficients: vec![4e7; 6] };
+    let gone = Piece { start: 5_000_000, coefficients: vec![1.7e308; 6], ..near.clone() };
+    vec![
+        ("no entries", build(&[])),
+        ("Mars, then beyond the floats", build(&[near, gone])),
+        ("one entry over all time", build(&[whole])),
+        ("one entry, the last millisecond", build(&[last])),
+        ("zeros of either sign", build(&zeros(c))),
+        ("the longest that passes", build(&long(c, 2559))),
+        ("Moon on the Earth's centre, Sun later, Venus beyond the floats", build(&[centre, later, huge])),
+    ]
+}

@@ -1,0 +1,103 @@
+//! Lines for body and accel.
+
+use super::chance::Chance;
+use super::cover;
+use super::leaves::bad_moment;
+use super::plan::{Case, World};
+use super::runs::MakeRuns;
+use super::sizes;
+use super::states::{hexes, wild};
+use super::trip::{break_setting, trip, Trip, NOMINAL};
+use crate::hour::END;
+
+pub fn body_line(number: u64, moment: u64) -> Vec<String> {
+    vec![format!("body {number} {moment}")]
+}
+
+pub fn body_covered(c: &mut Chance, w: &World) -> Vec<String> {
+    let e = cover::some_entry(c, w);
+    body_line(u64::from(e.body), e.start + c.below(e.span.min(END)))
+}
+
+/// Within two milliseconds of the start, the middle or the end of an entry.
+pub fn body_edge(c: &mut Chance, w: &World) -> Vec<String> {
+    let e = cover::some_entry(c, w);
+    let place = c.pick(&[e.start, e.start + e.span / 2, e.start + e.span, e.start + e.span]);
+    body_line(u64::from(e.body), (place + c.below(4)).saturating_sub(2))
+}
+
+/// A number that is no body's, or wraps to one.
+pub fn body_number(c: &mut Chance, w: &World) -> Vec<String> {
+    let e = cover::some_entry(c, w);
+    let near = u64::from(e.body);
+    let any = c.any_length(64);
+    let number = c.pick(&[0, 1, 7, near + 256, near + 65_536, near + (1 << 32), u64::MAX, any]);
+    let moment = if c.one_in(4) { bad_moment(c) } else { e.start };
+    body_line(number, moment)
+}
+
+pub const BODY: &[Case] = &[
+    ("covered", body_covered),
+    ("covered", body_covered),
+    ("edge", body_edge),
+    ("edge", body_edge),
+    ("any moment", |c, _| { let b = c.between(0, 8); body_line(b, c.below(END)) }),
+    ("number", body_number),
+    ("moment out of range", |c, _| { let b = c.between(0, 8); let m = bad_moment(c); body_line(b, m) }),
+    ("end of time", |c, _| { let b = c.between(1, 6); body_line(b, END - 2 + c.below(3)) }),
+];
+
+pub fn accel_line(t: &Trip) -> Vec<String> {
+    let m = hexes(&t.setting.coefficients);
+    vec![format!("accel {m} {} {} {}", t.setting.dut, t.state.moment, hexes(&t.state.position))]
+}
+
+/// The inputs of a run call of some sort, as far as an acceleration takes them.
+pub fn accel_as(c: &mut Chance, w: &World, sort: MakeRuns) -> Vec<String> {
+    accel_line(&sort(c, w).remove(0).1)
+}
+
+/// n overflows, r3 vanishes, or a pull overflows.
+pub fn accel_sizes(c: &mut Chance, w: &World) -> Vec<String> {
+    let mut t = trip(c, w);
+    let (m, size) = c.pick(&[(1.0, 1e155), (1.0, 1e-110), (1.0, 1e-162), (1e300, 1e-50), (1e300, 1e10), (1.0, 1e103)]);
+    let k = c.sized(-3, 3);
+    t.state.position = [size * k, c.pick(&[0.0, size]), c.pick(&[0.0, -0.0, -size])];
+    t.setting.coefficients[0] = m;
+    accel_line(&t)
+}
+
+/// Some of 4, 3 and 7 (position), or all, with bodies that have cover or have none.
+pub fn accel_broken(c: &mut Chance, w: &World) -> Vec<String> {
+    let mut t = trip(c, w);
+    if c.one_in(2) {
+        t.setting.coefficients = NOMINAL;
+        t.state.moment = c.below(END);
+    }
+    let which = c.between(1, 7);
+    if which & 1 != 0 {
+        break_setting(c, &mut t);
+    }
+    if which & 2 != 0 {
+        t.state.moment = bad_moment(c);
+    }
+    if which & 4 != 0 {
+        let i = c.below(3) as usize;
+        t.state.position[i] = c.not_finite();
+    }
+    accel_line(&t)
+}
+
+pub const ACCEL: &[Case] = &[
+    ("plain", |c, w| accel_line(&trip(c, w))),
+    ("plain", |c, w| accel_line(&trip(c, w))),
+    ("plain", |c, w| accel_line(&trip(c, w))),
+    ("edge", |c, w| accel_as(c, w, cover::edge)),
+    ("no cover", |c, w| accel_as(c, w, cover::no_cover)),
+    ("on a body", |c, w| accel_as(c, w, sizes::on_body)),
+    ("any floats", |c, w| accel_as(c, w, sizes::any_floats)),
+    ("sizes", accel_sizes),
+    ("broken", accel_broken),
+    ("broken", accel_broken),
+    ("wild position", |c, w| { let mut t = trip(c, w); t.set_state(wild(c)); accel_line(&t) }),
+];

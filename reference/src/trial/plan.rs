@@ -1,0 +1,213 @@
+//! Which calls are made, and with which books.
+
+use super::books::{build, entries, pieces, special, sturdy};
+use super::chance::Chance;
+use super::strips::{journey, strip, Strip};
+use super::{damage, leaves, lookups, runs, states, unreadable};
+use crate::book::Entry;
+
+/// A sort of call: lines for a world.
+pub type Case = (&'static str, fn(&mut Chance, &World) -> Vec<String>);
+
+/// All kinds of call, with their share of 100.
+pub const KINDS: [(&str, usize); 11] = [
+    ("root", 12), ("sincos", 7), ("hour", 8), ("date", 4), ("day", 5), ("fixed", 8),
+    ("conic", 13), ("unreadable", 5), ("body", 8), ("accel", 9), ("run", 21),
+];
+
+/// A book, and the entries it has or had before it was damaged.
+#[derive(Clone, Debug)]
+pub struct World {
+    pub name: String,
+    pub book: Option<Vec<u8>>,
+    pub entries: Vec<Entry>,
+    pub weight: usize,
+}
+
+impl World {
+    pub fn none() -> World {
+        World { name: "no book".to_string(), book: None, entries: Vec::new(), weight: 2 }
+    }
+
+    pub fn new(name: &str, book: Vec<u8>, weight: usize) -> World {
+        let entries = entries(&book);
+        World { name: name.to_string(), book: Some(book), entries, weight }
+    }
+
+    pub fn bytes(&self) -> &[u8] {
+        self.book.as_deref().unwrap_or(&[])
+    }
+}
+
+#[derive(Clone, Debug)]
+pub struct Call {
+    pub kind: &'static str,
+    pub case: String,
+    pub line: Vec<u8>,
+}
+
+/// The calls of one start of the program.
+#[derive(Clone, Debug)]
+pub struct Group {
+    pub world: World,
+    pub calls: Vec<Call>,
+    /// Whether the last line has its line feed.
+    pub last_feed: bool,
+}
+
+pub fn cases(kind: &str) -> &'static [Case] {
+    match kind {
+        "root" => leaves::ROOT,
+        "sincos" => leaves::SINCOS,
+        "hour" => leaves::HOUR,
+        "date" => leaves::DATE,
+        "day" => leaves::DAY_OF,
+        "fixed" => states::FIXED,
+        "conic" => states::CONIC,
+        "body" => lookups::BODY,
+        _ => lookups::ACCEL,
+    }
+}
+
+/// Calls of one kind by its i-th case; at least one.
+pub fn made(c: &mut Chance, w: &World, kind: &'static str, i: usize) -> Vec<Call> {
+    if kind == "run" {
+        let (name, make) = runs::RUN[i % runs::RUN.len()];
+        let list = make(c, w).into_iter();
+        return list.map(|(note, t)| call(kind, &format!("{name} {note}"), t.line())).collect();
+    }
+    let list = cases(kind);
+    let (name, make) = list[i % list.len()];
+    make(c, w).into_iter().map(|line| call(kind, name, line)).collect()
+}
+
+pub fn call(kind: &'static str, case: &str, line: String) -> Call {
+    Call { kind, case: case.trim_end().to_string(), line: line.into_bytes() }
+}
+
+/// A spoiled line, from a call of one of the kinds asked for.
+pub fn spoiled(c: &mut Chance, kinds: &[&'static str], i: usize) -> Call {
+    let kind = c.pick(kinds);
+    let any = c.below(1000) as usize;
+    let good = made(c, &World::none(), kind, any).remove(0);
+    let (name, spoil) = unreadable::SPOILS[i % unreadable::SPOILS.len()];
+    Call { kind: "unreadable", case: name.to_string(), line: spoil(c, good.line) }
+}
+
+/// How many calls each kind gets: shares of the whole, the rest to the first.
+pub fn counts(calls: usize, kinds: &[&'static str]) -> Vec<(&'static str, usize)> {
+    let asked: Vec<_> = KINDS.iter().filter(|(k, _)| kinds.contains(k)).collect();
+    let whole: usize = asked.iter().map(|(_, share)| share).sum();
+    let mut list: Vec<_> = asked.iter().map(|(k, share)| (*k, calls * share / whole.max(1))).collect();
+    let given: usize = list.iter().map(|(_, n)| n).sum();
+    if let Some(first) = list.first_mut() {
+        first.1 += calls - given;
+    }
+    list
+}
+
+pub fn needs_book(kind: &str) -> bool {
+    matches!(kind, "body" | "accel" | "run")
+}
+
+/// Books: none, the real ones, special ones, random ones and damaged ones.
+pub fn worlds(c: &mut Chance, real: &[(String, Vec<u8>)]) -> Vec<World> {
+    let mut list = vec![World::none()];
+    list.extend(real.iter().map(|(name, book)| World::new(name, book.clone(), 60)));
+    list.extend(special(c).into_iter().map(|(name, book)| World::new(name, book, 10)));
+    for i in 0..20 {
+        let book = build(&pieces(c));
+        list.push(World::new(&format!("random {i}"), book, 12));
+    }
+    for (name, damage) in damage::all() {
+        let whole = sturdy(c);
+        let entries = entries(&build(&whole));
+        let book = Some(damage(c, whole));
+        list.push(World { name: format!("damaged: {name}"), book, entries, weight: 1 });
+    }
+    list
+}
+
+/// The j-th world's part of a number, by weight; the parts add up to it.
+pub fn part(n: usize, worlds: &[World], j: usize) -> usize {
+    let before: usize = worlds[..j].iter().map(|w| w.weight).sum();
+    let whole: usize = worlds.iter().map(|w| w.weight).sum();
+    n * (before + worlds[j].weight) / whole - n * before / whole
+}
+
+pub fn group(c: &mut Chance, world: World, mut calls: Vec<Call>) -> Group {
+    c.shuffle(&mut calls);
+    let last_feed = c.one_in(2) || calls.last().is_some_and(|l| l.line.is_empty());
+    Group { world, calls, last_feed }
+}
+
+/// Groups of calls that need no book, at most 4,000 lines each.
+pub fn plain_groups(c: &mut Chance, counts: &[(&'static str, usize)]) -> Vec<Group> {
+    let kinds: Vec<_> = counts.iter().map(|(k, _)| *k).filter(|k| *k != "unreadable").collect();
+    let mut calls = Vec::new();
+    for &(kind, n) in counts.iter().filter(|(k, _)| !needs_book(k)) {
+        for i in 0..n {
+            if kind == "unreadable" {
+                let from = if kinds.is_empty() { &["root"][..] } else { &kinds };
+                calls.push(spoiled(c, from, i));
+            } else {
+                calls.extend(made(c, &World::none(), kind, i));
+            }
+        }
+    }
+    c.shuffle(&mut calls);
+    calls.chunks(4000).map(|part| group(c, World::none(), part.to_vec())).collect()
+}
+
+/// One group for each book that gets calls.
+pub fn book_groups(c: &mut Chance, counts: &[(&'static str, usize)], worlds: &[World]) -> Vec<Group> {
+    let mut groups = Vec::new();
+    for (j, world) in worlds.iter().enumerate() {
+        let mut calls = Vec::new();
+        for &(kind, n) in counts.iter().filter(|(k, _)| needs_book(k)) {
+            let (wish, mut own) = (part(n, worlds, j), Vec::new());
+            let mut i = c.below(100) as usize;
+            while own.len() < wish {
+                own.extend(made(c, world, kind, i));
+                i += 1;
+            }
+            own.truncate(wish);
+            calls.extend(own);
+        }
+        if !calls.is_empty() {
+            groups.push(group(c, world.clone(), calls));
+        }
+    }
+    groups
+}
+
+/// All groups for so many calls of these kinds.
+pub fn groups(
+    c: &mut Chance, calls: usize, kinds: &[&'static str], real: &[(String, Vec<u8>)],
+) -> Vec<Group> {
+    let counts = counts(calls, kinds);
+    let mut list = plain_groups(c, &counts);
+    let worlds = worlds(c, real);
+    list.extend(book_groups(c, &counts, &worlds));
+    list
+}
+
+/// So many inputs for strip, over all sorts of books.
+pub fn strips(c: &mut Chance, n: usize, real: &[(String, Vec<u8>)]) -> Vec<Strip> {
+    let worlds = worlds(c, real);
+    let mut list = Vec::new();
+    for (j, world) in worlds.iter().enumerate() {
+        let first = c.below(100) as usize;
+        for i in 0..part(n, &worlds, j) {
+            list.push(strip(c, world, first + i));
+        }
+    }
+    // A few long journeys through the real books.
+    for (i, (name, book)) in real.iter().enumerate() {
+        if n >= 100 && i < list.len() {
+            list[i] = journey(c, &World::new(name, book.clone(), 1));
+        }
+    }
+    c.shuffle(&mut list);
+    list
+}

@@ -1,0 +1,213 @@
+//! One run call with all its inputs, as a line or as an order.
+
+use super::chance::Chance;
+use super::leaves::{bad_dut, bad_moment};
+use super::plan::World;
+use super::states::{flight, hexes};
+use crate::book::covers;
+use crate::hour::{DUT_MOST, END};
+use crate::motion::{order, run, Ran, Setting, State};
+
+/// Document 003's coefficients.
+pub const NOMINAL: [f64; 6] = [398603.20, 4900.7589, 132715440000.0, 324769.50, 42977.799, 126710600.0];
+/// Names of the run's refusals before any step, in their order.
+pub const BREAKS: [&str; 7] = ["1", "4", "3 state", "3 target", "7", "2", "5"];
+
+#[derive(Clone, Debug)]
+pub struct Trip {
+    pub setting: Setting,
+    pub state: State,
+    pub h: u32,
+    pub target: u64,
+    pub budget: u32,
+    pub guesses: [u64; 5],
+}
+
+impl Trip {
+    pub fn line(&self) -> String {
+        let s = &self.state;
+        let guesses = self.guesses.map(|g| g.to_string()).join(" ");
+        format!(
+            "run {} {} {} {} {} {} {} {} {guesses}",
+            hexes(&self.setting.coefficients), self.setting.dut, s.moment,
+            hexes(&s.position), hexes(&s.velocity), self.h, self.target, self.budget,
+        )
+    }
+
+    /// The 120 bytes of an order.
+    pub fn order(&self) -> Vec<u8> {
+        let mut bytes = Vec::new();
+        let floats = |list: &[f64]| list.iter().flat_map(|x| x.to_le_bytes()).collect::<Vec<_>>();
+        bytes.extend(floats(&self.setting.coefficients));
+        bytes.extend(self.state.moment.to_le_bytes());
+        bytes.extend(floats(&self.state.position));
+        bytes.extend(floats(&self.state.velocity));
+        bytes.extend(self.h.to_le_bytes());
+        bytes.extend(self.setting.dut.to_le_bytes());
+        bytes.extend(self.target.to_le_bytes());
+        bytes
+    }
+
+    pub fn run(&self, book: &[u8]) -> Ran {
+        run(book, &self.setting, &self.state, self.h, self.target, self.budget, self.guesses)
+    }
+
+    /// At most so many steps, whatever is asked: the target is moved nearer.
+    pub fn shortened(mut self, book: &[u8], most: u64) -> Trip {
+        if order(book, &self.setting, &self.state, self.h, self.target).is_ok() {
+            let h = u64::from(self.h);
+            let steps = (self.target - self.state.moment) / h;
+            self.target = self.state.moment + h * steps.min(most);
+        }
+        self
+    }
+
+    pub fn set_state(&mut self, s: [f64; 6]) {
+        self.state.position = [s[0], s[1], s[2]];
+        self.state.velocity = [s[3], s[4], s[5]];
+    }
+
+    pub fn aim(&mut self, steps: u64) {
+        let h = u64::from(self.h).max(1);
+        let most = (END - 1).saturating_sub(self.state.moment) / h;
+        self.target = self.state.moment.saturating_add(h * steps.min(most));
+    }
+}
+
+/// A moment that some entry covers, or any when there is none.
+pub fn covered_moment(c: &mut Chance, w: &World) -> u64 {
+    if w.entries.is_empty() {
+        return c.below(END);
+    }
+    let e = c.pick(&w.entries);
+    (e.start + c.below(e.span.min(END))).min(END - 1)
+}
+
+/// Coefficients for the bodies that cover t, each left out now and then.
+pub fn setting_at(c: &mut Chance, w: &World, t: u64) -> Setting {
+    let mut coefficients = NOMINAL;
+    for body in 2..=6u16 {
+        let covered = w.entries.iter().any(|e| e.body == body && covers(*e, t));
+        if !covered || c.one_in(5) {
+            coefficients[usize::from(body) - 1] = c.pick(&[0.0, 0.0, -0.0]);
+        }
+    }
+    let dut = c.pick(&[0, 35_000, DUT_MOST, c.clone().below(100_001) as u32]);
+    Setting { coefficients, dut }
+}
+
+/// An allowed h, any size, or one that fits the cover that is left.
+pub fn pick_h(c: &mut Chance, w: &World, t: u64) -> u32 {
+    let left = w.entries.iter().filter(|e| covers(**e, t)).map(|e| e.start + e.span - t).min();
+    let h = match c.below(6) {
+        0 => c.pick(&[2, 4, 1000, 60_000, 3_600_000, 86_400_000]),
+        1 => c.any_length(27),
+        2 => 60_000,
+        _ => left.unwrap_or(60_000) / c.between(1, 24),
+    };
+    (h / 2 * 2).clamp(2, 86_400_000) as u32
+}
+
+/// One guess at a body's entry, in a style of wrongness.
+pub fn guess(c: &mut Chance, w: &World, body: u16, t: u64, style: u64) -> u64 {
+    let right = w.entries.iter().position(|e| e.body == body && covers(*e, t));
+    let right = right.map_or(c.below(6), |i| i as u64);
+    let count = w.entries.len() as u64;
+    match style {
+        0 => right,
+        1 => right.wrapping_sub(1),
+        2 => right + 1,
+        3 => c.below(count.max(1)),
+        4 => count + c.below(3),
+        5 => c.pick(&[u64::MAX, u64::MAX - 1, 1 << 63, 1 << 32, 768_614_336_404_564_651]),
+        6 => right + (1 << 32),
+        7 => 0,
+        _ => c.any_length(64),
+    }
+}
+
+pub fn guesses(c: &mut Chance, w: &World, t: u64, style: u64) -> [u64; 5] {
+    [2, 3, 4, 5, 6].map(|body| guess(c, w, body, t, style))
+}
+
+pub fn pick_budget(c: &mut Chance, steps: u64) -> u32 {
+    match c.below(7) {
+        0 => steps as u32,
+        1 => steps.saturating_sub(1) as u32,
+        2 => u32::MAX,
+        3 => c.below(steps + 2) as u32,
+        4 => 0,
+        _ => 1000,
+    }
+}
+
+/// A trip that nothing before the first step refuses.
+pub fn trip_at(c: &mut Chance, w: &World, t: u64) -> Trip {
+    let h = pick_h(c, w, t);
+    let steps = c.pick(&[0, 1, 1, 2, 3, 5, 8, 13, 24]);
+    let style = c.below(9);
+    let state = State { moment: t, position: [0.0; 3], velocity: [0.0; 3] };
+    let setting = setting_at(c, w, t);
+    let guesses = guesses(c, w, t, style);
+    let mut trip = Trip { setting, state, h, target: t, budget: 0, guesses };
+    trip.set_state(flight(c));
+    trip.aim(steps);
+    trip.budget = pick_budget(c, steps);
+    trip
+}
+
+pub fn trip(c: &mut Chance, w: &World) -> Trip {
+    let t = covered_moment(c, w);
+    trip_at(c, w, t)
+}
+
+pub fn break_setting(c: &mut Chance, t: &mut Trip) {
+    let m = &mut t.setting.coefficients;
+    match c.below(5) {
+        0 => m[0] = c.pick(&[0.0, -0.0, -1.0]),
+        1 => m[c.below(6) as usize] = c.not_finite(),
+        2 => m[c.below(6) as usize] = -c.sized(-1022, 1023).abs(),
+        3 => m[c.below(6) as usize] = f64::from_bits(1 << 63 | 1),
+        _ => t.setting.dut = bad_dut(c),
+    }
+}
+
+pub fn break_state(c: &mut Chance, t: &mut Trip) {
+    let i = c.below(3) as usize;
+    let x = c.not_finite();
+    if c.one_in(2) {
+        t.state.position[i] = x;
+    } else {
+        t.state.velocity[i] = x;
+    }
+}
+
+pub fn bad_h(c: &mut Chance) -> u32 {
+    let odd = c.below(43_200_000) as u32 * 2 + 1;
+    let large = c.between(86_400_001, u64::from(u32::MAX)) as u32;
+    c.pick(&[0, 1, 3, odd, 86_399_999, 86_400_001, 86_400_002, large, u32::MAX, 1 << 31])
+}
+
+/// Before the state, or between two steps.
+pub fn break_target(c: &mut Chance, t: &mut Trip) {
+    let before = t.state.moment.saturating_sub(u64::from(t.h) * c.between(1, 3));
+    let between = t.target.saturating_add(c.between(1, u64::from(t.h).max(2) - 1));
+    let off = t.target.saturating_sub(1);
+    t.target = if t.state.moment > 0 && c.one_in(2) { before } else { c.pick(&[between, off]) };
+    if t.target >= END {
+        t.target = t.state.moment.saturating_sub(1);
+    }
+}
+
+/// Break what the names of BREAKS say, 4 to 5; 1 is the book's and left alone.
+pub fn break_at(c: &mut Chance, t: &mut Trip, which: usize) {
+    match which {
+        1 => break_setting(c, t),
+        2 => t.state.moment = bad_moment(c),
+        3 => t.target = bad_moment(c),
+        4 => break_state(c, t),
+        5 => t.h = bad_h(c),
+        6 => break_target(c, t),
+        _ => {}
+    }
+}

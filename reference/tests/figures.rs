@@ -1,0 +1,173 @@
+//! Document 01's own figures, and the published square roots.
+
+use reference::ask::answers;
+use reference::book;
+use reference::calendar::{date_of, day_of};
+use reference::conic::{conic, Kind};
+use reference::hour::{angle_at, hour_angle, DAY, END};
+use reference::motion::{acceleration, order, run, Outcome, Setting, State};
+use reference::root::root;
+use reference::sine::{sine_cosine, OCTANT};
+use reference::strip::strip;
+use reference::trial::leaves::WHOLE_OCTANTS;
+
+/// A book of one body with one entry, the same coefficients on each axis.
+fn one(body: u16, start: u64, span: u64, coefficients: &[f64]) -> Vec<u8> {
+    let n = coefficients.len() as u16;
+    let mut bytes = Vec::new();
+    bytes.extend((32 + 24 * u32::from(n)).to_le_bytes());
+    bytes.extend(1u32.to_le_bytes());
+    bytes.extend(body.to_le_bytes());
+    bytes.extend(n.to_le_bytes());
+    bytes.extend(32u32.to_le_bytes());
+    bytes.extend(start.to_le_bytes());
+    bytes.extend(span.to_le_bytes());
+    for _ in 0..3 {
+        for c in coefficients {
+            bytes.extend(c.to_le_bytes());
+        }
+    }
+    bytes
+}
+
+const EMPTY: [u8; 8] = [8, 0, 0, 0, 0, 0, 0, 0];
+
+fn earth_alone(m: f64) -> Setting {
+    Setting { coefficients: [m, 0.0, 0.0, 0.0, 0.0, 0.0], dut: 0 }
+}
+
+#[test]
+fn calendar() {
+    assert_eq!(date_of(2_922), Ok((1958, 1, 1)));
+    assert_eq!(date_of(18_321), Ok((2000, 2, 29)));
+    assert_eq!(date_of(36_524), Ok((2049, 12, 31)));
+    assert_eq!(date_of(36_525), Err(8));
+    assert_eq!(day_of(2001, 2, 29), Err(8));
+    for day in 0..=36_524 {
+        let (y, m, d) = date_of(day).unwrap();
+        assert_eq!(day_of(y, m, d), Ok(day));
+    }
+}
+
+#[test]
+fn hours() {
+    assert_eq!(angle_at(0), Ok(1_000_755_426_000));
+    assert_eq!(angle_at(DAY), Ok(1_010_611_899_460));
+    assert_eq!(angle_at(86_399_999), Ok(1_010_611_467_099));
+    assert_eq!(angle_at(4_322 * DAY + 82_951_000), Ok(266_188_071_271));
+    assert_eq!(hour_angle(4_322 * DAY + 82_951_000 + 35_000, 35_000), Ok(266_188_071_271));
+    for ut in WHOLE_OCTANTS {
+        assert_eq!(angle_at(ut).unwrap() % OCTANT, 0);
+    }
+    assert_eq!(hour_angle(5, 6), Err(3));
+    assert_eq!(hour_angle(END, 100_001), Err(4));
+}
+
+#[test]
+fn sines_near_the_library() {
+    for i in 0..36_000u64 {
+        let (s, c) = sine_cosine(i * 100_000_000).unwrap();
+        let a = (i as f64 / 100.0).to_radians();
+        assert!((s - a.sin()).abs() < 1e-13 && (c - a.cos()).abs() < 1e-13);
+    }
+    let (_, quarter) = sine_cosine(900_000_000_000).unwrap();
+    assert_eq!(quarter.to_bits(), (-0.0f64).to_bits());
+    assert_eq!(sine_cosine(3_600_000_000_000), Err(12));
+}
+
+#[test]
+fn series() {
+    let book = one(2, 1000, 100, &[1.0, 2.0, 3.0]);
+    assert_eq!(book::body(&book, 2, 1000), Ok([2.0; 3]));
+    assert_eq!(book::body(&book, 2, 1050), Ok([-2.0; 3]));
+    assert!(book::body(&book, 2, 1099).is_ok());
+    assert_eq!(book::body(&book, 2, 1100), Err(6));
+    assert_eq!(book::body(&book, 1, 1000), Err(6));
+    assert_eq!(book::body(&book, 1, END), Err(3));
+    assert_eq!(book::body(&book[1..], 1, END), Err(1));
+}
+
+#[test]
+fn accelerations() {
+    let p = [2.0, 0.0, 0.0];
+    let a = acceleration(&EMPTY, &earth_alone(8.0), 0, p).unwrap();
+    assert_eq!(a[0], -2.0);
+    // A body at (4, 0, 0): the same book on each axis, then Y and Z set to 0.
+    let mut book = one(2, 0, 100, &[4.0, 0.0]);
+    book[32 + 16..32 + 48].fill(0);
+    let mut setting = earth_alone(8.0);
+    setting.coefficients[1] = 16.0;
+    assert_eq!(acceleration(&book, &setting, 0, p).unwrap()[0], 1.0);
+}
+
+#[test]
+fn conics() {
+    let p = [2.0, 0.0, 0.0];
+    let ellipse = Kind::Ellipse { a: 2.0, e: 0.0, p: 2.0, q: 2.0, far: 2.0 };
+    assert_eq!(conic(8.0, p, [0.0, 2.0, 0.0]).unwrap().kind, ellipse);
+    let hyperbola = Kind::Hyperbola { a: -1.0, e: 3.0, p: 8.0, q: 2.0, v: 8f64.sqrt() };
+    assert_eq!(conic(8.0, p, [0.0, 4.0, 0.0]).unwrap().kind, hyperbola);
+    assert_eq!(conic(8.0, p, [2.0, 2.0, 0.0]), Err(9));
+    assert_eq!(conic(8.0, p, [2.0, 0.0, 0.0]), Err(10));
+    assert_eq!(conic(4.0, p, [2.0, 0.0, 0.0]), Err(9));
+}
+
+#[test]
+fn steps_allowed() {
+    let state = State { moment: 0, position: [2.0, 0.0, 0.0], velocity: [0.0, 4.0, 0.0] };
+    let setting = earth_alone(8.0);
+    assert_eq!(order(&EMPTY, &setting, &state, 3, 0), Err(2));
+    assert_eq!(order(&EMPTY, &setting, &state, 86_400_000, 86_400_000), Ok(()));
+    let ran = run(&EMPTY, &setting, &state, 1000, 3000, 2, [9; 5]);
+    assert_eq!((ran.outcome, ran.steps, ran.state.moment), (Outcome::Going, 2, 2000));
+    assert_eq!(ran.guesses, [9; 5]);
+}
+
+#[test]
+fn strip_as_printed() {
+    let mut input = Vec::new();
+    for f in [8.0f64, 0.0, 0.0, 0.0, 0.0, 0.0] {
+        input.extend(f.to_le_bytes());
+    }
+    input.extend(0u64.to_le_bytes());
+    for f in [2.0f64, 0.0, 0.0, 0.0, 4.0, 0.0] {
+        input.extend(f.to_le_bytes());
+    }
+    input.extend(1000u32.to_le_bytes());
+    input.extend(0u32.to_le_bytes());
+    input.extend(0u64.to_le_bytes());
+    assert_eq!(strip(&input), b"REFUSED 1\n");
+    assert_eq!(strip(&input[..119]), b"REFUSED 1\n");
+    input.extend(EMPTY);
+    let printed = "STRIP 1000\n\
+        0 4000000000000000 0000000000000000 0000000000000000 \
+        0000000000000000 4010000000000000 0000000000000000\n\
+        ARRIVED 0\n";
+    assert_eq!(strip(&input), printed.as_bytes());
+}
+
+#[test]
+fn question_lines() {
+    let input = b"date 0\n\nroot 4010000000000000\nroot 7FF8000000000001\nday 1950 1 1 \ndate 36525";
+    let output = b"1950 1 1\nUNREADABLE\n4000000000000000\nREFUSED 11\nUNREADABLE\nREFUSED 8\n";
+    assert_eq!(answers(&[], input), output);
+    assert_eq!(answers(&[], b""), b"");
+}
+
+/// The file is ROOTS, or the repository's own copy; it must be there.
+#[test]
+fn published_roots() {
+    let own = concat!(env!("CARGO_MANIFEST_DIR"), "/../crates/figures/stdin");
+    let file = std::env::var("ROOTS").unwrap_or_else(|_| own.to_string());
+    let text = std::fs::read_to_string(&file).expect("a file of published roots");
+    let bits = |word: &str| u64::from_str_radix(word, 16).unwrap();
+    let mut seen = 0;
+    for line in text.lines().filter(|l| !l.starts_with('#') && !l.is_empty()) {
+        let (x, y) = line.split_once(' ').unwrap();
+        let y = y.split_whitespace().next().unwrap();
+        let found = root(f64::from_bits(bits(x))).unwrap();
+        assert_eq!(found.to_bits(), bits(y), "{line}");
+        seen += 1;
+    }
+    assert_eq!(seen, 130);
+}

@@ -1,0 +1,149 @@
+//! The generators reach what they are made for, and the comparing can fail.
+
+use std::collections::BTreeSet;
+
+use reference::ask;
+use reference::book;
+use reference::motion::Outcome;
+use reference::trial::books::{build, pieces, special, sturdy};
+use reference::trial::chance::Chance;
+use reference::trial::child::Told;
+use reference::trial::compare::{group_input, Tally};
+use reference::trial::plan::{groups, strips, World, KINDS};
+use reference::trial::trip::{break_at, trip, BREAKS};
+use reference::trial::{damage, sizes};
+
+fn kinds() -> Vec<&'static str> {
+    KINDS.iter().map(|(k, _)| *k).collect()
+}
+
+#[test]
+fn made_books_pass() {
+    let mut c = Chance::new(7);
+    for _ in 0..300 {
+        assert_eq!(book::check(&build(&pieces(&mut c))), Ok(()));
+        assert_eq!(book::check(&build(&sturdy(&mut c))), Ok(()));
+    }
+    for (name, bytes) in special(&mut c) {
+        assert_eq!(book::check(&bytes), Ok(()), "{name}");
+    }
+    assert!(special(&mut c).iter().any(|(_, bytes)| bytes.len() == 61_424));
+}
+
+#[test]
+fn damaged_books_do_not() {
+    let mut c = Chance::new(8);
+    let passing = ["as it was", "end at the last", "one body left"];
+    for (name, damage) in damage::all() {
+        for _ in 0..20 {
+            let base = sturdy(&mut c);
+            let found = book::check(&damage(&mut c, base));
+            if !name.starts_with("bit flipped") {
+                assert_eq!(found.is_ok(), passing.contains(name), "{name}");
+            }
+        }
+    }
+}
+
+#[test]
+fn the_first_of_two_refusals_is_met() {
+    let mut c = Chance::new(9);
+    let numbers = [1, 4, 3, 3, 7, 2, 5];
+    for round in 0..400 {
+        let base = build(&pieces(&mut c));
+        for first in 0..BREAKS.len() {
+            for second in first + 1..BREAKS.len() {
+                let mut w = World::new("", base.clone(), 1);
+                let mut t = trip(&mut c, &w);
+                for i in [second, first] {
+                    break_at(&mut c, &mut t, i);
+                }
+                if first == 0 {
+                    w.book = Some(base[..base.len() - 1].to_vec());
+                }
+                let outcome = t.run(w.bytes()).outcome;
+                let names = (BREAKS[first], BREAKS[second]);
+                assert_eq!(outcome, Outcome::Refused(numbers[first]), "{names:?} {round}");
+            }
+        }
+    }
+}
+
+#[test]
+fn only_the_new_component_overflows() {
+    let mut c = Chance::new(10);
+    let w = World::new("", build(&[]), 1);
+    let mut seen = BTreeSet::new();
+    for i in 0..40 {
+        let make = if i % 2 == 0 { sizes::new_component } else { sizes::new_position };
+        let (note, t) = make(&mut c, &w).remove(0);
+        let refused = note.ends_with("not finite");
+        let expected = if refused { Outcome::Refused(7) } else { Outcome::Arrived };
+        assert_eq!(t.run(w.bytes()).outcome, expected);
+        seen.insert(note);
+    }
+    assert_eq!(seen.len(), 4);
+}
+
+/// The reference's own answers compared with themselves, with one spoiled or none.
+fn tally(spoil: usize) -> Tally {
+    let mut c = Chance::new(11);
+    let mut tally = Tally { spoil, ..Tally::default() };
+    for group in groups(&mut c, 5000, &kinds(), &[]) {
+        let output = ask::answers(group.world.bytes(), &group_input(&group));
+        tally.group(&group, &Told { output, ended: String::new() });
+    }
+    tally
+}
+
+#[test]
+fn every_refusal_is_reached() {
+    let tally = tally(0);
+    assert_eq!((tally.compared, tally.differ), (5000, 0));
+    let sorts: BTreeSet<&str> = tally.counts.answers.keys().map(|(_, sort)| sort.as_str()).collect();
+    for number in [1, 3, 4, 6, 7, 8, 9, 10, 11, 12] {
+        assert!(sorts.contains(format!("refused {number}").as_str()), "{number}");
+    }
+    for number in 1..8 {
+        assert!(sorts.contains(format!("refused {number} at 0 steps").as_str()), "{number} in a run");
+    }
+    for sort in ["refused 6 on the way", "refused 7 on the way", "arrived", "going", "arrived at 0 steps",
+        "going at 0 steps", "ellipses", "hyperbolas", "unreadable", "values"] {
+        assert!(sorts.contains(sort), "{sort}");
+    }
+}
+
+#[test]
+fn a_spoiled_answer_is_found() {
+    for spoil in [1, 17, 2500, 5000] {
+        assert_eq!(tally(spoil).differ, 1);
+    }
+    assert_eq!(tally(5001).differ, 0);
+}
+
+#[test]
+fn short_and_long_outputs_are_found() {
+    let mut c = Chance::new(12);
+    let group = groups(&mut c, 100, &["root"], &[]).remove(0);
+    let whole = ask::answers(group.world.bytes(), &group_input(&group));
+    let told = |output: &[u8]| Told { output: output.to_vec(), ended: String::new() };
+    let differ = |output: &[u8]| {
+        let mut tally = Tally::default();
+        tally.group(&group, &told(output));
+        tally.differ
+    };
+    assert_eq!(differ(&whole), 0);
+    assert_eq!(differ(&whole[..whole.len() - 1]), 1);
+    assert_eq!(differ(&[&whole[..], b"\n"].concat()), 1);
+    assert_eq!(differ(b""), 100);
+}
+
+#[test]
+fn numbers_of_calls_and_strips_are_as_asked() {
+    for calls in [1, 10, 999, 3001] {
+        let mut c = Chance::new(13);
+        let made = groups(&mut c, calls, &kinds(), &[]);
+        assert_eq!(made.iter().map(|g| g.calls.len()).sum::<usize>(), calls);
+        assert_eq!(strips(&mut c, calls, &[]).len(), calls);
+    }
+}
