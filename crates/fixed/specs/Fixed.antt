@@ -1,0 +1,98 @@
+-- Document 01, "Earth-fixed turn and conic": a state in coordinates that turn with the Earth.
+use mathlib.Core.Bool.{Bool, not, _&&_}
+use mathlib.Core.List.{List, [], _∷_}
+use Prim.Native.Nat.{ℕ}
+use lib.ListN.{getD}
+use lib.Ieee.{Float, nan, neg}
+use Rattle.basis.specs.Choice.{if_then_else_}
+use Rattle.basis.specs.Floats.{_⊕_, _⊖_, _⊗_, _⊘_, whole, decimal}
+use Rattle.state.specs.declared.State.{State}
+use Rattle.state.specs.declared.Vector.{Vector}
+use Rattle.state.specs.State.{position, velocity, finiteVector, finiteState}
+use Rattle.hour.specs.Hour.{utDay, utTime, hourAngle, hourAnswer}
+use Rattle.hour.specs.declared.HourAnswer.{HourAnswer}
+use Rattle.sine.specs.declared.SineCosine.{SineCosine}
+use Rattle.sine.specs.Sine.{c, sineCosine}
+use Rattle.fixed.specs.declared.EarthFixed.{EarthFixed}
+use Rattle.fixed.specs.declared.FixedAnswer.{FixedAnswer}
+use Rattle.fixed.specs.declared.FixedAnswer.the-variants.{Fixed, Refused}
+
+-- "three rows of three numbers"
+abbrev pub Table : Type 0
+Table = List (List Float)
+
+-- "(cos, sin, 0), (-sin, cos, 0), (0, 0, 1)"
+unfoldable pub turn : SineCosine → Table
+turn of =
+    (of .cosine ∷ of .sine ∷ whole 0 ∷ [])
+    ∷ (neg (of .sine) ∷ of .cosine ∷ whole 0 ∷ [])
+    ∷ (whole 0 ∷ whole 0 ∷ whole 1 ∷ [])
+    ∷ []
+
+-- "Row times vector is (m1·X + m2·Y) + m3·Z" (a row has all three: nan never comes in)
+unfoldable pub rowTimes : List Float → Vector → Float
+rowTimes row v =
+    let m1 = getD row 0 nan in
+    let m2 = getD row 1 nan in
+    let m3 = getD row 2 nan in
+    (m1 ⊗ v .x ⊕ m2 ⊗ v .y) ⊕ m3 ⊗ v .z
+
+unfoldable pub times : Table → Vector → Vector
+times table v =
+    record {
+      x = rowTimes (getD table 0 []) v;
+      y = rowTimes (getD table 1 []) v;
+      z = rowTimes (getD table 2 []) v;
+    }
+
+-- "w = (0.00417807417/(1 + 0.000000000000521·d))·c" of the UT day d
+unfoldable pub rate : ℕ → Float
+rate d = (decimal 417_807_417 100_000_000_000 ⊘ (whole 1 ⊕ decimal 521 1_000_000_000_000_000 ⊗ whole d)) ⊗ c
+
+-- how the Earth stands and how fast it turns: the table that is applied to 1950.0 coordinates, and w
+pub record Rotation : Type 0 where
+  pub table : Table
+  pub w : Float
+
+-- at a moment: the turn of its hour angle, and the rate of its UT day
+unfoldable pub rotation : ℕ → ℕ → Rotation
+rotation moment dut =
+    record {
+      table = turn (sineCosine (hourAngle (utDay moment dut) (utTime moment dut)));
+      w = rate (utDay moment dut);
+    }
+
+-- "Velocity x gains w·y and velocity y loses w·x, with x, y the turned position"
+unfoldable pub turned : Rotation → State → EarthFixed
+turned by state =
+    let p = times (by .table) (position state) in
+    let v = times (by .table) (velocity state) in
+    record {
+      x = p .x;
+      y = p .y;
+      z = p .z;
+      vx = v .x ⊕ by .w ⊗ p .y;
+      vy = v .y ⊖ by .w ⊗ p .x;
+      vz = v .z;
+    }
+
+abbrev pub finiteFixed : EarthFixed → Bool
+finiteFixed f =
+    finiteVector (record { x = f .x; y = f .y; z = f .z }) && finiteVector (record { x = f .vx; y = f .vy; z = f .vz })
+
+-- "(state, then result)"
+unfoldable pub finiteAnswer : State → ℕ → FixedAnswer
+finiteAnswer state dut =
+    let fixed = turned (rotation (state .moment) dut) state in
+    if not (finiteState state) then Refused 7 else
+    if not (finiteFixed fixed) then Refused 7 else
+    Fixed fixed
+
+-- an answer that comes after the hour angle's refusals
+abbrev pub afterHour : HourAnswer → FixedAnswer → FixedAnswer
+afterHour (HourAnswer.Parts parts) answer = answer
+afterHour (HourAnswer.Refused number) answer = Refused number
+
+-- the hour angle's refusals, "4 (DUT), 3", "then 7 (state, then result)"
+unfoldable pub fixedAnswer : State → ℕ → FixedAnswer
+fixedAnswer state dut = afterHour (hourAnswer (state .moment) dut) (finiteAnswer state dut)

@@ -1,0 +1,125 @@
+// A state in coordinates that turn with the Earth.
+
+use hour::HourAnswer;
+use sine::SineCosine;
+use sine::SineCosineAnswer;
+use state::State;
+use state::Vector;
+ghost use mathlib.Core.Path.{_≡_};
+ghost use Prim.Native.Nat.{_≤_};
+ghost use Rattle.basis.specs.Limits.{lastDay};
+ghost use Rattle.hour.specs.declared.HourAnswer.the-variants.{Parts};
+ghost use Rattle.hour.specs.Hour.{hourAnswer};
+ghost use Rattle.fixed.specs.Fixed.{turn, rowTimes, times, rate, turned, finiteFixed, finiteAnswer, fixedAnswer};
+
+// Position in km and velocity in km/s, in axes that turn with the Earth.
+pub struct EarthFixed {
+    pub x: f64,
+    pub y: f64,
+    pub z: f64,
+    pub vx: f64,
+    pub vy: f64,
+    pub vz: f64,
+}
+
+pub enum FixedAnswer {
+    Fixed(EarthFixed),
+    Refused(u64),
+}
+
+fn turn_table(of: SineCosine) -> [[f64; 3]; 3]
+    ensures { λ r. ⌜ r ≡ turn of ⌝ }
+{
+    [
+        [of.cosine, of.sine, 0.0],
+        [-of.sine, of.cosine, 0.0],
+        [0.0, 0.0, 1.0],
+    ]
+}
+
+fn row_times(row: [f64; 3], v: Vector) -> f64
+    ensures { λ r. ⌜ r ≡ rowTimes row v ⌝ }
+{
+    (row[0] * v.x + row[1] * v.y) + row[2] * v.z
+}
+
+fn table_times(table: [[f64; 3]; 3], v: Vector) -> Vector
+    ensures { λ r. ⌜ r ≡ times table v ⌝ }
+{
+    Vector {
+        x: row_times(table[0], v),
+        y: row_times(table[1], v),
+        z: row_times(table[2], v),
+    }
+}
+
+// How fast the Earth turns on the UT day d, in radians a second.
+fn turning_rate(d: u64) -> f64
+    requires { ⌜ d ≤ lastDay ⌝ }
+    ensures { λ r. ⌜ r ≡ rate d ⌝ }
+{
+    0.00417807417 / (1.0 + 0.000000000000521 * d as f64) * 0.017453292519943295
+}
+
+fn turned_state(table: [[f64; 3]; 3], w: f64, state: State) -> EarthFixed
+    ensures { λ r. ⌜ r ≡ turned (record { table = table; w = w }) state ⌝ }
+{
+    let p = table_times(table, state::position_of(state));
+    let v = table_times(table, state::velocity_of(state));
+    EarthFixed {
+        x: p.x,
+        y: p.y,
+        z: p.z,
+        vx: v.x + w * p.y,
+        vy: v.y - w * p.x,
+        vz: v.z,
+    }
+}
+
+fn fixed_is_finite(f: EarthFixed) -> bool
+    ensures { λ r. ⌜ r ≡ finiteFixed f ⌝ }
+{
+    let position = Vector {
+        x: f.x,
+        y: f.y,
+        z: f.z,
+    };
+    let velocity = Vector {
+        x: f.vx,
+        y: f.vy,
+        z: f.vz,
+    };
+    if state::vector_is_finite(position) {
+        return state::vector_is_finite(velocity);
+    }
+    false
+}
+
+// At a moment whose hour angle is `parts`. The sine never refuses it, since it is below one circle.
+fn fixed_at(state: State, dut: u32, parts: u64) -> FixedAnswer
+    requires { ⌜ hourAnswer (state .moment) dut ≡ Parts parts ⌝ }
+    ensures { λ r. ⌜ r ≡ finiteAnswer state dut ⌝ }
+{
+    if state::state_is_finite(state) {
+        let SineCosineAnswer::Both(of) = sine::sine_cosine(parts) else {
+            return FixedAnswer::Refused(12);
+        };
+        let moment = state.moment;
+        let ut = moment - dut as u64;
+        let w = turning_rate(ut / basis::DAY_LENGTH);
+        let fixed = turned_state(turn_table(of), w, state);
+        if fixed_is_finite(fixed) {
+            return FixedAnswer::Fixed(fixed);
+        }
+    }
+    FixedAnswer::Refused(7)
+}
+
+pub fn earth_fixed(state: State, dut: u32) -> FixedAnswer
+    ensures { λ r. ⌜ r ≡ fixedAnswer state dut ⌝ }
+{
+    match hour::hour_angle(state.moment, dut) {
+        HourAnswer::Parts(parts) => fixed_at(state, dut, parts),
+        HourAnswer::Refused(number) => FixedAnswer::Refused(number),
+    }
+}
