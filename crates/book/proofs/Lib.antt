@@ -1,0 +1,9 @@
+pub mod FiniteBits
+pub mod Below
+pub mod Passing
+pub mod Checked
+pub mod Found
+pub mod Numerator
+pub mod Turns
+pub mod Figures
+pub mod BodyAt

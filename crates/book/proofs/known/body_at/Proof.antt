@@ -1,0 +1,44 @@
+-- `book::known::body_at` meets its contract: the entry that the lookup gives covers the moment. Assumes nothing.
+use borrow.Author.Needs.{needs}
+use mathlib.Core.Path.{sym, _∙_}
+use Rattle.book.proofs.Found.{covered}
+use Rattle.book.proofs.BodyAt.{no-cover, not-finite, at-place}
+use Rattle.book.proofs.known.body_at.Statement.{statement}
+use Rattle.book.proofs.known.body_at.Tie as tie
+
+lookup-guessed-requires : tie.Need-lookup-guessed-requires
+lookup-guessed-requires c κs = search needs
+
+enum-known-i : tie.Need-enum-known-i
+enum-known-i c = search needs
+
+enum-told : tie.Need-enum-told
+enum-told c = search needs
+
+returns : tie.Need-returns
+returns c = sym (no-cover _ _ _ (sym (c .before .before .lookup-guessed .ensures) ∙ c .enum-told .given .1))
+
+place-at-requires : tie.Need-place-at-requires
+place-at-requires c κs = (c .before .before .before .before .before .pre, covered _ _ _ _ (sym (c .before .before .before .lookup-guessed .ensures) ∙ c .before .i .given .1))
+
+place-finite-requires : tie.Need-place-finite-requires
+place-finite-requires c κs = search needs
+
+returns-2 : tie.Need-returns-2
+returns-2 c = rw (c .before .before .place-at .ensures) (sym (at-place _ _ _ _ (sym (c .before .before .before .before .before .before .lookup-guessed .ensures) ∙ c .before .before .before .before .i .given .1) (rw (← c .before .before .place-at .ensures) (sym (c .before .place-finite .ensures) ∙ c .if1 .taken))))
+
+returns-3 : tie.Need-returns-3
+returns-3 c = sym (not-finite _ _ _ _ (sym (c .before .before .before .before .before .before .lookup-guessed .ensures) ∙ c .before .before .before .before .i .given .1) (rw (← c .before .before .place-at .ensures) (sym (c .before .place-finite .ensures) ∙ c .if1 .left)))
+
+pub body-at-spec : {M : Type 1} → statement M
+body-at-spec =
+    tie.close
+    (tie.spec
+    lookup-guessed-requires
+    enum-known-i
+    enum-told
+    returns
+    place-at-requires
+    place-finite-requires
+    returns-2
+    returns-3)

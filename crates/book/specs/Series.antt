@@ -1,0 +1,81 @@
+-- Document 01, "The ephemeris book": the Chebyshev series by Clenshaw, over an entry's numbers and coefficients.
+use Prim.Native.Nat.{ℕ, zero, suc, _+_, _*_, _<_, _≤_}
+use mathlib.Core.List.{List, [], _∷_}
+use lib.IntN.{pos, _-ℤ_, _*ℤ_}
+use lib.Ieee.{Float, binary64, ofBits, ofInt, add, sub, mul, div}
+use Rattle.basis.specs.Limits.{endOfTime}
+use Rattle.book.specs.Contents.{sizeOf, startOf, spanOf, coefficient}
+use Rattle.book.specs.declared.Place.{Place}
+
+abbrev pub zeroFloat : Float
+zeroFloat = ofBits binary64 0
+
+abbrev pub twice : Float → Float
+twice w = mul binary64 (ofBits binary64 0x4000_0000_0000_0000) w
+
+-- "w = (2(t - s) - L) as a float, divided by L"
+unfoldable pub argument : ℕ → ℕ → ℕ → Float
+argument start span t =
+    div binary64 (ofInt binary64 (pos 2 *ℤ (pos t -ℤ pos start) -ℤ pos span)) (ofInt binary64 (pos span))
+
+-- t lies in the span of an entry that is allowed: what working out `argument` leans on
+pub record InSpan (start span t : ℕ) : Type 0 where
+  pub from : start ≤ t
+  pub until : t < start + span
+  pub ends : start + span ≤ endOfTime
+
+-- b(k) and b(k+1)
+pub record Pair : Type 0 where
+  pub here : Float
+  pub next : Float
+
+-- "b(k) = ((2w)·b(k+1) - b(k+2)) + c(k)"
+abbrev pub turn : Float → Float → Pair → Pair
+turn w c b = record { here = add binary64 (sub binary64 (mul binary64 (twice w) (b .here)) (b .next)) c; next = b .here }
+
+-- "starting with two zeros", of the coefficients c(k), c(k+1), .. to the last
+unfoldable pub clenshaw : Float → List Float → Pair
+clenshaw w [] = record { here = zeroFloat; next = zeroFloat }
+clenshaw w (c ∷ cs) = turn w c (clenshaw w cs)
+
+-- "value = (w·b(1) - b(2)) + c(0)"
+abbrev pub lastTurn : Float → Float → Pair → Float
+lastTurn w c b = add binary64 (sub binary64 (mul binary64 w (b .here)) (b .next)) c
+
+unfoldable pub series : Float → List Float → Float
+series w [] = zeroFloat
+series w (c ∷ cs) = lastTurn w c (clenshaw w cs)
+
+-- the coefficients of an entry
+pub record Block : Type 0 where
+  pub xs : List Float
+  pub ys : List Float
+  pub zs : List Float
+
+abbrev pub placeBy : Block → Float → Place
+placeBy c w = record { x = series w (c .xs); y = series w (c .ys); z = series w (c .zs) }
+
+-- all that an entry says of its body
+pub record Content : Type 0 where
+  pub start : ℕ
+  pub span : ℕ
+  pub block : Block
+
+abbrev pub placeIn : Content → ℕ → Place
+placeIn e t = placeBy (e .block) (argument (e .start) (e .span) t)
+
+-- f k, f (k + 1), .. , n of them
+abbrev pub listed : (ℕ → Float) → ℕ → ℕ → List Float
+listed f k zero = []
+listed f k (suc n) = f k ∷ listed f (suc k) n
+
+-- "n floats for X, then Y, then Z"
+abbrev pub blockOf : (ℕ → Float) → ℕ → Block
+blockOf f n = record { xs = listed f 0 n; ys = listed f n n; zs = listed f (2 * n) n }
+
+abbrev pub contentOf : List ℕ → ℕ → Content
+contentOf b i = record { start = startOf b i; span = spanOf b i; block = blockOf (coefficient b i) (sizeOf b i) }
+
+-- the position by entry i at t, in km from the Earth
+unfoldable pub place : List ℕ → ℕ → ℕ → Place
+place b i t = placeIn (contentOf b i) t

@@ -1,0 +1,84 @@
+// For a book that is known to pass: what the crates above call at each stage, once `book_passes` has said so. These are no
+// public calls of the product: those that take a book require that it passes.
+
+use crate::Lookup;
+use crate::Place;
+use crate::PositionAnswer;
+use crate::bytes::u16_at;
+use crate::bytes::u32_at;
+use crate::bytes::u64_at;
+use crate::search::Stand;
+use crate::search::search;
+use crate::search::stand_at;
+use crate::series::argument_at;
+use crate::series::series_at;
+use basis::is_finite;
+ghost use mathlib.Core.Bool.{true};
+ghost use mathlib.Core.Path.{_≡_};
+ghost use Prim.Native.Nat.{_<_};
+ghost use Rattle.book.specs.Contents.{entryCount};
+ghost use Rattle.book.specs.Passes.{passes};
+ghost use Rattle.book.specs.Lookup.{covers, lookup};
+ghost use Rattle.book.specs.Series.{place};
+ghost use Rattle.book.specs.Position.{finitePlace, bodyAt};
+
+// The guess says where to look first, and nothing else: it may be another body's, or beyond the contents.
+pub fn lookup_guessed(book: &[u8], body: u64, moment: u64, guess: usize) -> Lookup
+    requires { ⌜ passes (now book) ≡ true ⌝ }
+    ensures { λ r. ⌜ r ≡ lookup (now (book .entry)) body moment ⌝ }
+{
+    let count = u32_at(book, 4) as usize;
+    if count <= guess {
+        return search(book, body, moment, 0, count, count / 2);
+    }
+    let stand = stand_at(book, guess, body, moment);
+    match stand {
+        Stand::Covered => Lookup::Entry(guess),
+        Stand::Past => search(book, body, moment, guess + 1, count, guess + 1),
+        Stand::Before => {
+            if guess == 0 {
+                Lookup::Nothing
+            } else {
+                search(book, body, moment, 0, guess, guess - 1)
+            }
+        }
+    }
+}
+
+pub fn place_at(book: &[u8], entry: usize, moment: u64) -> Place
+    requires { ⌜ passes (now book) ≡ true ⌝ }
+    requires { ⌜ (entry < entryCount (now book)) × (covers (now book) entry moment ≡ true) ⌝ }
+    ensures { λ r. ⌜ r ≡ place (now (book .entry)) entry moment ⌝ }
+{
+    let at = 8 + 24 * entry;
+    let n = u16_at(book, at + 2) as usize;
+    let offset = u32_at(book, at + 4) as usize;
+    let w = argument_at(u64_at(book, at + 8), u64_at(book, at + 16), moment);
+    series_at(book, offset, n, w)
+}
+
+pub fn place_finite(place: Place) -> bool
+    ensures { λ r. ⌜ r ≡ finitePlace place ⌝ }
+{
+    if is_finite(place.x) {
+        if is_finite(place.y) {
+            return is_finite(place.z);
+        }
+    }
+    false
+}
+
+pub fn body_at(book: &[u8], body: u64, moment: u64, guess: usize) -> PositionAnswer
+    requires { ⌜ passes (now book) ≡ true ⌝ }
+    ensures { λ r. ⌜ r ≡ bodyAt (now (book .entry)) body moment ⌝ }
+{
+    let Lookup::Entry(i) = lookup_guessed(book, body, moment, guess) else {
+        return PositionAnswer::Refused(6);
+    };
+    let place = place_at(book, i, moment);
+    if place_finite(place) {
+        PositionAnswer::At(place)
+    } else {
+        PositionAnswer::Refused(7)
+    }
+}

@@ -1,0 +1,64 @@
+// The ephemeris book: its check, the lookup of a body's entry, and the position of a body.
+
+mod bytes;
+mod check;
+pub mod known;
+mod search;
+mod series;
+
+use basis::END_OF_TIME;
+use bytes::u32_at;
+ghost use mathlib.Core.Path.{_≡_};
+ghost use Rattle.book.specs.Passes.{passes};
+ghost use Rattle.book.specs.Position.{positionAnswer};
+
+pub const LONGEST_BOOK: usize = 61_440;
+
+pub struct Place {
+    pub x: f64,
+    pub y: f64,
+    pub z: f64,
+}
+
+// The entry that covers a moment, counted from 0.
+pub enum Lookup {
+    Entry(usize),
+    Nothing,
+}
+
+pub enum PositionAnswer {
+    At(Place),
+    Refused(u64),
+}
+
+pub fn book_passes(book: &[u8]) -> bool
+    ensures { λ r. ⌜ r ≡ passes (now (book .entry)) ⌝ }
+{
+    let length = book.len();
+    if LONGEST_BOOK < length {
+        return false;
+    }
+    if length < 8 {
+        return false;
+    }
+    let total = u32_at(book, 0) as usize;
+    if total == length {
+        let count = u32_at(book, 4) as usize;
+        if count <= (length - 8) / 24 {
+            return check::entries_pass(book, count);
+        }
+    }
+    false
+}
+
+pub fn position(book: &[u8], body: u64, moment: u64) -> PositionAnswer
+    ensures { λ r. ⌜ r ≡ positionAnswer (now (book .entry)) body moment ⌝ }
+{
+    if !book_passes(book) {
+        return PositionAnswer::Refused(1);
+    }
+    if END_OF_TIME <= moment {
+        return PositionAnswer::Refused(3);
+    }
+    known::body_at(book, body, moment, 0)
+}

@@ -1,0 +1,64 @@
+// The search for the entry that covers a moment, in a book that passes: its entries are in order, so a half falls away by turns.
+
+use crate::Lookup;
+use crate::bytes::u16_at;
+use crate::bytes::u64_at;
+ghost use mathlib.Core.Bool.{true};
+ghost use mathlib.Core.Path.{_≡_};
+ghost use Prim.Native.Nat.{_+_, _≤_, _<_};
+ghost use lib.ListN.{length};
+ghost use Rattle.book.specs.Contents.{entryAt};
+ghost use Rattle.book.specs.Passes.{passes};
+ghost use Rattle.book.specs.Lookup.{lookup};
+ghost use Rattle.book.specs.Stands.{Stands, Narrowed};
+
+// How a body and a moment stand to an entry, in the order of the contents.
+pub enum Stand {
+    Past,
+    Covered,
+    Before,
+}
+
+pub fn stand_at(book: &[u8], i: usize, body: u64, moment: u64) -> Stand
+    requires { ⌜ entryAt i + 24 ≤ length (now book) ⌝ }
+    ensures { λ r. ⌜ Stands (now (book .entry)) i body moment r ⌝ }
+{
+    let entry = 8 + 24 * i;
+    let own = u16_at(book, entry) as u64;
+    if own < body {
+        return Stand::Past;
+    }
+    if body < own {
+        return Stand::Before;
+    }
+    let start = u64_at(book, entry + 8);
+    if moment < start {
+        return Stand::Before;
+    }
+    if moment - start < u64_at(book, entry + 16) {
+        Stand::Covered
+    } else {
+        Stand::Past
+    }
+}
+
+// No entry below low and none from high on serves; first is looked at first.
+pub fn search(book: &[u8], body: u64, moment: u64, low: usize, high: usize, first: usize) -> Lookup
+    requires { ⌜ passes (now book) ≡ true ⌝ }
+    requires { ⌜ Narrowed (now book) body moment low high first ⌝ }
+    ensures { λ r. ⌜ r ≡ lookup (now (book .entry)) body moment ⌝ }
+{
+    let mut low = low;
+    let mut high = high;
+    let mut probe = first;
+    while low < high {
+        let stand = stand_at(book, probe, body, moment);
+        match stand {
+            Stand::Covered => return Lookup::Entry(probe),
+            Stand::Past => low = probe + 1,
+            Stand::Before => high = probe,
+        }
+        probe = low + (high - low) / 2;
+    }
+    Lookup::Nothing
+}

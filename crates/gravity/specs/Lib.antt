@@ -1,0 +1,3 @@
+pub mod Pull
+pub mod Acceleration
+pub mod Sight

@@ -1,0 +1,34 @@
+-- From what the acceleration under the looked-up bodies answers to what document 01's acceleration answers, stage by stage. Assumes nothing.
+use mathlib.Core.List.{List}
+use mathlib.Core.Path.{_≡_, refl, sym, ap, _∙_}
+use Prim.Native.Nat.{ℕ}
+use Rattle.state.specs.declared.Vector.{Vector}
+use Rattle.state.specs.declared.Setting.{Setting}
+use Rattle.gravity.specs.Acceleration.{accelerationAt}
+use Rattle.gravity.specs.Sight.{sights, accelerationBy}
+use Rattle.gravity.specs.declared.AccelerationAnswer.{AccelerationAnswer}
+use Rattle.gravity.specs.declared.AccelerationAnswer.the-variants.{Is, Refused}
+use Rattle.gravity.specs.declared.Sights.{Sights}
+use Rattle.gravity.proofs.Under.{underIs}
+use Rattle.motion.specs.Step.{Moved, Off, andThen}
+use Rattle.motion.specs.Kept.{kept}
+use Rattle.motion.specs.declared.Stepped.{Stepped}
+use Rattle.motion.specs.declared.Stepped.the-variants as stepped
+
+-- p is the stage's position P, sky the bodies at its moment, r what the acceleration under them answered
+pub answered : (b : List ℕ) (s : Setting) (t : ℕ) (P p : Vector) (sky : Sights) (r x : AccelerationAnswer)
+    → p ≡ P → sky ≡ sights b s t → r ≡ accelerationBy sky (s .earth) p → r ≡ x → accelerationAt b s t P ≡ x
+answered b s t P p sky r x place seen by is =
+    sym (underIs b s t P)
+    ∙ ap (λ (k : Sights). accelerationBy k (s .earth) P) (sym seen)
+    ∙ ap (accelerationBy sky (s .earth)) (sym place)
+    ∙ sym by
+    ∙ is
+
+pub goesOn : (q : AccelerationAnswer) (a : Vector) (next : Vector → Moved) (sky : Sights) (r : Stepped)
+    → q ≡ Is a → r ≡ kept sky (next a) → r ≡ kept sky (andThen q next)
+goesOn q a next sky r e h = h ∙ sym (ap (λ (x : AccelerationAnswer). kept sky (andThen x next)) e)
+
+pub leaves : (q : AccelerationAnswer) (k : ℕ) (next : Vector → Moved) (sky : Sights)
+    → q ≡ Refused k → stepped.Off k ≡ kept sky (andThen q next)
+leaves q k next sky e = sym (ap (λ (x : AccelerationAnswer). kept sky (andThen x next)) e)

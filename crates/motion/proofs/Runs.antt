@@ -1,0 +1,47 @@
+-- The run over any step f: its four laws, by the state where it stands. Assumes nothing.
+use mathlib.Core.Bool.{Bool, true, false}
+use mathlib.Core.Path.{_≡_, refl, sym, ap, _∙_}
+use Prim.Native.Nat.{ℕ, zero, suc, _+_, _-_, _<_}
+use native.Mathlib.Nat.{add-zero}
+use native.Mathlib.Omega.{arith}
+use borrow.Author.Tests.{eq-eqb, ne-eqb}
+use Rattle.basis.specs.Choice.{if_then_else_}
+use Rattle.state.specs.declared.State.{State}
+use Rattle.motion.specs.Step.{Moved, On, Off}
+use Rattle.motion.specs.Run.{Reached, ended, counted, atTarget, afterwards, run}
+use Rattle.motion.specs.Kept.{countedBy}
+use Rattle.motion.specs.declared.Outcome.the-variants.{Arrived, Going, Refused}
+
+module _ (f : State → Moved) (target : ℕ) (s : State) where
+  pub runArrived : (budget : ℕ) → s .moment ≡ target → run f target budget s ≡ ended Arrived s
+  unfolding run
+  runArrived zero e = rw (eq-eqb _ _ e)
+  runArrived (suc budget) e = rw (eq-eqb _ _ e)
+
+  module _ (short : s .moment ≡ target → ⊥) where
+    pub runGoing : run f target 0 s ≡ ended Going s
+    unfolding run
+    runGoing = rw (ne-eqb _ _ short)
+
+    pub runRefused : (budget k : ℕ) → f s ≡ Off k → run f target (suc budget) s ≡ ended (Refused k) s
+    unfolding run
+    runRefused budget k e = rw (ne-eqb _ _ short, e)
+
+    pub runOn : (budget : ℕ) (next : State) → f s ≡ On next → run f target (suc budget) s ≡ counted (run f target budget next)
+    unfolding run
+    runOn budget next e = rw (ne-eqb _ _ short, e)
+
+-- ---- counting
+
+sameSteps : (r : Reached) (n m : ℕ) → n ≡ m
+    → _≡_ {A = Reached} record { outcome = r .outcome; steps = n; state = r .state } record { outcome = r .outcome; steps = m; state = r .state }
+sameSteps r n m e = ap (λ (k : ℕ). record { outcome = r .outcome; steps = k; state = r .state }) e
+
+pub countNone : (r : Reached) → r ≡ countedBy 0 r
+countNone r = sameSteps r (r .steps) (0 + r .steps) (omega arith)
+
+pub countOne : (n : ℕ) (r : Reached) → countedBy n (counted r) ≡ countedBy (n + 1) r
+countOne n r = sameSteps r (n + (r .steps + 1)) (n + 1 + r .steps) (omega arith)
+
+pub countEnded : (n : ℕ) (r : Reached) → r .steps ≡ 0 → countedBy n r ≡ record { outcome = r .outcome; steps = n; state = r .state }
+countEnded n r e = sameSteps r (n + r .steps) n (omega arith)

@@ -1,0 +1,109 @@
+-- The loop over the steps: how it starts, goes on and ends, in terms of `Walking`. Assumes nothing.
+use mathlib.Core.List.{List}
+use mathlib.Core.Path.{_≡_, refl, sym, ap, _∙_}
+use Prim.Native.Nat.{ℕ, zero, suc, _+_, _-_, _*_, _/_, _%_, _≤_, _<_}
+use native.Mathlib.Nat.{suc-mul, zero-mul}
+use native.Mathlib.Omega.{arith}
+use borrow.Author.Tests.{ne-eqb}
+use Rattle.basis.specs.Limits.{endOfTime}
+use Rattle.state.specs.declared.State.{State}
+use Rattle.state.specs.declared.Setting.{Setting}
+use Rattle.gravity.specs.Sight.{sights, sightOf, listed}
+use Rattle.gravity.specs.declared.Sights.{Sights}
+use Rattle.gravity.specs.declared.Guesses.{Guesses}
+use Rattle.gravity.proofs.Under.{allClear, seenEntry}
+use Rattle.motion.specs.Step.{Moved, On, Off, step}
+use Rattle.motion.specs.Run.{Reached, ended, run, withinSteps, guessesAt, guessesAfter, withGuesses}
+use Rattle.motion.specs.Kept.{kept, skyAfter, guessesFrom, countedBy, MayWalk, Walking}
+use Rattle.motion.specs.declared.RunAnswer.{RunAnswer}
+use Rattle.motion.specs.declared.Outcome.{Outcome}
+use Rattle.motion.specs.declared.Outcome.the-variants.{Arrived, Going, Refused}
+use Rattle.motion.specs.declared.Stepped.{Stepped}
+use Rattle.motion.specs.declared.Stepped.the-variants as stepped
+use Rattle.motion.proofs.Allowed.{away}
+use Rattle.motion.proofs.OneStep.{Done, done}
+use Rattle.motion.proofs.Runs.{runArrived, runGoing, runRefused, runOn, countNone, countOne, countEnded}
+
+-- ---- one step nearer to the target
+
+pub oneLess : (t h left target : ℕ) → (t ≡ target → ⊥) → t + left * h ≡ target → (k : ℕ) × (t + h + k * h ≡ target)
+oneLess t h zero target short e = absurd (short (let z = zero-mul h in omega arith))
+oneLess t h (suc left) target short e = (left, let m = suc-mul left h in omega arith)
+
+-- ---- the guesses after a step
+
+pub guessesSeen : (b : List ℕ) (s : Setting) (t : ℕ) (given : Guesses) → Rattle.gravity.specs.Sight.refusalOf (listed (sights b s t)) ≡ 0
+    → guessesFrom (sights b s t) given ≡ guessesAt b s t given
+unfolding sights guessesAt
+guessesSeen b s t given clear =
+    let all = allClear (listed (sights b s t)) clear in
+    λ i.
+    record {
+      moon = seenEntry b 2 (s .moon) t (given .moon) (all .0) i;
+      sun = seenEntry b 3 (s .sun) t (given .sun) (all .1 .0) i;
+      venus = seenEntry b 4 (s .venus) t (given .venus) (all .1 .1 .0) i;
+      mars = seenEntry b 5 (s .mars) t (given .mars) (all .1 .1 .1 .0) i;
+      jupiter = seenEntry b 6 (s .jupiter) t (given .jupiter) (all .1 .1 .1 .1 .0) i;
+    }
+
+-- ---- what a step handed back
+
+pub record HandedOn (sky : Sights) (m : Moved) (next : State) (seen : Sights) : Type 0 where
+  pub on : m ≡ On next
+  pub at : seen ≡ sky
+
+pub handedOn : (sky : Sights) (m : Moved) (next : State) (seen : Sights) → stepped.On next seen ≡ kept sky m → HandedOn sky m next seen
+handedOn sky (On s) next seen e = record { on = cc; at = cc }
+handedOn sky (Off k) next seen e = let z : _≡_ {A = ℕ} 0 1 = cc in absurd (omega arith)
+
+pub handedOff : (sky : Sights) (m : Moved) (k : ℕ) → stepped.Off k ≡ kept sky m → m ≡ Off k
+handedOff sky (On s) k e = let z : _≡_ {A = ℕ} 0 1 = cc in absurd (omega arith)
+handedOff sky (Off j) k e = cc
+
+module _ (b : List ℕ) (setting : Setting) (start : State) (h target budget : ℕ) (given : Guesses) where
+  pub walkStarts : MayWalk b start h target → (sky : Sights) → sky ≡ sights b setting (start .moment)
+      → Walking b setting start h target budget given start sky given 0
+  walkStarts may sky e =
+      record {
+        within = omega arith;
+        rest = countNone _ ∙ ap (λ (k : ℕ). countedBy 0 (run (step b setting h) target k start)) (omega arith);
+        seen = e;
+        guess = refl;
+        left = (target - start .moment) / h;
+        reach = away (start .moment) h target (may .reachable);
+      }
+
+  module _ (now : State) (sky : Sights) (guesses : Guesses) (n : ℕ) (w : Walking b setting start h target budget given now sky guesses n) where
+    pub walkIn : target < endOfTime → now .moment < endOfTime
+    walkIn e = let r = w .reach in omega arith
+
+    pub walkEnds : (o : Outcome) → run (step b setting h) target (budget - n) now ≡ ended o now
+        → record { outcome = o; steps = n; state = now; guesses = guesses } ≡ withGuesses b setting given (run (step b setting h) target budget start)
+    walkEnds o e =
+        sym
+        (ap (withGuesses b setting given) (w .rest ∙ ap (countedBy n) e ∙ countEnded n (ended o now) refl)
+        ∙ ap (λ (g : Guesses). record { outcome = o; steps = n; state = now; guesses = g }) (sym (w .guess)))
+
+    pub walkGoesOn : (next : State) (seen : Sights) → n < budget → (now .moment ≡ target → ⊥)
+        → stepped.On next seen ≡ kept (skyAfter b setting h now) (step b setting h now)
+        → Walking b setting start h target budget given next seen (guessesFrom seen given) (n + 1)
+    walkGoesOn next seen room short e =
+        let handed = handedOn (skyAfter b setting h now) (step b setting h now) next seen e in
+        let did = done b setting h now next (handed .on) in
+        let k = oneLess (now .moment) h (w .left) target short (w .reach) in
+        record {
+          within = omega arith;
+          rest =
+              w .rest
+              ∙ ap (λ (m : ℕ). countedBy n (run (step b setting h) target m now)) (omega arith)
+              ∙ ap (countedBy n) (runOn (step b setting h) target now short (budget - (n + 1)) next (handed .on))
+              ∙ countOne n (run (step b setting h) target (budget - (n + 1)) next);
+          seen = handed .at ∙ ap (sights b setting) (sym (did .moment));
+          guess =
+              ap (λ (s : Sights). guessesFrom s given) (handed .at)
+              ∙ guessesSeen b setting (now .moment + h) given (did .clear)
+              ∙ ap (λ (t : ℕ). guessesAt b setting t given) (sym (did .moment))
+              ∙ sym (rw (ne-eqb (n + 1) 0 (λ z. absurd (omega arith))));
+          left = k .0;
+          reach = ap (λ (t : ℕ). t + k .0 * h) (did .moment) ∙ k .1;
+        }

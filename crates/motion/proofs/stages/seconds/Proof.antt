@@ -1,0 +1,17 @@
+-- `motion::stages::seconds` meets its contract. Assumes nothing.
+use mathlib.Core.Path.{refl}
+use lib.Ieee.{ofBits, ofInt, round}
+use Rattle.motion.specs.Step.{stepH}
+use borrow.Author.Needs.{needs}
+use Rattle.motion.proofs.stages.seconds.Statement.{statement}
+use Rattle.motion.proofs.stages.seconds.Tie as tie
+
+int-to-float-result : tie.Need-int-to-float-result
+int-to-float-result c = search needs
+
+returns : tie.Need-returns
+unfolding stepH ofBits ofInt round
+returns c = refl
+
+pub seconds-spec : {M : Type 1} → statement M
+seconds-spec = tie.close (tie.spec int-to-float-result returns)

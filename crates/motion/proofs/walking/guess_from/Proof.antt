@@ -1,0 +1,12 @@
+-- `motion::walking::guess_from` meets its contract. Assumes nothing.
+use Rattle.motion.proofs.walking.guess_from.Statement.{statement}
+use Rattle.motion.proofs.walking.guess_from.Tie as tie
+
+returns : tie.Need-returns
+returns c = rw (c .if1 .taken)
+
+returns-2 : tie.Need-returns-2
+returns-2 c = rw (c .if1 .left)
+
+pub guess-from-spec : {M : Type 1} → statement M
+guess-from-spec = tie.close (tie.spec returns returns-2)

@@ -1,0 +1,118 @@
+-- `motion::walking::walk_on` meets its contract: at the loop's test the rest of the run starts from now (`Walking`). The measure is
+-- what is left of the budget. Assumes nothing.
+use mathlib.Core.Path.{_≡_, sym, ap, _∙_}
+use Prim.Native.Nat.{ℕ, suc, _+_, _-_, _≤_, _<_}
+use native.Mathlib.Omega.{arith}
+use borrow.Author.Needs.{needs}
+use denote.Ref.{now}
+use Rattle.motion.specs.Step.{step}
+use Rattle.motion.specs.Run.{run}
+use Rattle.motion.specs.Kept.{Walking}
+use Rattle.motion.specs.declared.Outcome.the-variants.{Arrived, Going, Refused}
+use Rattle.motion.proofs.Runs.{runArrived, runGoing, runRefused}
+use Rattle.motion.proofs.Walked.{handedOff, walkStarts, walkIn, walkEnds, walkGoesOn}
+use Rattle.motion.proofs.walking.walk_on.Statement.{statement}
+use Rattle.motion.proofs.walking.walk_on.Tie as tie
+
+oneMore : (n budget : ℕ) → n < budget → budget - n ≡ suc (budget - (n + 1))
+oneMore n budget h = omega arith
+
+noMore : (n budget : ℕ) → budget ≤ n → budget - n ≡ 0
+noMore n budget h = omega arith
+
+abbrev Inv-loop : tie.InvT-loop
+Inv-loop book setting h target budget given sky₀ now₀ guesses₀ n₀ sky now guesses n =
+    Walking book setting now₀ h target budget given now sky guesses n
+
+abbrev μ-loop : tie.MeasureT-loop
+μ-loop book setting h target budget given sky₀ now₀ guesses₀ n₀ sky now guesses n = budget - n
+
+sights-at-requires : tie.Need-sights-at-requires Inv-loop μ-loop
+sights-at-requires c κs = c .before .pre .pass
+
+loop-holds : tie.Need-loop-holds Inv-loop μ-loop
+loop-holds c =
+    let x = c .before .before .args in
+    let b = now (x .book) in
+    walkStarts b (x .setting) (x .start) (x .h) (x .target) (x .budget) (x .given) (c .before .before .pre) _ (c .sights-at .ensures)
+
+returns : tie.Need-returns Inv-loop μ-loop
+returns c =
+    let x = c .before .before .before .before .before .before .args in
+    let b = now (x .book) in
+    let l = c .before .before .before .loop in
+    walkEnds b (x .setting) (x .start) (x .h) (x .target) (x .budget) (x .given) (l .now) (l .sky) (l .guesses) (l .n) (l .inv) Arrived (runArrived (step b (x .setting) (x .h)) (x .target) (l .now) (x .budget - l .n) (c .if1 .taken))
+
+step-under-requires : tie.Need-step-under-requires Inv-loop μ-loop
+step-under-requires c κs =
+    let x = c .before .before .before .before .before .before .args in
+    let l = c .before .before .before .loop in
+    ((c .before .before .before .before .before .before .pre .pass, walkIn (now (x .book)) (x .setting) (x .start) (x .h) (x .target) (x .budget) (x .given) (l .now) (l .sky) (l .guesses) (l .n) (l .inv) (c .before .before .before .before .before .before .pre .ends)), l .inv .seen)
+
+enum-known-stepped : tie.Need-enum-known-stepped Inv-loop μ-loop
+enum-known-stepped c = c .match .keys1
+
+guesses-from-requires : tie.Need-guesses-from-requires Inv-loop μ-loop
+guesses-from-requires c κs = tt
+
+add-n : tie.Need-add-n Inv-loop μ-loop
+add-n c = omega (arith, c .before .before .before .before .before .before .before .before .before .before .before .fits .budget)
+
+loop-less : tie.Need-loop-less Inv-loop μ-loop
+loop-less c = omega arith
+
+loop-again : tie.Need-loop-again Inv-loop μ-loop
+loop-again c =
+    let x = c .before .before .before .before .before .before .before .before .before .before .before .args in
+    let b = now (x .book) in
+    let l = c .before .before .before .before .before .before .before .before .loop in
+    rw (c .guesses-from .ensures) (walkGoesOn b (x .setting) (x .start) (x .h) (x .target) (x .budget) (x .given) (l .now) (l .sky) (l .guesses) (l .n) (l .inv) _ _ (c .before .before .before .before .before .before .before .loop-test .taken) (c .before .before .before .before .before .if1 .left) (sym (c .before .before .stepped .given .1) ∙ c .before .before .before .before .step-under .ensures))
+
+enum-known-stepped-2 : tie.Need-enum-known-stepped-2 Inv-loop μ-loop
+enum-known-stepped-2 c = c .match .keys2
+
+returns-2 : tie.Need-returns-2 Inv-loop μ-loop
+returns-2 c =
+    let x = c .before .before .before .before .before .before .before .before .before .before .args in
+    let b = now (x .book) in
+    let l = c .before .before .before .before .before .before .before .loop in
+    let off = handedOff _ _ _ (sym (c .before .stepped2 .given .1) ∙ c .before .before .before .step-under .ensures) in
+    walkEnds b (x .setting) (x .start) (x .h) (x .target) (x .budget) (x .given) (l .now) (l .sky) (l .guesses) (l .n) (l .inv) (Refused _)
+    (ap (λ (k : ℕ). run (step b (x .setting) (x .h)) (x .target) k (l .now)) (oneMore (l .n) (x .budget) (c .before .before .before .before .before .before .loop-test .taken))
+    ∙ runRefused (step b (x .setting) (x .h)) (x .target) (l .now) (c .before .before .before .before .if1 .left) (x .budget - (l .n + 1)) _ off)
+
+returns-3 : tie.Need-returns-3 Inv-loop μ-loop
+returns-3 c =
+    let x = c .before .before .before .before .before .before .args in
+    let b = now (x .book) in
+    let l = c .before .before .before .loop in
+    walkEnds b (x .setting) (x .start) (x .h) (x .target) (x .budget) (x .given) (l .now) (l .sky) (l .guesses) (l .n) (l .inv) Arrived (runArrived (step b (x .setting) (x .h)) (x .target) (l .now) (x .budget - l .n) (c .if2 .taken))
+
+returns-4 : tie.Need-returns-4 Inv-loop μ-loop
+returns-4 c =
+    let x = c .before .before .before .before .before .before .args in
+    let b = now (x .book) in
+    let l = c .before .before .before .loop in
+    walkEnds b (x .setting) (x .start) (x .h) (x .target) (x .budget) (x .given) (l .now) (l .sky) (l .guesses) (l .n) (l .inv) Going
+    (ap (λ (k : ℕ). run (step b (x .setting) (x .h)) (x .target) k (l .now)) (noMore (l .n) (x .budget) (c .before .before .loop-test .left))
+    ∙ runGoing (step b (x .setting) (x .h)) (x .target) (l .now) (c .if2 .left))
+
+pub walk-on-spec : {M : Type 1} → statement M
+walk-on-spec =
+    tie.close
+    (tie.spec
+    Inv-loop
+    μ-loop
+    sights-at-requires
+    loop-holds
+    returns
+    step-under-requires
+    enum-known-stepped
+    guesses-from-requires
+    add-n
+    loop-less
+    loop-again
+    enum-known-stepped-2
+    returns-2
+    returns-3
+    returns-4)

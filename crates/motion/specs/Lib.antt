@@ -1,0 +1,5 @@
+pub mod Step
+pub mod Walk
+pub mod Run
+pub mod Kept
+pub mod Journey

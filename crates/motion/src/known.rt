@@ -1,0 +1,38 @@
+// One step for a book that is known to pass: not a public call, but what the crates above step with once a run's checks are made.
+
+use crate::Stepped;
+use crate::stages::second_stage;
+use gravity::AccelerationAnswer;
+use gravity::Guesses;
+use gravity::Sights;
+use gravity::known::acceleration_under;
+use state::Setting;
+use state::State;
+ghost use mathlib.Core.Bool.{true};
+ghost use mathlib.Core.Path.{_≡_};
+ghost use Prim.Native.Nat.{_<_};
+ghost use Rattle.book.specs.Passes.{passes};
+ghost use Rattle.basis.specs.Limits.{endOfTime};
+ghost use Rattle.gravity.specs.Sight.{sights};
+ghost use Rattle.motion.specs.Step.{step};
+ghost use Rattle.motion.specs.Kept.{kept, skyAfter};
+
+// One step from s, whose bodies at its own moment are known.
+pub fn step_under(
+    book: &[u8],
+    setting: Setting,
+    s: State,
+    h: u32,
+    g: Guesses,
+    sky: Sights,
+) -> Stepped
+    requires { ⌜ (passes (now book) ≡ true) × (s .moment < endOfTime) ⌝ }
+    requires { ⌜ sky ≡ sights (now book) setting (s .moment) ⌝ }
+    ensures { λ r. ⌜ r ≡ kept (skyAfter (now (book .entry)) setting h s) (step (now (book .entry)) setting h s) ⌝ }
+{
+    let answer = acceleration_under(sky, setting.earth, state::position_of(s));
+    match answer {
+        AccelerationAnswer::Is(a1) => second_stage(book, setting, s, h, g, a1),
+        AccelerationAnswer::Refused(k) => Stepped::Off(k),
+    }
+}

@@ -1,0 +1,73 @@
+// The motion of a spacecraft: steps of a fixed length under a book of bodies, run in portions.
+
+pub mod checks;
+pub mod known;
+mod stages;
+mod walking;
+
+use basis::END_OF_TIME;
+use gravity::Guesses;
+use gravity::Sights;
+use state::Setting;
+use state::State;
+ghost use mathlib.Core.Path.{_≡_};
+ghost use Rattle.motion.specs.Run.{runAnswer, singleStepAnswer};
+
+pub enum Outcome {
+    Arrived,
+    Going,
+    Refused(u64),
+}
+
+pub struct RunAnswer {
+    pub outcome: Outcome,
+    pub steps: u32,
+    pub state: State,
+    pub guesses: Guesses,
+}
+
+// A step done, with the bodies at its end, or the number by which it is refused.
+pub enum Stepped {
+    On(State, Sights),
+    Off(u64),
+}
+
+// Steps of h milliseconds from a state to a target, as many as the budget allows.
+pub fn run(
+    book: &[u8],
+    setting: Setting,
+    state: State,
+    h: u32,
+    target: u64,
+    budget: u32,
+    guesses: Guesses,
+) -> RunAnswer
+    ensures { λ r. ⌜ r ≡ runAnswer (now (book .entry)) setting state h target budget guesses ⌝ }
+{
+    let refusal = checks::start_refusal(book, setting, state, h, target);
+    if refusal == 0 {
+        return walking::walk_on(book, setting, state, h, target, budget, guesses);
+    }
+    RunAnswer {
+        outcome: Outcome::Refused(refusal),
+        steps: 0,
+        state,
+        guesses,
+    }
+}
+
+// One step. A moment from the end of time on is refused as such, so that its target is of no account.
+pub fn single_step(
+    book: &[u8],
+    setting: Setting,
+    state: State,
+    h: u32,
+    guesses: Guesses,
+) -> RunAnswer
+    ensures { λ r. ⌜ r ≡ singleStepAnswer (now (book .entry)) setting state h guesses ⌝ }
+{
+    if state.moment < END_OF_TIME {
+        return run(book, setting, state, h, state.moment + h as u64, 1, guesses);
+    }
+    run(book, setting, state, h, END_OF_TIME, 1, guesses)
+}
