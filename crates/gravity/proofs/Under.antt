@@ -22,7 +22,7 @@ use Rattle.book.specs.declared.PositionAnswer.{PositionAnswer}
 use Rattle.book.specs.declared.PositionAnswer.the-variants as position
 use Rattle.gravity.specs.Pull.{plus, minus, g, sound}
 use Rattle.gravity.specs.Acceleration.{Body, Sky, Bodies, Hidden, Listed, standing, seen, skyOf, sky, less, allSound, settled, finished, accelerationAt}
-use Rattle.gravity.specs.Sight.{pullOf, blank, sightAt, sightBy, sightOf, sights, orLater, refusalOf, takeOff, lessBy, lessAll, vectorOf, startBy, listed, settledBy, finishedBy, accelerationBy, entryOr}
+use Rattle.gravity.specs.Sight.{pullOf, blank, sightAt, sightBy, sightOf, sights, orLater, refusalOf, takenOff, lessBy, lessAll, vectorOf, startBy, listed, settledBy, finishedBy, accelerationBy, entryOr}
 use Rattle.gravity.specs.declared.AccelerationAnswer.{AccelerationAnswer}
 use Rattle.gravity.specs.declared.AccelerationAnswer.the-variants.{Is, Refused}
 use Rattle.gravity.specs.declared.Pull.{Pull}
@@ -64,7 +64,7 @@ looked b number m t = go (used m) refl
 
 -- ---- body by body
 
-lessUsed : (P : Vector) (sum : Pull) (s : Sight) → used (s .m) ≡ true → lessBy P sum s ≡ takeOff P sum s
+lessUsed : (P : Vector) (sum : Pull) (s : Sight) → used (s .m) ≡ true → lessBy P sum s ≡ takenOff sum (pullOf (minus P (s .place)) (s .m)) (s .pull)
 unfolding lessBy
 lessUsed P sum s u = rw u
 
@@ -111,7 +111,7 @@ module _ (b : List ℕ) (t : ℕ) (P : Vector) where
   oneMore body rest sum later s (there R i u e l) =
       rw (u, e)
       (ap (λ (p : Pull). finishedBy P p (sightsOf b t rest)) (lessUsed P sum s u)
-      ∙ later (takeOff P sum s)
+      ∙ later (takenOff sum (pullOf (minus P (s .place)) (s .m)) (s .pull))
       ∙ sym (onward P (sum .sound) (vectorOf sum) (body .m) R (skyOf b t rest)))
 
   byList : (bodies : List Listed) (sum : Pull)
@@ -121,7 +121,7 @@ module _ (b : List ℕ) (t : ℕ) (P : Vector) where
   byList (body ∷ rest) sum = oneMore body rest sum (byList rest) _ (looked b (body .number) (body .m) t)
 
 pub underIs : (b : List ℕ) (s : Setting) (t : ℕ) (P : Vector) → accelerationBy (sights b s t) (s .earth) P ≡ accelerationAt b s t P
-unfolding accelerationBy sights accelerationAt sky sightsOf
+unfolding accelerationBy sights accelerationAt sky sightsOf pullOf
 underIs b s t P =
     byList b t P
     (record { number = 2; m = s .moon }

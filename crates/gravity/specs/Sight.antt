@@ -2,7 +2,7 @@
 use mathlib.Core.Bool.{Bool, true, _&&_}
 use mathlib.Core.List.{List, [], _∷_}
 use Prim.Native.Nat.{ℕ}
-use lib.Ieee.{Float}
+use lib.Ieee.{Float, neg}
 use Rattle.basis.specs.Choice.{if_then_else_, _=?_}
 use Rattle.basis.specs.Floats.{_⊕_, _⊖_, _⊗_, _⊘_, zero64}
 use Rattle.state.specs.State.{finiteVector, used}
@@ -13,11 +13,12 @@ use Rattle.book.specs.Series.{place}
 use Rattle.book.specs.declared.Place.{Place}
 use Rattle.book.specs.declared.Lookup.{Lookup}
 use Rattle.book.specs.declared.Lookup.the-variants.{Entry, Nothing}
-use Rattle.gravity.specs.Pull.{g, sound, divisible, minus, negated}
+use Rattle.gravity.specs.Pull.{g, sound, divisible, minus}
 use Rattle.gravity.specs.Acceleration.{standing, settled}
 use Rattle.gravity.specs.declared.AccelerationAnswer.{AccelerationAnswer}
 use Rattle.gravity.specs.declared.AccelerationAnswer.the-variants.{Refused}
 use Rattle.gravity.specs.declared.Pull.{Pull}
+use Rattle.gravity.specs.declared.ThreePulls.{ThreePulls}
 use Rattle.gravity.specs.declared.Sight.{Sight}
 use Rattle.gravity.specs.declared.Sights.{Sights}
 
@@ -69,19 +70,21 @@ unfoldable pub refusalOf : List Sight → ℕ
 refusalOf [] = 0
 refusalOf (b ∷ rest) = orLater (b .refusal) (refusalOf rest)
 
--- a sum of pulls with one body's taken off
-abbrev pub takeOff : Vector → Pull → Sight → Pull
-takeOff P sum b =
-    let near = pullOf (minus P (b .place)) (b .m) in
+-- a sum of pulls with one body's taken off: what it pulls the craft, and what it pulls the Earth
+abbrev pub takenOff : Pull → Pull → Pull → Pull
+takenOff sum near far =
     record {
-      x = sum .x ⊖ (near .x ⊕ b .pull .x);
-      y = sum .y ⊖ (near .y ⊕ b .pull .y);
-      z = sum .z ⊖ (near .z ⊕ b .pull .z);
-      sound = (sum .sound && near .sound) && b .pull .sound;
+      x = sum .x ⊖ (near .x ⊕ far .x);
+      y = sum .y ⊖ (near .y ⊕ far .y);
+      z = sum .z ⊖ (near .z ⊕ far .z);
+      sound = (sum .sound && near .sound) && far .sound;
     }
 
+abbrev pub lessNear : Pull → Sight → Pull → Pull
+lessNear sum b near = if used (b .m) then takenOff sum near (b .pull) else sum
+
 unfoldable pub lessBy : Vector → Pull → Sight → Pull
-lessBy P sum b = if used (b .m) then takeOff P sum b else sum
+lessBy P sum b = lessNear sum b (pullOf (minus P (b .place)) (b .m))
 
 abbrev pub lessAll : Vector → Pull → List Sight → Pull
 lessAll P sum [] = sum
@@ -91,8 +94,15 @@ abbrev pub vectorOf : Pull → Vector
 vectorOf p = record { x = p .x; y = p .y; z = p .z }
 
 -- minus the Earth's pull, to start with
+abbrev pub opposite : Pull → Pull
+opposite p = record { x = neg (p .x); y = neg (p .y); z = neg (p .z); sound = p .sound }
+
 abbrev pub startBy : Vector → Float → Pull
-startBy P earth = let a = negated (g P earth) in record { x = a .x; y = a .y; z = a .z; sound = sound P }
+startBy P earth = opposite (pullOf P earth)
+
+-- three pulls side by side
+abbrev pub pullsOf : Vector → Float → Vector → Float → Vector → Float → ThreePulls
+pullsOf u a v b w c = record { first = pullOf u a; second = pullOf v b; third = pullOf w c }
 
 abbrev pub listed : Sights → List Sight
 listed s = s .moon ∷ s .sun ∷ s .venus ∷ s .mars ∷ s .jupiter ∷ []

@@ -7,8 +7,8 @@ use crate::Pull;
 use crate::Sight;
 use crate::Sights;
 use crate::pulls::less;
+use crate::pulls::near_sum;
 use crate::pulls::pull;
-use crate::pulls::start;
 use book::Lookup;
 use book::Place;
 use state::Setting;
@@ -144,8 +144,8 @@ pub fn acceleration_under(sky: Sights, earth: f64, p: Vector) -> AccelerationAns
         let venus = sky.venus;
         let mars = sky.mars;
         let jupiter = sky.jupiter;
-        let near = less(p, less(p, start(p, earth), moon), sun);
-        return settle(less(p, less(p, less(p, near, venus), mars), jupiter));
+        let sum = near_sum(p, earth, moon, sun);
+        return settle(less(p, less(p, less(p, sum, venus), mars), jupiter));
     }
     AccelerationAnswer::Refused(refusal)
 }

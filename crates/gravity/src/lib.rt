@@ -22,6 +22,12 @@ pub struct Pull {
     pub sound: bool,
 }
 
+pub struct ThreePulls {
+    pub first: Pull,
+    pub second: Pull,
+    pub third: Pull,
+}
+
 // One body at a moment: refused by a number, or where it stands and how it pulls the Earth.
 pub struct Sight {
     pub refusal: u64,

@@ -2,13 +2,14 @@
 
 use crate::Pull;
 use crate::Sight;
+use crate::ThreePulls;
 use state::Vector;
 ghost use mathlib.Core.Path.{_≡_};
 ghost use mathlib.Core.Bool.{_&&_, not};
 ghost use lib.Ieee.{eq};
 ghost use Rattle.basis.specs.Floats.{zero64};
 ghost use Rattle.gravity.specs.Pull.{divisible, minus};
-ghost use Rattle.gravity.specs.Sight.{pullBy, pullOf, lessBy, startBy};
+ghost use Rattle.gravity.specs.Sight.{pullBy, pullOf, pullsOf, opposite, takenOff, lessNear, lessBy, startBy};
 
 fn both(a: bool, b: bool) -> bool
     ensures { λ r. ⌜ r ≡ (a && b) ⌝ }
@@ -51,15 +52,32 @@ pub fn pull(v: Vector, m: f64) -> Pull
     pull_by(v, m, n, root::square_root(n))
 }
 
-pub fn start(p: Vector, earth: f64) -> Pull
-    ensures { λ r. ⌜ r ≡ startBy p earth ⌝ }
+// Three pulls at once: their roots are worked out side by side, which takes little longer than one.
+fn three_pulls(u: Vector, a: f64, v: Vector, b: f64, w: Vector, c: f64) -> ThreePulls
+    ensures { λ r. ⌜ r ≡ pullsOf u a v b w c ⌝ }
 {
-    let a = pull(p, earth);
+    let n_u = state::square(u);
+    let n_v = state::square(v);
+    let n_w = state::square(w);
+    let roots = root::square_roots(n_u, n_v, n_w);
+    let first = pull_by(u, a, n_u, roots.a);
+    let second = pull_by(v, b, n_v, roots.b);
+    let third = pull_by(w, c, n_w, roots.c);
+    ThreePulls {
+        first,
+        second,
+        third,
+    }
+}
+
+fn turned_round(p: Pull) -> Pull
+    ensures { λ r. ⌜ r ≡ opposite p ⌝ }
+{
     Pull {
-        x: -a.x,
-        y: -a.y,
-        z: -a.z,
-        sound: a.sound,
+        x: -p.x,
+        y: -p.y,
+        z: -p.z,
+        sound: p.sound,
     }
 }
 
@@ -73,6 +91,28 @@ fn difference(u: Vector, v: Vector) -> Vector
     }
 }
 
+fn take_off(sum: Pull, near: Pull, far: Pull) -> Pull
+    ensures { λ r. ⌜ r ≡ takenOff sum near far ⌝ }
+{
+    Pull {
+        x: sum.x - (near.x + far.x),
+        y: sum.y - (near.y + far.y),
+        z: sum.z - (near.z + far.z),
+        sound: both(both(sum.sound, near.sound), far.sound),
+    }
+}
+
+// Takes a body off the sum, where its pull on the craft is known.
+fn less_near(sum: Pull, b: Sight, near: Pull) -> Pull
+    ensures { λ r. ⌜ r ≡ lessNear sum b near ⌝ }
+{
+    if 0.0 < b.m {
+        let far = b.pull;
+        return take_off(sum, near, far);
+    }
+    sum
+}
+
 // Takes a body off the sum: what it pulls the craft at p, and what it pulls the Earth.
 pub fn less(p: Vector, sum: Pull, b: Sight) -> Pull
     ensures { λ r. ⌜ r ≡ lessBy p sum b ⌝ }
@@ -80,13 +120,22 @@ pub fn less(p: Vector, sum: Pull, b: Sight) -> Pull
     if 0.0 < b.m {
         let place = b.place;
         let far = b.pull;
-        let near = pull(difference(p, place), b.m);
-        return Pull {
-            x: sum.x - (near.x + far.x),
-            y: sum.y - (near.y + far.y),
-            z: sum.z - (near.z + far.z),
-            sound: both(both(sum.sound, near.sound), far.sound),
-        };
+        return take_off(sum, pull(difference(p, place), b.m), far);
     }
     sum
+}
+
+// The Earth's pull turned round, less the first two bodies: the three that are almost always used.
+pub fn near_sum(p: Vector, earth: f64, moon: Sight, sun: Sight) -> Pull
+    ensures { λ r. ⌜ r ≡ lessBy p (lessBy p (startBy p earth) moon) sun ⌝ }
+{
+    let moon_place = moon.place;
+    let sun_place = sun.place;
+    let from_moon = difference(p, moon_place);
+    let from_sun = difference(p, sun_place);
+    let near = three_pulls(p, earth, from_moon, moon.m, from_sun, sun.m);
+    let own = near.first;
+    let by_moon = near.second;
+    let by_sun = near.third;
+    less_near(less_near(turned_round(own), moon, by_moon), sun, by_sun)
 }

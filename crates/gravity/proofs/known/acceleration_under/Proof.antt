@@ -1,7 +1,7 @@
 -- `gravity::known::acceleration_under` meets its contract. Assumes nothing.
-use Rattle.gravity.proofs.Under.{clear, refused}
 use mathlib.Core.Path.{sym, _∙_}
 use Rattle.gravity.specs.Sight.{accelerationBy}
+use Rattle.gravity.proofs.Under.{clear, refused}
 use borrow.Author.Needs.{needs}
 use Rattle.gravity.proofs.known.acceleration_under.Statement.{statement}
 use Rattle.gravity.proofs.known.acceleration_under.Tie as tie
@@ -9,8 +9,8 @@ use Rattle.gravity.proofs.known.acceleration_under.Tie as tie
 refusal-of-requires : tie.Need-refusal-of-requires
 refusal-of-requires c κs = search needs
 
-start-requires : tie.Need-start-requires
-start-requires c κs = search needs
+near-sum-requires : tie.Need-near-sum-requires
+near-sum-requires c κs = search needs
 
 less-requires : tie.Need-less-requires
 less-requires c κs = search needs
@@ -21,18 +21,12 @@ less-requires-2 c κs = search needs
 less-requires-3 : tie.Need-less-requires-3
 less-requires-3 c κs = search needs
 
-less-requires-4 : tie.Need-less-requires-4
-less-requires-4 c κs = search needs
-
-less-requires-5 : tie.Need-less-requires-5
-less-requires-5 c κs = search needs
-
 settle-requires : tie.Need-settle-requires
 settle-requires c κs = search needs
 
 returns : tie.Need-returns
 unfolding accelerationBy
-returns c = rw (c .settle .ensures, c .before .less5 .ensures, c .before .before .less4 .ensures, c .before .before .before .less3 .ensures, c .before .before .before .before .less2 .ensures, c .before .before .before .before .before .less .ensures, c .before .before .before .before .before .before .start .ensures) (sym (clear _ _ _ (sym (c .before .before .before .before .before .before .before .before .before .before .before .before .before .refusal-of .ensures) ∙ c .before .before .before .before .before .before .before .before .before .before .before .before .if1 .taken)))
+returns c = rw (c .settle .ensures, c .before .less3 .ensures, c .before .before .less2 .ensures, c .before .before .before .less .ensures, c .before .before .before .before .near-sum .ensures) (sym (clear _ _ _ (sym (c .before .before .before .before .before .before .before .before .before .before .before .refusal-of .ensures) ∙ c .before .before .before .before .before .before .before .before .before .before .if1 .taken)))
 
 returns-2 : tie.Need-returns-2
 unfolding accelerationBy
@@ -43,12 +37,10 @@ acceleration-under-spec =
     tie.close
     (tie.spec
     refusal-of-requires
-    start-requires
+    near-sum-requires
     less-requires
     less-requires-2
     less-requires-3
-    less-requires-4
-    less-requires-5
     settle-requires
     returns
     returns-2)

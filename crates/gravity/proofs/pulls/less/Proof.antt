@@ -10,15 +10,12 @@ difference-requires c κs = search needs
 pull-requires : tie.Need-pull-requires
 pull-requires c κs = search needs
 
-both-requires : tie.Need-both-requires
-both-requires c κs = search needs
-
-both-requires-2 : tie.Need-both-requires-2
-both-requires-2 c κs = search needs
+take-off-requires : tie.Need-take-off-requires
+take-off-requires c κs = search needs
 
 returns : tie.Need-returns
 unfolding lessBy
-returns c = rw (c .both2 .ensures, c .before .both .ensures, c .before .before .before .before .before .before .before .before .before .before .before .pull .ensures, c .before .before .before .before .before .before .before .before .before .before .before .before .difference .ensures, c .before .before .before .before .before .before .before .before .before .before .before .before .before .before .before .if1 .taken)
+returns c = rw (c .take-off .ensures, c .before .pull .ensures, c .before .before .difference .ensures, c .before .before .before .before .before .if1 .taken)
 
 returns-2 : tie.Need-returns-2
 unfolding lessBy
@@ -26,5 +23,4 @@ returns-2 c = rw (c .if1 .left)
 
 pub less-spec : {M : Type 1} → statement M
 less-spec =
-    tie.close
-    (tie.spec difference-requires pull-requires both-requires both-requires-2 returns returns-2)
+    tie.close (tie.spec difference-requires pull-requires take-off-requires returns returns-2)
