@@ -1,0 +1,10 @@
+-- What writing a text at a place of a buffer comes to.
+use Prim.Native.Nat.{ℕ, _+_}
+use mathlib.Core.List.{List, _++_}
+use mathlib.Core.Path.{_≡_}
+use lib.ListN.{length, take}
+
+-- what stood before the place stays, then comes the text, and r is the place after it
+pub record Wrote (before : List ℕ) (at : ℕ) (text after : List ℕ) (r : ℕ) : Type 0 where
+  pub next : r ≡ at + length text
+  pub bytes : take r after ≡ take at before ++ text
