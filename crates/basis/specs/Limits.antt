@@ -1,4 +1,4 @@
--- Document 01, "Time": the limits of moments, days and DUT, in whole milliseconds.
+-- Document 01, "Time": the limits of moments, days and DUT, in whole milliseconds, and of angles, in parts.
 use mathlib.Core.Bool.{Bool}
 use Prim.Native.Nat.{ℕ}
 use Rattle.basis.specs.Choice.{_<?_, _≤?_}
@@ -16,6 +16,10 @@ dayLength = 86_400_000
 
 abbrev pub lastDay : ℕ
 lastDay = 36_524
+
+-- "a circle is 3,600,000,000,000 parts"
+abbrev pub circle : ℕ
+circle = 3_600_000_000_000
 
 -- DUT is "a setting of 0 to 100,000 ms"
 abbrev pub isDUT : ℕ → Bool

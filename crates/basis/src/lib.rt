@@ -8,6 +8,9 @@ pub const END_OF_TIME: u64 = 3_155_760_000_000;
 
 pub const DAY_LENGTH: u64 = 86_400_000;
 
+// An angle's parts in one circle.
+pub const CIRCLE: u64 = 3_600_000_000_000;
+
 pub const LONGEST_DUT: u32 = 100_000;
 
 // Whether x is a number: neither an infinity nor a NaN.

@@ -10,7 +10,8 @@ use native.Mathlib.Omega.{arith}
 use Rattle.book.specs.Contents.{floatOf, offsetOf, sizeOf, startOf, spanOf}
 use Rattle.book.specs.Bytes.{floatAt}
 use Rattle.book.specs.Check.{floatsFinite}
-use Rattle.book.specs.Series.{zeroFloat, Pair, turn, lastTurn, clenshaw, series, listed, blockOf, placeBy, argument, place}
+use Rattle.basis.specs.Floats.{zero64}
+use Rattle.book.specs.Series.{Pair, turn, lastTurn, clenshaw, series, listed, blockOf, placeBy, argument, place}
 use Rattle.book.specs.declared.Place.{Place}
 use Rattle.book.proofs.Below.{every}
 
@@ -18,7 +19,7 @@ abbrev pair : Float → Float → Pair
 pair x y = record { here = x; next = y }
 
 module _ (w : Float) (f : ℕ → Float) where
-  none : (j n : ℕ) → pair zeroFloat zeroFloat ≡ clenshaw w (listed f j (n - n))
+  none : (j n : ℕ) → pair zero64 zero64 ≡ clenshaw w (listed f j (n - n))
   unfolding clenshaw
   none j n = let z : n - n ≡ 0 = omega arith in rw z
 
@@ -39,7 +40,7 @@ module _ (w : Float) (f : ℕ → Float) where
     pub by-y : pair y y-next ≡ clenshaw w (listed f (n + k) (n - k))
     pub by-z : pair z z-next ≡ clenshaw w (listed f (2 * n + k) (n - k))
 
-  pub no-turn : (n : ℕ) → 1 ≤ n → Done n n zeroFloat zeroFloat zeroFloat zeroFloat zeroFloat zeroFloat
+  pub no-turn : (n : ℕ) → 1 ≤ n → Done n n zero64 zero64 zero64 zero64 zero64 zero64
   no-turn n l = record { some = l; within = omega arith; by-x = none n n; by-y = none (n + n) n; by-z = none (2 * n + n) n }
 
   module _ (n k : ℕ) (x x-next y y-next z z-next : Float) (d : Done n k x x-next y y-next z z-next) where

@@ -2,21 +2,20 @@
 use Prim.Native.Nat.{ℕ, zero, suc, _+_, _*_, _<_, _≤_}
 use mathlib.Core.List.{List, [], _∷_}
 use lib.IntN.{pos, _-ℤ_, _*ℤ_}
-use lib.Ieee.{Float, binary64, ofBits, ofInt, add, sub, mul, div}
+use lib.Ieee.{Float, binary64, ofBits, ofInt}
+use Rattle.basis.specs.Floats.{_⊕_, _⊖_, _⊗_, _⊘_, zero64, whole}
 use Rattle.basis.specs.Limits.{endOfTime}
 use Rattle.book.specs.Contents.{sizeOf, startOf, spanOf, coefficient}
 use Rattle.book.specs.declared.Place.{Place}
 
-abbrev pub zeroFloat : Float
-zeroFloat = ofBits binary64 0
-
+-- 2w: the bits are those of 2.0
 abbrev pub twice : Float → Float
-twice w = mul binary64 (ofBits binary64 0x4000_0000_0000_0000) w
+twice w = ofBits binary64 0x4000_0000_0000_0000 ⊗ w
 
 -- "w = (2(t - s) - L) as a float, divided by L"
 unfoldable pub argument : ℕ → ℕ → ℕ → Float
 argument start span t =
-    div binary64 (ofInt binary64 (pos 2 *ℤ (pos t -ℤ pos start) -ℤ pos span)) (ofInt binary64 (pos span))
+    ofInt binary64 (pos 2 *ℤ (pos t -ℤ pos start) -ℤ pos span) ⊘ whole span
 
 -- t lies in the span of an entry that is allowed: what working out `argument` leans on
 pub record InSpan (start span t : ℕ) : Type 0 where
@@ -31,19 +30,19 @@ pub record Pair : Type 0 where
 
 -- "b(k) = ((2w)·b(k+1) - b(k+2)) + c(k)"
 abbrev pub turn : Float → Float → Pair → Pair
-turn w c b = record { here = add binary64 (sub binary64 (mul binary64 (twice w) (b .here)) (b .next)) c; next = b .here }
+turn w c b = record { here = (twice w ⊗ b .here ⊖ b .next) ⊕ c; next = b .here }
 
 -- "starting with two zeros", of the coefficients c(k), c(k+1), .. to the last
 unfoldable pub clenshaw : Float → List Float → Pair
-clenshaw w [] = record { here = zeroFloat; next = zeroFloat }
+clenshaw w [] = record { here = zero64; next = zero64 }
 clenshaw w (c ∷ cs) = turn w c (clenshaw w cs)
 
 -- "value = (w·b(1) - b(2)) + c(0)"
 abbrev pub lastTurn : Float → Float → Pair → Float
-lastTurn w c b = add binary64 (sub binary64 (mul binary64 w (b .here)) (b .next)) c
+lastTurn w c b = (w ⊗ b .here ⊖ b .next) ⊕ c
 
 unfoldable pub series : Float → List Float → Float
-series w [] = zeroFloat
+series w [] = zero64
 series w (c ∷ cs) = lastTurn w c (clenshaw w cs)
 
 -- the coefficients of an entry

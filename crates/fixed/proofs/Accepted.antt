@@ -6,8 +6,8 @@ use native.Mathlib.Nat.{mod-lt}
 use native.Mathlib.Omega.{arith}
 use borrow.Author.Tests.{ltb-true, ltb-false}
 use Rattle.basis.specs.Choice.{if_then_else_, _<?_}
-use Rattle.basis.specs.Limits.{endOfTime, isMoment, isDUT}
-use Rattle.hour.specs.Hour.{circle, utDay, utTime, hourAngle, hourAnswer}
+use Rattle.basis.specs.Limits.{endOfTime, isMoment, isDUT, circle}
+use Rattle.hour.specs.Hour.{utDay, utTime, hourAngle, hourAnswer}
 use Rattle.hour.specs.declared.HourAnswer.the-variants.{Parts, Refused}
 
 pub record Accepted (moment dut parts : ℕ) : Type 0 where

@@ -11,7 +11,8 @@ use Rattle.hour.specs.Hour.{utDay}
 use Rattle.sine.specs.declared.SineCosine.{SineCosine}
 use Rattle.sine.specs.declared.SineCosineAnswer.{SineCosineAnswer}
 use Rattle.sine.specs.declared.SineCosineAnswer.the-variants.{Both}
-use Rattle.sine.specs.Sine.{circle, sineCosine, sineCosineAnswer}
+use Rattle.basis.specs.Limits.{circle}
+use Rattle.sine.specs.Sine.{sineCosine, sineCosineAnswer}
 use Rattle.fixed.specs.declared.EarthFixed.{EarthFixed}
 use Rattle.fixed.specs.declared.FixedAnswer.the-variants.{Fixed, Refused}
 use Rattle.fixed.specs.Fixed.{turn, rate, rotation, turned, finiteFixed, finiteAnswer}

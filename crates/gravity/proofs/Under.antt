@@ -1,5 +1,5 @@
 -- The acceleration under the bodies as they were looked up is document 01's acceleration. Assumes nothing.
-use mathlib.Core.Bool.{Bool, true, false, _&&_}
+use mathlib.Core.Bool.{Bool, true, false, _&&_, and-true, and-assoc}
 use mathlib.Core.List.{List, [], _∷_}
 use mathlib.Core.Path.{_≡_, refl, sym, ap, _∙_}
 use Prim.Native.Nat.{ℕ, zero, suc}
@@ -72,14 +72,6 @@ lessUnused : (P : Vector) (sum : Pull) (s : Sight) → used (s .m) ≡ false →
 unfolding lessBy
 lessUnused P sum s u = rw u
 
-and-true : (a : Bool) → (a && true) ≡ a
-and-true true = refl
-and-true false = refl
-
-and-assoc : (a b c : Bool) → (a && (b && c)) ≡ ((a && b) && c)
-and-assoc true b c = refl
-and-assoc false b c = refl
-
 -- a body that is there: the rest goes on from the sum with this body taken off
 onward : (P : Vector) (ok : Bool) (a : Vector) (m : Float) (R : Place) (later : Sky)
     → finished P ok a (seen m (position.At R) later)
@@ -88,7 +80,7 @@ onward P ok a m R (Bodies bs) =
     let A = sound (minus P (standing R)) in
     let B = sound (standing R) in
     ap (λ (t : Bool). settled t (less P (minus a (plus (g (minus P (standing R)) m) (g (standing R) m))) bs))
-    (and-assoc ok (A && B) (allSound P bs) ∙ ap (λ (t : Bool). t && allSound P bs) (and-assoc ok A B))
+    (sym (and-assoc ok (A && B) (allSound P bs)) ∙ ap (λ (t : Bool). t && allSound P bs) (sym (and-assoc ok A B)))
 onward P ok a m R (Hidden k) = refl
 
 sightsOf : List ℕ → ℕ → List Listed → List Sight

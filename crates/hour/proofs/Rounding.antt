@@ -4,7 +4,8 @@ use mathlib.Core.Path.{_≡_, ap, sym, _∙_}
 use Prim.Native.Nat.{ℕ, _+_, _*_, _/_, _%_, _≤_, _<_}
 use native.Mathlib.Nat.{div-add-mod', mul-add-div-right, mul-add-mod-self-right, div-div-eq-div-mul, div-mul-le-self, lt-div-mul-add, mod-lt, mul-comm}
 use native.Mathlib.Omega.{arith}
-use Rattle.hour.specs.Hour.{circle, intoCircle}
+use Rattle.basis.specs.Limits.{circle}
+use Rattle.hour.specs.Hour.{intoCircle}
 
 -- the answer's range
 pub into-circle-below : (numerator denominator : ℕ) → intoCircle numerator denominator < circle

@@ -7,9 +7,9 @@ use native.Mathlib.Omega.{arith}
 use Rattle.hour.specs.Division.{division}
 use Rattle.hour.specs.declared.Division.{Division}
 use Rattle.basis.specs.Choice.{if_then_else_, _<?_}
-use Rattle.basis.specs.Limits.{isMoment, isDUT, dayLength, lastDay}
+use Rattle.basis.specs.Limits.{isMoment, isDUT, dayLength, lastDay, circle}
 use Rattle.hour.specs.declared.HourAnswer.the-variants.{Parts, Refused}
-use Rattle.hour.specs.Hour.{circle, utDay, utTime, slowing, denominator, numerator, hourAngle, hourAnswer}
+use Rattle.hour.specs.Hour.{utDay, utTime, slowing, denominator, numerator, hourAngle, hourAnswer}
 use Rattle.hour.proofs.Rounding.{rounded-once, into-circle-below}
 use Rattle.hour.proofs.LongDivision.{started, quotient-below}
 

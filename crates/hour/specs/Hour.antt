@@ -2,13 +2,9 @@
 use mathlib.Core.Bool.{not}
 use Prim.Native.Nat.{ℕ, _+_, _-_, _*_, _/_, _%_, _^_}
 use Rattle.basis.specs.Choice.{if_then_else_, _<?_}
-use Rattle.basis.specs.Limits.{isMoment, isDUT, dayLength}
+use Rattle.basis.specs.Limits.{isMoment, isDUT, dayLength, circle}
 use Rattle.hour.specs.declared.HourAnswer.{HourAnswer}
 use Rattle.hour.specs.declared.HourAnswer.the-variants.{Parts, Refused}
-
--- "a circle is 3,600,000,000,000 parts"
-abbrev pub circle : ℕ
-circle = 3_600_000_000_000
 
 -- "UT is ephemeris time less DUT": its whole days, and the milliseconds of its day
 abbrev pub utDay : ℕ → ℕ → ℕ

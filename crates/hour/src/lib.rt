@@ -1,5 +1,6 @@
 // The hour angle of a moment, in parts of 10^-10 degree.
 
+use basis::CIRCLE;
 ghost use mathlib.Core.Path.{_≡_};
 ghost use Prim.Native.Nat.{_*_, _/_, _<_, _≤_, _^_};
 ghost use Rattle.basis.specs.Limits.{dayLength, lastDay};
@@ -10,8 +11,6 @@ pub enum HourAnswer {
     Parts(u64),
     Refused(u64),
 }
-
-pub const CIRCLE: u64 = 3_600_000_000_000;
 
 struct Division {
     quotient: u64,

@@ -1,5 +1,6 @@
 // Sine and cosine of an angle in parts of 10^-10 degree, by octants and two polynomials.
 
+use basis::CIRCLE;
 ghost use mathlib.Core.Path.{_≡_};
 ghost use Prim.Native.Nat.{_≤_, _<_};
 ghost use Rattle.sine.specs.Sine.{within, angle, S, C, column, sineCosineAnswer};
@@ -13,8 +14,6 @@ pub enum SineCosineAnswer {
     Both(SineCosine),
     Refused(u64),
 }
-
-pub const CIRCLE: u64 = 3_600_000_000_000;
 
 const OCTANT: u64 = 450_000_000_000;
 

@@ -13,7 +13,7 @@ by-test : (t : Bool) (n : ℕ) {P : Type 0} → ltb n 10 ≡ t → (n < 10 → P
 by-test true n q small big = small (ltb-true n 10 q)
 by-test false n q small big = big (ltb-false n 10 q)
 
-by-size : (n : ℕ) {P : Type 0} → (n < 10 → P) → (10 ≤ n → P) → P
+pub by-size : (n : ℕ) {P : Type 0} → (n < 10 → P) → (10 ≤ n → P) → P
 by-size n small big = by-test (ltb n 10) n refl small big
 
 -- any number of divisions that is enough gives the same

@@ -1,0 +1,143 @@
+//! `bench BOOK ORDER [TIMES]`: the proved calls beside the Rust reference, in one process. The
+//! flight is the order's state with the Earth, the Moon and the Sun for thirty days at one-minute
+//! steps. Answers are compared bit by bit first. Each pair is then timed TIMES times, one after the
+//! other in turn, and the least time of each is printed, with the first over the second.
+
+use std::hint::black_box;
+use std::process::ExitCode;
+use std::time::Instant;
+
+use reference::motion::{run, Outcome, Ran, Setting, State};
+use reference::strip::read_order;
+
+const H: u32 = 60_000;
+const STEPS: u32 = 30 * 24 * 60;
+const MOON: u64 = 2;
+
+/// The thirty days from a state, on a book.
+struct Flight {
+    book: Vec<u8>,
+    setting: Setting,
+    start: State,
+}
+
+impl Flight {
+    fn target(&self) -> u64 {
+        self.start.moment + u64::from(H) * u64::from(STEPS)
+    }
+
+    fn by_reference(&self) -> Ran {
+        let book = black_box(&self.book);
+        run(book, &self.setting, &self.start, H, self.target(), u32::MAX, [0; 5])
+    }
+
+    fn by_proved(&self) -> (belfrywool::Outcome, u32, belfrywool::State, [u64; 5]) {
+        let Setting { coefficients, dut } = self.setting;
+        let setting = belfrywool::Setting { coefficients, dut };
+        let ([x, y, z], [vx, vy, vz]) = (self.start.position, self.start.velocity);
+        let moment = self.start.moment;
+        let mut state = belfrywool::State { moment, coordinates: [x, y, z, vx, vy, vz] };
+        let mut guesses = [0; 5];
+        let book = black_box(&self.book);
+        let (outcome, steps) =
+            belfrywool::run(book, &setting, &mut state, H, self.target(), u32::MAX, &mut guesses);
+        (outcome, steps, state, guesses)
+    }
+
+    fn same(&self) -> bool {
+        let ran = self.by_reference();
+        let (outcome, steps, state, guesses) = self.by_proved();
+        let reached = ran.state.position.iter().chain(&ran.state.velocity).map(|x| x.to_bits());
+        ran.outcome == Outcome::Arrived
+            && outcome == belfrywool::Outcome::Arrived
+            && (ran.steps, STEPS) == (u64::from(steps), steps)
+            && ran.state.moment == state.moment
+            && reached.eq(state.coordinates.iter().map(|x| x.to_bits()))
+            && ran.guesses == guesses
+    }
+}
+
+/// Nanoseconds of one turn, the least of so many times; `first` and `second` in turn.
+fn least(times: u32, turns: u32, mut first: impl FnMut(), mut second: impl FnMut()) -> [f64; 2] {
+    let mut best = [f64::INFINITY; 2];
+    let timed = |f: &mut dyn FnMut()| {
+        let start = Instant::now();
+        for _ in 0..turns {
+            f();
+        }
+        start.elapsed().as_nanos() as f64 / f64::from(turns)
+    };
+    for _ in 0..times {
+        best[0] = best[0].min(timed(&mut first));
+        best[1] = best[1].min(timed(&mut second));
+    }
+    best
+}
+
+fn told(name: &str, [proved, other]: [f64; 2]) {
+    let (unit, scale) = if other < 1e6 { ("ns", 1.0) } else { ("ms", 1e6) };
+    let (a, b, ratio) = (proved / scale, other / scale, proved / other);
+    println!("{name}: proved {a:.1} {unit}, Rust {b:.1} {unit}, ratio {ratio:.2}");
+}
+
+/// Takes a value, so that it is worked out.
+fn took<T>(value: T) {
+    let _ = black_box(value);
+}
+
+/// Roots of numbers as they come in a flight, each after the one before it.
+fn roots(times: u32) {
+    let numbers: Vec<f64> = (1..1000).map(|i| f64::from(i) * 12_345.678).collect();
+    assert!(numbers.iter().all(|&x| belfrywool::root(x) == Ok(x.sqrt())));
+    let all = |root: fn(f64) -> Result<f64, u64>| {
+        for &x in &numbers {
+            took(root(black_box(x)));
+        }
+    };
+    let each = numbers.len() as f64;
+    let time = least(times, 20, || all(belfrywool::root), || all(reference::root::root));
+    told("a root (Rust: the machine's instruction)", time.map(|t| t / each));
+}
+
+/// The book's check, and the Moon's position behind it: an exported position checks its book.
+fn books(times: u32, book: &[u8], moment: u64) {
+    let given = || black_box(book);
+    let proved = || took(belfrywool::book_passes(given()));
+    told("a book's check", least(times, 1000, proved, || took(reference::book::check(given()))));
+    let proved = || belfrywool::position(given(), MOON, moment);
+    let other = || reference::book::body(given(), MOON, moment);
+    assert_eq!(proved(), other());
+    told("a position, with the check", least(times, 1000, || took(proved()), || took(other())));
+}
+
+fn bench(words: &[String]) -> Result<(), String> {
+    let (book, order, times) = match words {
+        [book, order] => (book, order, 15),
+        [book, order, times] => (book, order, times.parse().map_err(|_| "TIMES: not a number")?),
+        _ => return Err("BOOK ORDER [TIMES]".to_string()),
+    };
+    let read = |file| std::fs::read(file).map_err(|error| format!("{file}: {error}"));
+    let order = read_order(&read(order)?).ok_or("the order is too short")?;
+    let [earth, moon, sun, ..] = order.setting.coefficients;
+    let setting = Setting { coefficients: [earth, moon, sun, 0.0, 0.0, 0.0], dut: order.setting.dut };
+    let flight = Flight { book: read(book)?, setting, start: order.state };
+    if !flight.same() {
+        return Err("the two walks differ, or do not arrive".to_string());
+    }
+    println!("{STEPS} steps: arrived, the same bits");
+    told("thirty days", least(times, 1, || took(flight.by_proved()), || took(flight.by_reference())));
+    books(times, &flight.book, flight.target());
+    roots(times);
+    Ok(())
+}
+
+fn main() -> ExitCode {
+    let words: Vec<String> = std::env::args().skip(1).collect();
+    match bench(&words) {
+        Ok(()) => ExitCode::SUCCESS,
+        Err(error) => {
+            eprintln!("bench: {error}");
+            ExitCode::from(2)
+        }
+    }
+}

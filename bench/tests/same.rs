@@ -1,0 +1,140 @@
+//! Every exported call beside the reference, on inputs from a seed: answers, refusals, and what a
+//! run hands back, bit by bit.
+
+use belfrywool as proved;
+use reference::trial::chance::Chance;
+use reference::trial::leaves::{bad_dut, bad_moment, moment_dut};
+use reference::trial::plan::{worlds, World};
+use reference::trial::runs::RUN;
+use reference::trial::states::{broken, flight, wild};
+use reference::trial::trip::Trip;
+use reference::{book, calendar, conic, fixed, hour, motion, root, sine};
+
+const TIMES: usize = 20_000;
+
+/// Bits, with all NaNs alike.
+fn bits<const N: usize>(x: [f64; N]) -> [u64; N] {
+    x.map(|x| if x.is_nan() { u64::MAX } else { x.to_bits() })
+}
+
+fn joined(p: [f64; 3], v: [f64; 3]) -> [f64; 6] {
+    [p[0], p[1], p[2], v[0], v[1], v[2]]
+}
+
+fn halves(s: [f64; 6]) -> ([f64; 3], [f64; 3]) {
+    ([s[0], s[1], s[2]], [s[3], s[4], s[5]])
+}
+
+#[test]
+fn calendar_and_angles() {
+    let mut c = Chance::new(1);
+    for _ in 0..TIMES {
+        let day = c.below(40_000);
+        assert_eq!(proved::date(day), calendar::date_of(day).map(|(y, m, d)| [y, m, d]));
+        assert_eq!(proved::twice_julian_date(day), calendar::twice_julian(day));
+        let (y, m, d) = (c.between(1949, 2050), c.below(14), c.below(33));
+        assert_eq!(proved::day(y, m, d), calendar::day_of(y, m, d));
+        let (mut moment, mut dut) = moment_dut(&mut c);
+        if c.one_in(8) {
+            moment = bad_moment(&mut c);
+        }
+        if c.one_in(8) {
+            dut = bad_dut(&mut c);
+        }
+        assert_eq!(proved::hour_angle(moment, dut), hour::hour_angle(moment, dut));
+        let parts = c.below(3_700_000_000_000);
+        let both = sine::sine_cosine(parts).map(|(s, c)| bits([s, c]));
+        assert_eq!(proved::sine_cosine(parts).map(bits), both);
+        let x = if c.one_in(4) { c.edge() } else { c.any_bits() };
+        assert_eq!(proved::root(x).map(f64::to_bits), root::root(x).map(f64::to_bits));
+    }
+}
+
+fn some_state(c: &mut Chance) -> [f64; 6] {
+    let make = c.pick(&[flight as fn(&mut Chance) -> [f64; 6], wild, broken]);
+    make(c)
+}
+
+#[test]
+fn states() {
+    let mut c = Chance::new(2);
+    for _ in 0..TIMES {
+        let (moment, dut) = moment_dut(&mut c);
+        let coordinates = some_state(&mut c);
+        let (p, v) = halves(coordinates);
+        let state = proved::State { moment, coordinates };
+        let turned = fixed::earth_fixed(dut, moment, p, v).map(|(p, v)| bits(joined(p, v)));
+        assert_eq!(proved::earth_fixed(&state, dut).map(bits), turned);
+        let m = if c.one_in(8) { c.any_bits() } else { c.sized(-2, 20).abs() };
+        let expected = conic::conic(m, p, v).map(|x| match x.kind {
+            conic::Kind::Ellipse { a, e, p, q, far } => (x.centre, 0, bits([a, e, p, q, far])),
+            conic::Kind::Hyperbola { a, e, p, q, v } => (x.centre, 1, bits([a, e, p, q, v])),
+        });
+        let got = proved::conic(m, &state).map(|(centre, kind)| match kind {
+            proved::Conic::Ellipse(figures) => (centre, 0, bits(figures)),
+            proved::Conic::Hyperbola(figures) => (centre, 1, bits(figures)),
+        });
+        assert_eq!(got, expected);
+    }
+}
+
+/// What a run hands back.
+type Back = (Option<u64>, u32, u64, [u64; 6], [u64; 5]);
+
+fn back(ran: &motion::Ran) -> Back {
+    let number = match ran.outcome {
+        motion::Outcome::Arrived => Some(0),
+        motion::Outcome::Going => None,
+        motion::Outcome::Refused(number) => Some(number),
+    };
+    let coordinates = bits(joined(ran.state.position, ran.state.velocity));
+    (number, ran.steps as u32, ran.state.moment, coordinates, ran.guesses)
+}
+
+fn proved_back(book: &[u8], t: &Trip, single: bool) -> Back {
+    let setting = proved::Setting { coefficients: t.setting.coefficients, dut: t.setting.dut };
+    let coordinates = joined(t.state.position, t.state.velocity);
+    let mut state = proved::State { moment: t.state.moment, coordinates };
+    let mut guesses = t.guesses;
+    let (outcome, steps) = if single {
+        proved::single_step(book, &setting, &mut state, t.h, &mut guesses)
+    } else {
+        proved::run(book, &setting, &mut state, t.h, t.target, t.budget, &mut guesses)
+    };
+    let number = match outcome {
+        proved::Outcome::Arrived => Some(0),
+        proved::Outcome::Going => None,
+        proved::Outcome::Refused(number) => Some(number),
+    };
+    (number, steps, state.moment, bits(state.coordinates), guesses)
+}
+
+fn on_a_book(c: &mut Chance, w: &World, t: &Trip) {
+    let book = w.bytes();
+    assert_eq!(proved::book_passes(book), book::check(book), "{}", w.name);
+    assert_eq!(proved_back(book, t, false), back(&t.run(book)), "{} {}", w.name, t.line());
+    let single = motion::single(book, &t.setting, &t.state, t.h, t.guesses);
+    assert_eq!(proved_back(book, t, true), back(&single), "{} {}", w.name, t.line());
+    let (body, moment) = (c.below(9), t.state.moment);
+    let place = book::body(book, body, moment).map(bits);
+    assert_eq!(proved::position(book, body, moment).map(bits), place, "{}", w.name);
+    let setting = proved::Setting { coefficients: t.setting.coefficients, dut: t.setting.dut };
+    let expected = motion::acceleration(book, &t.setting, moment, t.state.position).map(bits);
+    let got = proved::acceleration(book, &setting, moment, &t.state.position).map(bits);
+    assert_eq!(got, expected, "{} {}", w.name, t.line());
+}
+
+#[test]
+fn books_and_runs() {
+    let mut c = Chance::new(3);
+    let mut compared = 0;
+    for w in worlds(&mut c, &[]).iter() {
+        for (_, make) in RUN.iter().cycle().take(400) {
+            for (_, t) in make(&mut c, w) {
+                on_a_book(&mut c, w, &t.shortened(w.bytes(), 100));
+                compared += 1;
+            }
+        }
+    }
+    assert!(compared > 1000);
+}

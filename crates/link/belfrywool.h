@@ -1,0 +1,96 @@
+/* Belfrywool for C: link with the archive that `rt staticlib link` writes (target/staticlib/liblink.a).
+
+   Each call returns BELFRY_ACCEPTED, or the number of a refusal. Outside a run a refused call leaves all lent
+   memory as it was. No call keeps a pointer, allocates, or reads or writes anything but what it is lent.
+
+   No pointer may be null, not even to a book of length 0, and what a call may write must overlap nothing else
+   that it is lent.
+
+   Moments are milliseconds of ephemeris time since 0h 1950 January 1. DUT is ephemeris time less UT, in milliseconds.
+   A setting is the gravitational coefficients of the bodies 1 to 6 (Earth, Moon, Sun, Venus, Mars, Jupiter) in km^3/s^2, and DUT.
+   A state is a moment and six coordinates: x, y, z in km, then their rates in km/s. */
+#ifndef BELFRYWOOL_H
+#define BELFRYWOOL_H
+
+#include <stddef.h>
+#include <stdint.h>
+
+#ifdef __cplusplus
+extern "C" {
+#endif
+
+enum {
+    BELFRY_ACCEPTED = 0,
+    BELFRY_ARRIVED = 0, /* of a run: the target is reached */
+    BELFRY_GOING = 100, /* of a run: the budget is spent short of the target */
+
+    BELFRY_BOOK = 1,         /* the book does not pass */
+    BELFRY_STEP = 2,         /* h is not allowed */
+    BELFRY_MOMENT = 3,       /* a moment or UT is out of range */
+    BELFRY_SETTING = 4,      /* a coefficient or DUT is not allowed */
+    BELFRY_TARGET = 5,       /* the target is before the state, or not a whole number of steps away */
+    BELFRY_COVER = 6,        /* a body has no cover */
+    BELFRY_NOT_FINITE = 7,   /* a given state or a result is not finite */
+    BELFRY_DATE = 8,         /* no such date from 1950 to 2049, or a day above 36524 */
+    BELFRY_PARABOLA = 9,     /* c3 is zero */
+    BELFRY_STRAIGHT = 10,    /* n(C) is zero: the conic is a straight line */
+    BELFRY_ROOT = 11,        /* root of a negative or non-finite number */
+    BELFRY_ANGLE = 12        /* an angle of a circle or more */
+};
+
+/* The kinds of conic. */
+enum { BELFRY_ELLIPSE = 1, BELFRY_HYPERBOLA = 2 };
+
+/* date: year, month and day of a day counted from 1950 January 1, which is 0. */
+uint64_t belfry_date(uint64_t day, uint64_t date[3]);
+
+/* count: the day of a date. */
+uint64_t belfry_day(uint64_t year, uint64_t month, uint64_t day, uint64_t *count);
+
+/* twice: twice the Julian date at 0h of a day. */
+uint64_t belfry_twice_julian_date(uint64_t day, uint64_t *twice);
+
+/* parts: the hour angle, in parts of 10^-10 degree. */
+uint64_t belfry_hour_angle(uint64_t moment, uint32_t dut, uint64_t *parts);
+
+/* value: the square root of x. */
+uint64_t belfry_root(double x, double *value);
+
+/* both: sine and cosine of an angle in parts of 10^-10 degree. */
+uint64_t belfry_sine_cosine(uint64_t parts, double both[2]);
+
+/* A book is `length` bytes at `book`. This tells whether it passes. */
+uint64_t belfry_book_passes(const uint8_t *book, size_t length);
+
+/* position: where a body stands at a moment, in km from the Earth. */
+uint64_t belfry_position(const uint8_t *book, size_t length, uint64_t body, uint64_t moment, double position[3]);
+
+/* acceleration: in km/s^2, at a position in km. */
+uint64_t belfry_acceleration(const uint8_t *book, size_t length, const double coefficients[6], uint32_t dut,
+                             uint64_t moment, const double position[3], double acceleration[3]);
+
+/* Steps of h milliseconds from the state (moment, coordinates) to the moment `target`, at most `budget` of them.
+   Returns BELFRY_ARRIVED, BELFRY_GOING, or the number of the refusal. Whatever it returns, moment and coordinates are
+   then the last state reached and steps the number of steps done, so that the same call goes on from there.
+   guesses: for each of the bodies 2 to 6 the entry of the book to try first, counted from 0. It may be wrong, and is
+   brought up to date. */
+uint64_t belfry_run(const uint8_t *book, size_t length, const double coefficients[6], uint32_t dut, uint32_t h,
+                    uint64_t target, uint32_t budget, uint64_t *moment, double coordinates[6], uint64_t guesses[5],
+                    uint32_t *steps);
+
+/* A run of one step to the moment one step on. */
+uint64_t belfry_single_step(const uint8_t *book, size_t length, const double coefficients[6], uint32_t dut, uint32_t h,
+                            uint64_t *moment, double coordinates[6], uint64_t guesses[5], uint32_t *steps);
+
+/* turned: the state's six coordinates in axes that turn with the Earth. */
+uint64_t belfry_earth_fixed(uint64_t moment, const double coordinates[6], uint32_t dut, double turned[6]);
+
+/* The conic of a state about a centre of coefficient m. names: the number of the centre, and the kind.
+   figures: a, e, p, q, and the far distance of an ellipse or the root of c3 of a hyperbola. */
+uint64_t belfry_conic(double m, uint64_t moment, const double coordinates[6], uint64_t names[2], double figures[5]);
+
+#ifdef __cplusplus
+}
+#endif
+
+#endif

@@ -1,0 +1,19 @@
+-- Document 01, "Refusal numbers": the table goes from 1 to 12. Where an answer's refusal has a number of the table, what a call
+-- returns tells a refusal from 0 and from a run's 100.
+use Prim.Native.Nat.{ℕ}
+use mathlib.Core.Bool.{Bool, true, _&&_}
+use Rattle.basis.specs.Choice.{_≤?_}
+use Rattle.motion.specs.declared.Outcome.{Outcome}
+use Rattle.link.specs.Answers.{Answer, Accepted, Refused}
+
+abbrev pub tabled : ℕ → Bool
+tabled k = 1 ≤? k && k ≤? 12
+
+abbrev pub told : {A : Type 0} → Answer A → Bool
+told (Accepted values) = true
+told (Refused k) = tabled k
+
+abbrev pub outcomeTold : Outcome → Bool
+outcomeTold Outcome.Arrived = true
+outcomeTold Outcome.Going = true
+outcomeTold (Outcome.Refused k) = tabled k

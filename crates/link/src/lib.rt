@@ -1,0 +1,261 @@
+// The calls of document 01 for C and Rust, over numbers and memory that the caller lends.
+// Each returns 0 where it is accepted, else the number of the refusal. A run that is still going returns 100.
+
+mod lent;
+
+use book::PositionAnswer;
+use calendar::Calendar;
+use calendar::DateAnswer;
+use calendar::DayAnswer;
+use calendar::JulianAnswer;
+use conic::ConicAnswer;
+use fixed::FixedAnswer;
+use gravity::AccelerationAnswer;
+use hour::HourAnswer;
+use root::RootAnswer;
+use sine::SineCosineAnswer;
+ghost use mathlib.Core.Path.{_≡_};
+ghost use Rattle.basis.specs.Choice.{if_then_else_};
+ghost use Rattle.calendar.specs.Answers.{dateAnswer, dayAnswer, julianAnswer};
+ghost use Rattle.hour.specs.Hour.{hourAnswer};
+ghost use Rattle.root.specs.Root.{rootAnswer};
+ghost use Rattle.sine.specs.Sine.{sineCosineAnswer};
+ghost use Rattle.book.specs.Passes.{passes};
+ghost use Rattle.book.specs.Position.{positionAnswer};
+ghost use Rattle.gravity.specs.Acceleration.{accelerationAnswer};
+ghost use Rattle.motion.specs.Run.{runAnswer, singleStepAnswer};
+ghost use Rattle.fixed.specs.Fixed.{fixedAnswer};
+ghost use Rattle.conic.specs.Conic.{conicAnswer};
+ghost use Rattle.link.specs.Lent.{settingOf, vectorOf, stateOf, guessesOf, namesIn, figuresIn};
+ghost use Rattle.link.specs.Answers.{number, afterwards, ofDate, ofDay, ofJulian, ofHour, ofRoot, ofSineCosine, ofPosition, ofAcceleration, ofFixed, ofConic, handedBack, ofRun};
+
+#[no_mangle]
+pub extern "C" fn belfry_date(day: u64, date: &mut [u64; 3]) -> u64
+    ensures { λ r. ⌜ r ≡ number (ofDate (dateAnswer day)) ⌝ }
+    ensures { λ _. ⌜ now (date .exit) ≡ afterwards (now (date .entry)) (ofDate (dateAnswer day)) ⌝ }
+{
+    match Calendar::from_day(day) {
+        DateAnswer::Date(d) => {
+            *date = [d.year, d.month, d.day];
+            0
+        }
+        DateAnswer::Refused(k) => k,
+    }
+}
+
+#[no_mangle]
+pub extern "C" fn belfry_day(year: u64, month: u64, day: u64, count: &mut u64) -> u64
+    ensures { λ r. ⌜ r ≡ number (ofDay (dayAnswer year month day)) ⌝ }
+    ensures { λ _. ⌜ now (count .exit) ≡ afterwards (now (count .entry)) (ofDay (dayAnswer year month day)) ⌝ }
+{
+    match Calendar::from_date(year, month, day) {
+        DayAnswer::Day(d) => {
+            *count = d;
+            0
+        }
+        DayAnswer::Refused(k) => k,
+    }
+}
+
+#[no_mangle]
+pub extern "C" fn belfry_twice_julian_date(day: u64, twice: &mut u64) -> u64
+    ensures { λ r. ⌜ r ≡ number (ofJulian (julianAnswer day)) ⌝ }
+    ensures { λ _. ⌜ now (twice .exit) ≡ afterwards (now (twice .entry)) (ofJulian (julianAnswer day)) ⌝ }
+{
+    match Calendar::twice_julian_date(day) {
+        JulianAnswer::Twice(j) => {
+            *twice = j;
+            0
+        }
+        JulianAnswer::Refused(k) => k,
+    }
+}
+
+#[no_mangle]
+pub extern "C" fn belfry_hour_angle(moment: u64, dut: u32, parts: &mut u64) -> u64
+    ensures { λ r. ⌜ r ≡ number (ofHour (hourAnswer moment dut)) ⌝ }
+    ensures { λ _. ⌜ now (parts .exit) ≡ afterwards (now (parts .entry)) (ofHour (hourAnswer moment dut)) ⌝ }
+{
+    match hour::hour_angle(moment, dut) {
+        HourAnswer::Parts(p) => {
+            *parts = p;
+            0
+        }
+        HourAnswer::Refused(k) => k,
+    }
+}
+
+#[no_mangle]
+pub extern "C" fn belfry_root(x: f64, value: &mut f64) -> u64
+    ensures { λ r. ⌜ r ≡ number (ofRoot (rootAnswer x)) ⌝ }
+    ensures { λ _. ⌜ now (value .exit) ≡ afterwards (now (value .entry)) (ofRoot (rootAnswer x)) ⌝ }
+{
+    match root::root(x) {
+        RootAnswer::Value(y) => {
+            *value = y;
+            0
+        }
+        RootAnswer::Refused(k) => k,
+    }
+}
+
+#[no_mangle]
+pub extern "C" fn belfry_sine_cosine(parts: u64, both: &mut [f64; 2]) -> u64
+    ensures { λ r. ⌜ r ≡ number (ofSineCosine (sineCosineAnswer parts)) ⌝ }
+    ensures { λ _. ⌜ now (both .exit) ≡ afterwards (now (both .entry)) (ofSineCosine (sineCosineAnswer parts)) ⌝ }
+{
+    match sine::sine_cosine(parts) {
+        SineCosineAnswer::Both(of) => {
+            *both = [of.sine, of.cosine];
+            0
+        }
+        SineCosineAnswer::Refused(k) => k,
+    }
+}
+
+#[no_mangle]
+pub extern "C" fn belfry_book_passes(book: &[u8]) -> u64
+    ensures { λ r. ⌜ r ≡ (if passes (now (book .entry)) then 0 else 1) ⌝ }
+{
+    if book::book_passes(book) {
+        return 0;
+    }
+    1
+}
+
+#[no_mangle]
+pub extern "C" fn belfry_position(
+    book: &[u8],
+    body: u64,
+    moment: u64,
+    position: &mut [f64; 3],
+) -> u64
+    ensures { λ r. ⌜ r ≡ number (ofPosition (positionAnswer (now (book .entry)) body moment)) ⌝ }
+    ensures { λ _. ⌜ now (position .exit) ≡ afterwards (now (position .entry))
+        (ofPosition (positionAnswer (now (book .entry)) body moment)) ⌝ }
+{
+    match book::position(book, body, moment) {
+        PositionAnswer::At(p) => {
+            *position = [p.x, p.y, p.z];
+            0
+        }
+        PositionAnswer::Refused(k) => k,
+    }
+}
+
+#[no_mangle]
+pub extern "C" fn belfry_acceleration(
+    book: &[u8],
+    coefficients: &[f64; 6],
+    dut: u32,
+    moment: u64,
+    position: &[f64; 3],
+    acceleration: &mut [f64; 3],
+) -> u64
+    ensures { λ r. ⌜ r ≡ number
+        (ofAcceleration (accelerationAnswer (now (book .entry)) (settingOf (now (coefficients .entry)) dut) moment
+        (vectorOf (now (position .entry))))) ⌝ }
+    ensures { λ _. ⌜ now (acceleration .exit) ≡ afterwards (now (acceleration .entry))
+        (ofAcceleration (accelerationAnswer (now (book .entry)) (settingOf (now (coefficients .entry)) dut) moment
+        (vectorOf (now (position .entry))))) ⌝ }
+{
+    let setting = lent::setting_of(*coefficients, dut);
+    match gravity::acceleration(book, setting, moment, lent::vector_of(*position)) {
+        AccelerationAnswer::Is(a) => {
+            *acceleration = [a.x, a.y, a.z];
+            0
+        }
+        AccelerationAnswer::Refused(k) => k,
+    }
+}
+
+#[no_mangle]
+pub extern "C" fn belfry_run(
+    book: &[u8],
+    coefficients: &[f64; 6],
+    dut: u32,
+    h: u32,
+    target: u64,
+    budget: u32,
+    moment: &mut u64,
+    coordinates: &mut [f64; 6],
+    guesses: &mut [u64; 5],
+    steps: &mut u32,
+) -> u64
+    ensures { λ r. ⌜ handedBack r (now (moment .exit)) (now (coordinates .exit)) (now (guesses .exit)) (now (steps .exit)) ≡ ofRun
+        (runAnswer (now (book .entry)) (settingOf (now (coefficients .entry)) dut)
+        (stateOf (now (moment .entry)) (now (coordinates .entry))) h target budget (guessesOf (now (guesses .entry)))) ⌝ }
+{
+    let setting = lent::setting_of(*coefficients, dut);
+    let state = lent::state_of(*moment, *coordinates);
+    let given = lent::guesses_of(*guesses);
+    let answer = motion::run(book, setting, state, h, target, budget, given);
+    lent::hand_back(answer, moment, coordinates, guesses, steps)
+}
+
+#[no_mangle]
+pub extern "C" fn belfry_single_step(
+    book: &[u8],
+    coefficients: &[f64; 6],
+    dut: u32,
+    h: u32,
+    moment: &mut u64,
+    coordinates: &mut [f64; 6],
+    guesses: &mut [u64; 5],
+    steps: &mut u32,
+) -> u64
+    ensures { λ r. ⌜ handedBack r (now (moment .exit)) (now (coordinates .exit)) (now (guesses .exit)) (now (steps .exit)) ≡ ofRun
+        (singleStepAnswer (now (book .entry)) (settingOf (now (coefficients .entry)) dut)
+        (stateOf (now (moment .entry)) (now (coordinates .entry))) h (guessesOf (now (guesses .entry)))) ⌝ }
+{
+    let setting = lent::setting_of(*coefficients, dut);
+    let state = lent::state_of(*moment, *coordinates);
+    let given = lent::guesses_of(*guesses);
+    let answer = motion::single_step(book, setting, state, h, given);
+    lent::hand_back(answer, moment, coordinates, guesses, steps)
+}
+
+#[no_mangle]
+pub extern "C" fn belfry_earth_fixed(
+    moment: u64,
+    coordinates: &[f64; 6],
+    dut: u32,
+    turned: &mut [f64; 6],
+) -> u64
+    ensures { λ r. ⌜ r ≡ number (ofFixed (fixedAnswer (stateOf moment (now (coordinates .entry))) dut)) ⌝ }
+    ensures { λ _. ⌜ now (turned .exit) ≡ afterwards (now (turned .entry))
+        (ofFixed (fixedAnswer (stateOf moment (now (coordinates .entry))) dut)) ⌝ }
+{
+    match fixed::earth_fixed(lent::state_of(moment, *coordinates), dut) {
+        FixedAnswer::Fixed(f) => {
+            *turned = [f.x, f.y, f.z, f.vx, f.vy, f.vz];
+            0
+        }
+        FixedAnswer::Refused(k) => k,
+    }
+}
+
+#[no_mangle]
+pub extern "C" fn belfry_conic(
+    m: f64,
+    moment: u64,
+    coordinates: &[f64; 6],
+    names: &mut [u64; 2],
+    figures: &mut [f64; 5],
+) -> u64
+    ensures { λ r. ⌜ r ≡ number (ofConic figuresIn (conicAnswer m (stateOf moment (now (coordinates .entry))))) ⌝ }
+    ensures { λ _. ⌜ now (names .exit) ≡ afterwards (now (names .entry))
+        (ofConic namesIn (conicAnswer m (stateOf moment (now (coordinates .entry))))) ⌝ }
+    ensures { λ _. ⌜ now (figures .exit) ≡ afterwards (now (figures .entry))
+        (ofConic figuresIn (conicAnswer m (stateOf moment (now (coordinates .entry))))) ⌝ }
+{
+    match conic::conic_figures(m, lent::state_of(moment, *coordinates)) {
+        ConicAnswer::Figures(c) => {
+            let conic = c.conic;
+            *names = [c.centre, lent::kind_of(conic)];
+            *figures = lent::figures_of(conic);
+            0
+        }
+        ConicAnswer::Refused(k) => k,
+    }
+}

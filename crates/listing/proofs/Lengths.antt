@@ -1,0 +1,34 @@
+-- How long the parts of a line can be. Assumes nothing.
+use Prim.Native.Nat.{ℕ, _+_, _<_, _≤_}
+use mathlib.Core.List.{List, _++_}
+use native.Mathlib.Omega.{arith}
+use lib.Ieee.{Float}
+use lib.ListN.{length, length-append}
+use Rattle.state.specs.State.{position, velocity}
+use Rattle.state.specs.declared.Vector.{Vector}
+use Rattle.state.specs.declared.State.{State}
+use Rattle.text.specs.Numerals.{decimalOf, floatText}
+use Rattle.text.proofs.Decimal.{decimal-fits}
+use Rattle.text.proofs.Digits.{float-fits}
+use Rattle.listing.specs.Lines.{spaced, vectorText, lineFeed, stripWord, headerLine, stateLine}
+use Rattle.listing.specs.Course.{longestLine}
+
+pub spaced-fits : (x : Float) → length (spaced x) ≤ 17
+spaced-fits x = omega (arith, float-fits x)
+
+pub vector-fits : (v : Vector) → length (vectorText v) ≤ 51
+unfolding vectorText
+vector-fits v =
+    rw (length-append (spaced (v .x) ++ spaced (v .y)) (spaced (v .z)), length-append (spaced (v .x)) (spaced (v .y)))
+    (omega (arith, spaced-fits (v .x), spaced-fits (v .y), spaced-fits (v .z)))
+
+pub line-fits : (s : State) → s .moment < 0x1_0000_0000_0000_0000 → length (stateLine s) ≤ longestLine
+unfolding stateLine
+line-fits s h =
+    rw (length-append (decimalOf (s .moment) ++ vectorText (position s) ++ vectorText (velocity s)) lineFeed, length-append (decimalOf (s .moment) ++ vectorText (position s)) (vectorText (velocity s)), length-append (decimalOf (s .moment)) (vectorText (position s)))
+    (omega (arith, decimal-fits (s .moment) h, vector-fits (position s), vector-fits (velocity s)))
+
+pub header-fits : (h : ℕ) → h < 0x1_0000_0000_0000_0000 → length (headerLine h) ≤ longestLine
+unfolding headerLine
+header-fits h small =
+    rw (length-append (stripWord ++ decimalOf h) lineFeed, length-append stripWord (decimalOf h)) (omega (arith, decimal-fits h small))

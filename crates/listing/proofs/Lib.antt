@@ -1,0 +1,4 @@
+pub mod Lengths
+pub mod Courses
+pub mod Whole
+pub mod Printed

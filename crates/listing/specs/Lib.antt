@@ -1,0 +1,4 @@
+pub mod Lines
+pub mod Order
+pub mod Strip
+pub mod Course

@@ -1,0 +1,51 @@
+-- Document 01, "strip": all that it prints, from all that it reads.
+use Prim.Native.Nat.{ℕ, zero, suc, _-_, _/_}
+use mathlib.Core.List.{List, [], _∷_, _++_}
+use lib.ListN.{drop}
+use Rattle.basis.specs.Choice.{if_then_else_, _=?_}
+use Rattle.state.specs.declared.State.{State}
+use Rattle.motion.specs.Step.{Moved, On, Off, step}
+use Rattle.motion.specs.Run.{Reached, run, startRefusal}
+use Rattle.listing.specs.Lines.{headerLine, stateLine, outcomeLine, loneRefusal}
+use Rattle.listing.specs.Order.{orderLength, readOrder}
+use Rattle.listing.specs.declared.Order.{Order}
+use Rattle.listing.specs.declared.OrderAnswer.{OrderAnswer}
+use Rattle.listing.specs.declared.OrderAnswer.the-variants as answer
+
+-- the states that up to n steps f reach after s, in order: a step refused ends them
+abbrev pub andThen : (State → List State) → Moved → List State
+andThen later (On next) = next ∷ later next
+andThen later (Off k) = []
+
+unfoldable pub statesAfter : (State → Moved) → ℕ → State → List State
+statesAfter f zero s = []
+statesAfter f (suc n) s = andThen (statesAfter f n) (f s)
+
+unfoldable pub stateLines : List State → List ℕ
+stateLines [] = []
+stateLines (s ∷ rest) = stateLine s ++ stateLines rest
+
+-- "each state from the injection on, and the outcome with steps done"
+abbrev pub runText : (State → Moved) → ℕ → ℕ → State → List ℕ
+runText f target budget s =
+    let r = run f target budget s in stateLines (s ∷ statesAfter f (r .steps) s) ++ outcomeLine (r .outcome) (r .steps)
+
+-- as many steps of h as lead from the state to the target
+abbrev pub stepsTo : State → ℕ → ℕ → ℕ
+stepsTo s h target = (target - s .moment) / h
+
+-- "if the order or book is refused, only REFUSED and the number"
+unfoldable pub orderText : List ℕ → Order → List ℕ
+orderText book o =
+    let k = startRefusal book (o .setting) (o .state) (o .h) (o .target) in
+    if k =? 0
+    then headerLine (o .h) ++ runText (step book (o .setting) (o .h)) (o .target) (stepsTo (o .state) (o .h) (o .target)) (o .state)
+    else loneRefusal k
+
+abbrev pub answerText : List ℕ → OrderAnswer → List ℕ
+answerText book (answer.Is o) = orderText book o
+answerText book (answer.Refused k) = loneRefusal k
+
+-- an order, "then the book, to the end"
+unfoldable pub stripText : List ℕ → List ℕ
+stripText input = answerText (drop orderLength input) (readOrder input)

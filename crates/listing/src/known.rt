@@ -1,0 +1,111 @@
+// The lines of a run in portions, for an order and a book that have passed the checks: inner functions of the program.
+
+use crate::Course;
+use crate::Order;
+use crate::Portion;
+use crate::lines::LONGEST_LINE;
+use crate::lines::put_state;
+use gravity::Guesses;
+use gravity::Sights;
+use gravity::known::sights_at;
+use motion::Outcome;
+use motion::Stepped;
+use motion::known::step_under;
+use state::Setting;
+use state::State;
+ghost use mathlib.Core.Path.{_≡_};
+ghost use Rattle.motion.specs.Kept.{MayWalk};
+ghost use Rattle.listing.specs.Course.{OnCourse, Advanced, startOf, portionOf};
+
+// Where each body was found last is where to look for it first.
+fn guesses_of(sky: Sights) -> Guesses {
+    let moon = sky.moon;
+    let sun = sky.sun;
+    let venus = sky.venus;
+    let mars = sky.mars;
+    let jupiter = sky.jupiter;
+    Guesses {
+        moon: moon.entry as u64,
+        sun: sun.entry as u64,
+        venus: venus.entry as u64,
+        mars: mars.entry as u64,
+        jupiter: jupiter.entry as u64,
+    }
+}
+
+// The place from which the run of an order starts.
+pub fn start(book: &[u8], order: Order) -> Course
+    requires { ⌜ MayWalk (now book) (order .state) (order .h) (order .target) ⌝ }
+    ensures { λ r. ⌜ r ≡ startOf (now (book .entry)) order ⌝ }
+{
+    let g = Guesses {
+        moon: 0,
+        sun: 0,
+        venus: 0,
+        mars: 0,
+        jupiter: 0,
+    };
+    let setting = order.setting;
+    let state = order.state;
+    let moment = state.moment;
+    Course {
+        state,
+        sky: sights_at(book, setting, moment, g),
+        left: (order.target - moment) / (order.h as u64),
+        done: 0,
+    }
+}
+
+fn portion_of(
+    outcome: Outcome,
+    state: State,
+    sky: Sights,
+    left: u64,
+    done: u64,
+    written: usize,
+) -> Portion
+    ensures { λ r. ⌜ r ≡ portionOf outcome state sky left done written ⌝ }
+{
+    let course = Course {
+        state,
+        sky,
+        left,
+        done,
+    };
+    Portion {
+        outcome,
+        course,
+        written,
+    }
+}
+
+// A line for each state reached, while a whole line still fits.
+pub fn portion(book: &[u8], setting: Setting, h: u32, from: Course, out: &mut [u8]) -> Portion
+    requires { ⌜ OnCourse (now book) setting h from ⌝ }
+    ensures { λ r. ⌜ Advanced (now (book .entry)) setting h from (now (out .exit)) r ⌝ }
+{
+    let mut now = from.state;
+    let mut sky = from.sky;
+    let mut left = from.left;
+    let mut done = from.done;
+    let mut at: usize = 0;
+    while at + LONGEST_LINE <= out.len() {
+        if left == 0 {
+            return portion_of(Outcome::Arrived, now, sky, left, done, at);
+        }
+        let stepped = step_under(book, setting, now, h, guesses_of(sky), sky);
+        match stepped {
+            Stepped::On(next, seen) => {
+                at = put_state(out, at, next);
+                now = next;
+                sky = seen;
+                left -= 1;
+                done += 1;
+            }
+            Stepped::Off(k) => {
+                return portion_of(Outcome::Refused(k), now, sky, left, done, at);
+            }
+        }
+    }
+    portion_of(Outcome::Going, now, sky, left, done, at)
+}

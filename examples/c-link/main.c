@@ -1,0 +1,158 @@
+/* Document 01's figures by the calls of belfrywool.h. Numbers that are no whole ones are printed as their bits. */
+#include <inttypes.h>
+#include <stdio.h>
+#include <string.h>
+
+#include "belfrywool.h"
+
+static void floats(const double *x, int count) {
+    for (int i = 0; i < count; i++) {
+        uint64_t bits;
+        memcpy(&bits, &x[i], 8);
+        printf(" %016" PRIx64, bits);
+    }
+    printf("\n");
+}
+
+static void refused(uint64_t number) { printf(" refused %" PRIu64 "\n", number); }
+
+static void calendar(void) {
+    const uint64_t days[] = {2922, 18321, 36524, 36525};
+    uint64_t date[3], count, twice;
+    for (int i = 0; i < 4; i++) {
+        printf("date %" PRIu64 ":", days[i]);
+        uint64_t number = belfry_date(days[i], date);
+        if (number) refused(number);
+        else printf(" %" PRIu64 " %" PRIu64 " %" PRIu64 "\n", date[0], date[1], date[2]);
+    }
+    printf("day 2001 2 29:");
+    refused(belfry_day(2001, 2, 29, &count));
+    belfry_day(2000, 2, 29, &count);
+    belfry_twice_julian_date(count, &twice);
+    printf("day 2000 2 29: %" PRIu64 ", twice the Julian date %" PRIu64 "\n", count, twice);
+}
+
+static void angles(void) {
+    uint64_t parts;
+    double both[2], value;
+    belfry_hour_angle(UINT64_C(4322) * 86400000 + 82951000, 0, &parts);
+    printf("hour angle: %" PRIu64 "\n", parts);
+    printf("hour angle below 0h UT:");
+    refused(belfry_hour_angle(34999, 35000, &parts));
+    belfry_sine_cosine(900000000000, both);
+    printf("sine and cosine of a quarter:");
+    floats(both, 2);
+    printf("sine and cosine of a circle:");
+    refused(belfry_sine_cosine(3600000000000, both));
+    belfry_root(2.0, &value);
+    printf("root of 2:");
+    floats(&value, 1);
+    printf("root of -1:");
+    refused(belfry_root(-1.0, &value));
+}
+
+/* The bytes of a number, the lowest first. */
+static uint8_t *put(uint8_t *at, uint64_t number, int bytes) {
+    for (int i = 0; i < bytes; i++) *at++ = (uint8_t)(number >> (8 * i));
+    return at;
+}
+
+enum { BOOK = 104 };
+
+/* A book of one entry: the Moon from 0 to 2000, by three coefficients an axis. */
+static void moon_book(uint8_t book[BOOK], const double coefficients[9]) {
+    uint8_t *at = put(put(book, BOOK, 4), 1, 4);
+    at = put(put(put(put(put(at, 2, 2), 3, 2), 32, 4), 0, 8), 2000, 8);
+    for (int i = 0; i < 9; i++) {
+        uint64_t bits;
+        memcpy(&bits, &coefficients[i], 8);
+        at = put(at, bits, 8);
+    }
+}
+
+static void positions(void) {
+    uint8_t book[BOOK];
+    double position[3];
+    const double series[9] = {1, 2, 3, 1, 2, 3, 1, 2, 3};
+    const uint64_t moments[] = {0, 1000, 1999, 2000};
+    moon_book(book, series);
+    printf("book: %" PRIu64 ", cut short: %" PRIu64 "\n", belfry_book_passes(book, BOOK), belfry_book_passes(book, BOOK - 1));
+    for (int i = 0; i < 4; i++) {
+        uint64_t number = belfry_position(book, BOOK, 2, moments[i], position);
+        printf("Moon at %" PRIu64 ":", moments[i]);
+        if (number) refused(number);
+        else if (i < 2) floats(position, 3);
+        else printf(" covered\n");
+    }
+}
+
+static void accelerations(void) {
+    uint8_t book[BOOK];
+    const double series[9] = {4, 0, 0, 0, 0, 0, 0, 0, 0};
+    const double position[3] = {2, 0, 0};
+    double coefficients[6] = {8, 0, 0, 0, 0, 0}, acceleration[3];
+    moon_book(book, series);
+    belfry_acceleration(book, BOOK, coefficients, 0, 0, position, acceleration);
+    printf("Earth alone:");
+    floats(acceleration, 1);
+    coefficients[1] = 16;
+    belfry_acceleration(book, BOOK, coefficients, 0, 0, position, acceleration);
+    printf("with the Moon:");
+    floats(acceleration, 1);
+}
+
+static const uint8_t empty[8] = {8};
+static const double earth[6] = {8};
+
+static void runs(void) {
+    double coordinates[6] = {2, 0, 0, 0, 4, 0};
+    uint64_t moment = 0, guesses[5] = {0}, number;
+    uint32_t steps;
+    number = belfry_run(empty, 8, earth, 0, 3, 0, 9, &moment, coordinates, guesses, &steps);
+    printf("h 3: refused %" PRIu64 ", steps %" PRIu32 "\n", number, steps);
+    number = belfry_run(empty, 8, earth, 0, 1000, 0, 9, &moment, coordinates, guesses, &steps);
+    printf("at the target: steps %" PRIu32 ",", steps);
+    floats(coordinates, 6);
+    do {
+        number = belfry_run(empty, 8, earth, 0, 1000, 5000, 2, &moment, coordinates, guesses, &steps);
+        printf("%s: steps %" PRIu32 ", moment %" PRIu64 "\n", number ? "going" : "arrived", steps, moment);
+    } while (number == BELFRY_GOING);
+    number = belfry_single_step(empty, 8, earth, 0, 86400000, &moment, coordinates, guesses, &steps);
+    printf("a day's step, %s: steps %" PRIu32 ", moment %" PRIu64 "\n", number ? "going" : "arrived", steps, moment);
+}
+
+static void states(void) {
+    const double velocities[4][2] = {{0, 2}, {0, 4}, {2, 2}, {2, 0}};
+    double coordinates[6] = {2}, turned[6], figures[5];
+    uint64_t names[2];
+    for (int i = 0; i < 4; i++) {
+        coordinates[3] = velocities[i][0];
+        coordinates[4] = velocities[i][1];
+        uint64_t number = belfry_conic(8, 0, coordinates, names, figures);
+        printf("conic:");
+        if (number) {
+            refused(number);
+            continue;
+        }
+        printf(" centre %" PRIu64 ", %s", names[0], names[1] == BELFRY_ELLIPSE ? "ellipse" : "hyperbola");
+        floats(figures, 5);
+    }
+    printf("Earth-fixed below 0h UT:");
+    refused(belfry_earth_fixed(0, coordinates, 1, turned));
+    coordinates[0] = 0;
+    coordinates[2] = 3;
+    coordinates[3] = 0;
+    belfry_earth_fixed(0, coordinates, 0, turned);
+    printf("Earth-fixed, 3 km up the axis:");
+    floats(turned + 2, 1);
+}
+
+int main(void) {
+    calendar();
+    angles();
+    positions();
+    accelerations();
+    runs();
+    states();
+    return 0;
+}

@@ -1,0 +1,12 @@
+//! Where the archive lies: the folder that BELFRYWOOL_LIB names, or where `rt staticlib link` writes it.
+
+use std::env::var;
+
+fn main() {
+    let here = var("CARGO_MANIFEST_DIR").expect("cargo sets it");
+    let folder = var("BELFRYWOOL_LIB").unwrap_or_else(|_| format!("{here}/../../target/staticlib"));
+    println!("cargo:rerun-if-env-changed=BELFRYWOOL_LIB");
+    println!("cargo:rerun-if-changed={folder}/liblink.a");
+    println!("cargo:rustc-link-search=native={folder}");
+    println!("cargo:rustc-link-lib=static=link");
+}

@@ -1,0 +1,190 @@
+//! Belfrywool's calls, as safe functions. A refusal is document 01's number in `Err`.
+//!
+//! Nothing checks the declarations below against the proved source: they follow
+//! `crates/link/belfrywool.h`. The calls have no `requires`, so nothing has to be tested here first.
+
+extern "C" {
+    fn belfry_date(day: u64, date: &mut [u64; 3]) -> u64;
+    fn belfry_day(year: u64, month: u64, day: u64, count: &mut u64) -> u64;
+    fn belfry_twice_julian_date(day: u64, twice: &mut u64) -> u64;
+    fn belfry_hour_angle(moment: u64, dut: u32, parts: &mut u64) -> u64;
+    fn belfry_root(x: f64, value: &mut f64) -> u64;
+    fn belfry_sine_cosine(parts: u64, both: &mut [f64; 2]) -> u64;
+    fn belfry_book_passes(book: *const u8, length: usize) -> u64;
+    fn belfry_position(
+        book: *const u8, length: usize, body: u64, moment: u64, position: &mut [f64; 3],
+    ) -> u64;
+    fn belfry_acceleration(
+        book: *const u8, length: usize, coefficients: &[f64; 6], dut: u32, moment: u64,
+        position: &[f64; 3], acceleration: &mut [f64; 3],
+    ) -> u64;
+    fn belfry_run(
+        book: *const u8, length: usize, coefficients: &[f64; 6], dut: u32, h: u32, target: u64,
+        budget: u32, moment: &mut u64, coordinates: &mut [f64; 6], guesses: &mut [u64; 5],
+        steps: &mut u32,
+    ) -> u64;
+    fn belfry_single_step(
+        book: *const u8, length: usize, coefficients: &[f64; 6], dut: u32, h: u32,
+        moment: &mut u64, coordinates: &mut [f64; 6], guesses: &mut [u64; 5], steps: &mut u32,
+    ) -> u64;
+    fn belfry_earth_fixed(
+        moment: u64, coordinates: &[f64; 6], dut: u32, turned: &mut [f64; 6],
+    ) -> u64;
+    fn belfry_conic(
+        m: f64, moment: u64, coordinates: &[f64; 6], names: &mut [u64; 2], figures: &mut [f64; 5],
+    ) -> u64;
+}
+
+/// What a run returns while it is still going.
+const GOING: u64 = 100;
+
+/// What a conic's second name says of an ellipse.
+const ELLIPSE: u64 = 1;
+
+/// The gravitational coefficients of the bodies 1 to 6 in km³/s², and DUT in milliseconds.
+#[derive(Clone, Copy, Debug)]
+pub struct Setting {
+    pub coefficients: [f64; 6],
+    pub dut: u32,
+}
+
+/// A moment, with x, y, z in km and then their rates in km/s.
+#[derive(Clone, Copy, Debug)]
+pub struct State {
+    pub moment: u64,
+    pub coordinates: [f64; 6],
+}
+
+#[derive(Clone, Copy, Debug, PartialEq, Eq)]
+pub enum Outcome {
+    Arrived,
+    Going,
+    Refused(u64),
+}
+
+/// The figures a, e, p, q, and the far distance of an ellipse or the root of c3 of a hyperbola.
+#[derive(Clone, Copy, Debug)]
+pub enum Conic {
+    Ellipse([f64; 5]),
+    Hyperbola([f64; 5]),
+}
+
+fn answer<T>(number: u64, value: T) -> Result<T, u64> {
+    if number == 0 {
+        Ok(value)
+    } else {
+        Err(number)
+    }
+}
+
+fn outcome(number: u64) -> Outcome {
+    match number {
+        0 => Outcome::Arrived,
+        GOING => Outcome::Going,
+        number => Outcome::Refused(number),
+    }
+}
+
+/// Year, month and day of a day counted from 1950 January 1.
+pub fn date(day: u64) -> Result<[u64; 3], u64> {
+    let mut date = [0; 3];
+    answer(unsafe { belfry_date(day, &mut date) }, date)
+}
+
+pub fn day(year: u64, month: u64, day: u64) -> Result<u64, u64> {
+    let mut count = 0;
+    answer(unsafe { belfry_day(year, month, day, &mut count) }, count)
+}
+
+pub fn twice_julian_date(day: u64) -> Result<u64, u64> {
+    let mut twice = 0;
+    answer(unsafe { belfry_twice_julian_date(day, &mut twice) }, twice)
+}
+
+/// In parts of 10^-10 degree.
+pub fn hour_angle(moment: u64, dut: u32) -> Result<u64, u64> {
+    let mut parts = 0;
+    answer(unsafe { belfry_hour_angle(moment, dut, &mut parts) }, parts)
+}
+
+pub fn root(x: f64) -> Result<f64, u64> {
+    let mut value = 0.0;
+    answer(unsafe { belfry_root(x, &mut value) }, value)
+}
+
+/// Of an angle in parts of 10^-10 degree.
+pub fn sine_cosine(parts: u64) -> Result<[f64; 2], u64> {
+    let mut both = [0.0; 2];
+    answer(unsafe { belfry_sine_cosine(parts, &mut both) }, both)
+}
+
+pub fn book_passes(book: &[u8]) -> Result<(), u64> {
+    answer(unsafe { belfry_book_passes(book.as_ptr(), book.len()) }, ())
+}
+
+/// In km from the Earth.
+pub fn position(book: &[u8], body: u64, moment: u64) -> Result<[f64; 3], u64> {
+    let mut position = [0.0; 3];
+    let number =
+        unsafe { belfry_position(book.as_ptr(), book.len(), body, moment, &mut position) };
+    answer(number, position)
+}
+
+/// In km/s², at a position in km.
+pub fn acceleration(
+    book: &[u8], setting: &Setting, moment: u64, position: &[f64; 3],
+) -> Result<[f64; 3], u64> {
+    let mut acceleration = [0.0; 3];
+    let number = unsafe {
+        belfry_acceleration(
+            book.as_ptr(), book.len(), &setting.coefficients, setting.dut, moment, position,
+            &mut acceleration,
+        )
+    };
+    answer(number, acceleration)
+}
+
+/// Steps of h milliseconds to the target, at most `budget`, and how many were done. The state
+/// becomes the last one reached, whatever the outcome.
+pub fn run(
+    book: &[u8], setting: &Setting, state: &mut State, h: u32, target: u64, budget: u32,
+    guesses: &mut [u64; 5],
+) -> (Outcome, u32) {
+    let mut steps = 0;
+    let number = unsafe {
+        belfry_run(
+            book.as_ptr(), book.len(), &setting.coefficients, setting.dut, h, target, budget,
+            &mut state.moment, &mut state.coordinates, guesses, &mut steps,
+        )
+    };
+    (outcome(number), steps)
+}
+
+pub fn single_step(
+    book: &[u8], setting: &Setting, state: &mut State, h: u32, guesses: &mut [u64; 5],
+) -> (Outcome, u32) {
+    let mut steps = 0;
+    let number = unsafe {
+        belfry_single_step(
+            book.as_ptr(), book.len(), &setting.coefficients, setting.dut, h,
+            &mut state.moment, &mut state.coordinates, guesses, &mut steps,
+        )
+    };
+    (outcome(number), steps)
+}
+
+/// The state's coordinates in axes that turn with the Earth.
+pub fn earth_fixed(state: &State, dut: u32) -> Result<[f64; 6], u64> {
+    let mut turned = [0.0; 6];
+    let number = unsafe { belfry_earth_fixed(state.moment, &state.coordinates, dut, &mut turned) };
+    answer(number, turned)
+}
+
+/// The number of the centre, whose coefficient is m, and the conic about it.
+pub fn conic(m: f64, state: &State) -> Result<(u64, Conic), u64> {
+    let (mut names, mut figures) = ([0; 2], [0.0; 5]);
+    let number =
+        unsafe { belfry_conic(m, state.moment, &state.coordinates, &mut names, &mut figures) };
+    let kind = if names[1] == ELLIPSE { Conic::Ellipse } else { Conic::Hyperbola };
+    answer(number, (names[0], kind(figures)))
+}

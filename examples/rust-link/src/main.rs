@@ -1,0 +1,130 @@
+//! Document 01's figures by the exported calls. Numbers that are no whole ones are printed as
+//! their bits.
+
+use belfrywool::*;
+
+fn bits(x: &[f64]) -> String {
+    x.iter().map(|x| format!(" {:016x}", x.to_bits())).collect()
+}
+
+fn told<T>(answer: Result<T, u64>, told: impl Fn(T) -> String) -> String {
+    match answer {
+        Ok(value) => told(value),
+        Err(number) => format!(" refused {number}"),
+    }
+}
+
+fn calendar() -> Result<(), u64> {
+    for day in [2922, 18321, 36524, 36525] {
+        println!("date {day}:{}", told(date(day), |[y, m, d]| format!(" {y} {m} {d}")));
+    }
+    println!("day 2001 2 29:{}", told(day(2001, 2, 29), |d| format!(" {d}")));
+    let d = day(2000, 2, 29)?;
+    println!("day 2000 2 29: {d}, twice the Julian date {}", twice_julian_date(d)?);
+    Ok(())
+}
+
+fn angles() -> Result<(), u64> {
+    println!("hour angle: {}", hour_angle(4322 * 86_400_000 + 82_951_000, 0)?);
+    println!("hour angle below 0h UT:{}", told(hour_angle(34_999, 35_000), |p| format!(" {p}")));
+    println!("sine and cosine of a quarter:{}", bits(&sine_cosine(900_000_000_000)?));
+    println!("sine and cosine of a circle:{}", told(sine_cosine(3_600_000_000_000), |b| bits(&b)));
+    println!("root of 2:{}", bits(&[root(2.0)?]));
+    println!("root of -1:{}", told(root(-1.0), |x| bits(&[x])));
+    Ok(())
+}
+
+/// A book of one entry: the Moon from 0 to 2000, by three coefficients an axis.
+fn moon_book(coefficients: [f64; 9]) -> Vec<u8> {
+    let mut book = Vec::new();
+    for number in [104u32, 1, 2 + (3 << 16), 32] {
+        book.extend(number.to_le_bytes());
+    }
+    for number in [0u64, 2000] {
+        book.extend(number.to_le_bytes());
+    }
+    for c in coefficients {
+        book.extend(c.to_le_bytes());
+    }
+    book
+}
+
+fn positions() {
+    let book = moon_book([1.0, 2.0, 3.0, 1.0, 2.0, 3.0, 1.0, 2.0, 3.0]);
+    let number = |book| book_passes(book).err().unwrap_or(0);
+    println!("book: {}, cut short: {}", number(&book), number(&book[..103]));
+    for moment in [0, 1000] {
+        println!("Moon at {moment}:{}", told(position(&book, 2, moment), |p| bits(&p)));
+    }
+    for moment in [1999, 2000] {
+        println!("Moon at {moment}:{}", told(position(&book, 2, moment), |_| " covered".into()));
+    }
+}
+
+fn earth(dut: u32) -> Setting {
+    Setting { coefficients: [8.0, 0.0, 0.0, 0.0, 0.0, 0.0], dut }
+}
+
+fn accelerations() -> Result<(), u64> {
+    let book = moon_book([4.0, 0.0, 0.0, 0.0, 0.0, 0.0, 0.0, 0.0, 0.0]);
+    let mut setting = earth(0);
+    println!("Earth alone:{}", bits(&acceleration(&book, &setting, 0, &[2.0, 0.0, 0.0])?[..1]));
+    setting.coefficients[1] = 16.0;
+    println!("with the Moon:{}", bits(&acceleration(&book, &setting, 0, &[2.0, 0.0, 0.0])?[..1]));
+    Ok(())
+}
+
+fn at(vx: f64, vy: f64) -> State {
+    State { moment: 0, coordinates: [2.0, 0.0, 0.0, vx, vy, 0.0] }
+}
+
+fn runs() {
+    let (book, setting) = ([8, 0, 0, 0, 0, 0, 0, 0], earth(0));
+    let (mut state, mut guesses) = (at(0.0, 4.0), [0; 5]);
+    if let (Outcome::Refused(number), steps) =
+        run(&book, &setting, &mut state, 3, 0, 9, &mut guesses)
+    {
+        println!("h 3: refused {number}, steps {steps}");
+    }
+    let (_, steps) = run(&book, &setting, &mut state, 1000, 0, 9, &mut guesses);
+    println!("at the target: steps {steps},{}", bits(&state.coordinates));
+    loop {
+        let (outcome, steps) = run(&book, &setting, &mut state, 1000, 5000, 2, &mut guesses);
+        let going = outcome == Outcome::Going;
+        let word = if going { "going" } else { "arrived" };
+        println!("{word}: steps {steps}, moment {}", state.moment);
+        if !going {
+            break;
+        }
+    }
+    let (outcome, steps) = single_step(&book, &setting, &mut state, 86_400_000, &mut guesses);
+    let word = if outcome == Outcome::Going { "going" } else { "arrived" };
+    println!("a day's step, {word}: steps {steps}, moment {}", state.moment);
+}
+
+fn conic_told((centre, conic): (u64, Conic)) -> String {
+    let (kind, figures) = match conic {
+        Conic::Ellipse(figures) => ("ellipse", figures),
+        Conic::Hyperbola(figures) => ("hyperbola", figures),
+    };
+    format!(" centre {centre}, {kind}{}", bits(&figures))
+}
+
+fn states() -> Result<(), u64> {
+    for (vx, vy) in [(0.0, 2.0), (0.0, 4.0), (2.0, 2.0), (2.0, 0.0)] {
+        println!("conic:{}", told(conic(8.0, &at(vx, vy)), conic_told));
+    }
+    println!("Earth-fixed below 0h UT:{}", told(earth_fixed(&at(2.0, 0.0), 1), |t| bits(&t)));
+    let up = State { moment: 0, coordinates: [0.0, 0.0, 3.0, 0.0, 0.0, 0.0] };
+    println!("Earth-fixed, 3 km up the axis:{}", bits(&earth_fixed(&up, 0)?[2..3]));
+    Ok(())
+}
+
+fn main() -> Result<(), u64> {
+    calendar()?;
+    angles()?;
+    positions();
+    accelerations()?;
+    runs();
+    states()
+}
