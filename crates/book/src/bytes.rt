@@ -1,4 +1,4 @@
-// Little-endian numbers in a book.
+// Little-endian numbers in a book or an order. Inner functions: the caller knows that the bytes are there.
 
 ghost use mathlib.Core.Bool.{true};
 ghost use mathlib.Core.Path.{_≡_};

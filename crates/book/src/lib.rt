@@ -1,6 +1,6 @@
 // The ephemeris book: its check, the lookup of a body's entry, and the position of a body.
 
-mod bytes;
+pub mod bytes;
 mod check;
 pub mod known;
 mod search;

@@ -4,9 +4,9 @@ mod bytes;
 pub mod known;
 pub mod lines;
 
+use book::bytes::u32_at;
+use book::bytes::u64_at;
 use bytes::float_at;
-use bytes::u32_at;
-use bytes::u64_at;
 use gravity::Sights;
 use motion::Outcome;
 use state::Setting;
