@@ -21,7 +21,7 @@ use Rattle.book.specs.declared.Lookup.the-variants.{Entry, Nothing}
 use Rattle.book.specs.declared.PositionAnswer.{PositionAnswer}
 use Rattle.book.specs.declared.PositionAnswer.the-variants as position
 use Rattle.gravity.specs.Pull.{plus, minus, g, sound}
-use Rattle.gravity.specs.Acceleration.{Body, Sky, Bodies, Hidden, Listed, standing, seen, skyOf, sky, less, allSound, settled, finished, accelerationAt}
+use Rattle.gravity.specs.Acceleration.{Body, Sky, Bodies, Hidden, Listed, bodiesOf, standing, seen, skyOf, sky, less, allSound, settled, finished, accelerationAt}
 use Rattle.gravity.specs.Sight.{pullOf, blank, sightAt, sightBy, sightOf, sights, orLater, refusalOf, takenOff, lessBy, lessAll, vectorOf, startBy, listed, settledBy, finishedBy, accelerationBy, entryOr}
 use Rattle.gravity.specs.declared.AccelerationAnswer.{AccelerationAnswer}
 use Rattle.gravity.specs.declared.AccelerationAnswer.the-variants.{Is, Refused}
@@ -114,15 +114,7 @@ module _ (b : List ℕ) (t : ℕ) (P : Vector) where
 
 pub underIs : (b : List ℕ) (s : Setting) (t : ℕ) (P : Vector) → accelerationBy (sights b s t) (s .earth) P ≡ accelerationAt b s t P
 unfolding accelerationBy sights accelerationAt sky sightsOf pullOf
-underIs b s t P =
-    byList b t P
-    (record { number = 2; m = s .moon }
-    ∷ record { number = 3; m = s .sun }
-    ∷ record { number = 4; m = s .venus }
-    ∷ record { number = 5; m = s .mars }
-    ∷ record { number = 6; m = s .jupiter }
-    ∷ [])
-    (startBy P (s .earth))
+underIs b s t P = byList b t P (bodiesOf s) (startBy P (s .earth))
 
 -- ---- what an accepted acceleration tells of the bodies
 

@@ -46,15 +46,18 @@ abbrev pub skyOf : List ℕ → ℕ → List Listed → Sky
 skyOf b t [] = Bodies []
 skyOf b t (body ∷ rest) = if used (body .m) then seen (body .m) (bodyAt b (body .number) t) (skyOf b t rest) else skyOf b t rest
 
-unfoldable pub sky : List ℕ → Setting → ℕ → Sky
-sky b s t =
-    skyOf b t
-    (record { number = 2; m = s .moon }
+-- "2 Moon, 3 Sun, 4 Venus, 5 Mars, 6 Jupiter"
+abbrev pub bodiesOf : Setting → List Listed
+bodiesOf s =
+    record { number = 2; m = s .moon }
     ∷ record { number = 3; m = s .sun }
     ∷ record { number = 4; m = s .venus }
     ∷ record { number = 5; m = s .mars }
     ∷ record { number = 6; m = s .jupiter }
-    ∷ [])
+    ∷ []
+
+unfoldable pub sky : List ℕ → Setting → ℕ → Sky
+sky b s t = skyOf b t (bodiesOf s)
 
 -- "For each used body .. at R: subtract, component by component, g(P - R, m) + g(R, m)"
 abbrev pub less : Vector → Vector → List Body → Vector

@@ -63,25 +63,25 @@ pub fn acceleration(
 ) -> AccelerationAnswer
     ensures { λ r. ⌜ r ≡ accelerationAnswer (now (book .entry)) setting moment position ⌝ }
 {
-    if book::book_passes(book) {
-        if state::setting_is_allowed(setting) {
-            if moment < END_OF_TIME {
-                if state::vector_is_finite(position) {
-                    let g = Guesses {
-                        moon: 0,
-                        sun: 0,
-                        venus: 0,
-                        mars: 0,
-                        jupiter: 0,
-                    };
-                    let sky = known::sights_at(book, setting, moment, g);
-                    return known::acceleration_under(sky, setting.earth, position);
-                }
-                return AccelerationAnswer::Refused(7);
-            }
-            return AccelerationAnswer::Refused(3);
-        }
+    if !book::book_passes(book) {
+        return AccelerationAnswer::Refused(1);
+    }
+    if !state::setting_is_allowed(setting) {
         return AccelerationAnswer::Refused(4);
     }
-    AccelerationAnswer::Refused(1)
+    if END_OF_TIME <= moment {
+        return AccelerationAnswer::Refused(3);
+    }
+    if !state::vector_is_finite(position) {
+        return AccelerationAnswer::Refused(7);
+    }
+    let g = Guesses {
+        moon: 0,
+        sun: 0,
+        venus: 0,
+        mars: 0,
+        jupiter: 0,
+    };
+    let sky = known::sights_at(book, setting, moment, g);
+    known::acceleration_under(sky, setting.earth, position)
 }

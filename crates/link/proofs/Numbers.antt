@@ -25,7 +25,7 @@ use Rattle.book.specs.Series.{place}
 use Rattle.book.specs.Position.{finitePlace, placeOr6, bodyAt, positionAnswer}
 use Rattle.book.specs.declared.Lookup.{Lookup}
 use Rattle.book.specs.declared.PositionAnswer.{PositionAnswer}
-use Rattle.gravity.specs.Acceleration.{Sky, Bodies, Hidden, Listed, seen, skyOf, sky, less, allSound, finished, accelerationAt, accelerationAnswer}
+use Rattle.gravity.specs.Acceleration.{bodiesOf, Sky, Bodies, Hidden, Listed, seen, skyOf, sky, less, allSound, finished, accelerationAt, accelerationAnswer}
 use Rattle.gravity.specs.Pull.{negated, g, sound}
 use Rattle.gravity.specs.declared.AccelerationAnswer.{AccelerationAnswer}
 use Rattle.gravity.specs.declared.Guesses.{Guesses}
@@ -125,14 +125,7 @@ finished-told P ok a (Hidden k) hidden = hidden
 
 used-bodies-told : (b : List ℕ) (s : Setting) (t : ℕ) → sky-is-told (sky b s t) ≡ true
 unfolding sky
-used-bodies-told b s t =
-    sky-told b t
-    (record { number = 2; m = s .moon }
-    ∷ record { number = 3; m = s .sun }
-    ∷ record { number = 4; m = s .venus }
-    ∷ record { number = 5; m = s .mars }
-    ∷ record { number = 6; m = s .jupiter }
-    ∷ [])
+used-bodies-told b s t = sky-told b t (bodiesOf s)
 
 pull-told : (b : List ℕ) (s : Setting) (t : ℕ) (P : Vector) → told (ofAcceleration (accelerationAt b s t P)) ≡ true
 unfolding accelerationAt

@@ -100,18 +100,23 @@ fn earth_is_allowed(m: f64) -> bool
 pub fn setting_is_allowed(s: Setting) -> bool
     ensures { λ r. ⌜ r ≡ settingAllowed s ⌝ }
 {
-    if earth_is_allowed(s.earth) {
-        if coefficient_is_allowed(s.moon) {
-            if coefficient_is_allowed(s.sun) {
-                if coefficient_is_allowed(s.venus) {
-                    if coefficient_is_allowed(s.mars) {
-                        if coefficient_is_allowed(s.jupiter) {
-                            return s.dut <= basis::LONGEST_DUT;
-                        }
-                    }
-                }
-            }
-        }
+    if !earth_is_allowed(s.earth) {
+        return false;
     }
-    false
+    if !coefficient_is_allowed(s.moon) {
+        return false;
+    }
+    if !coefficient_is_allowed(s.sun) {
+        return false;
+    }
+    if !coefficient_is_allowed(s.venus) {
+        return false;
+    }
+    if !coefficient_is_allowed(s.mars) {
+        return false;
+    }
+    if !coefficient_is_allowed(s.jupiter) {
+        return false;
+    }
+    s.dut <= basis::LONGEST_DUT
 }
