@@ -62,7 +62,7 @@ fn eccentricity_of(e2: f64) -> f64
     if e2 < 0.0 {
         return 0.0;
     }
-    root::square_root(e2)
+    root::known::square_root(e2)
 }
 
 fn last_figure(c3: f64, a: f64, e: f64) -> f64
@@ -71,7 +71,7 @@ fn last_figure(c3: f64, a: f64, e: f64) -> f64
     if c3 < 0.0 {
         return a * (1.0 + e);
     }
-    root::square_root(c3)
+    root::known::square_root(c3)
 }
 
 fn orbit_of(m: f64, state: State) -> Orbit
@@ -81,7 +81,7 @@ fn orbit_of(m: f64, state: State) -> Orbit
     let velocity = state::velocity_of(state);
     let n = state::square(position);
     let v2 = state::square(velocity);
-    let c3 = v2 - (2.0 * m) / root::square_root(n);
+    let c3 = v2 - (2.0 * m) / root::known::square_root(n);
     let nc = state::square(cross_product(position, velocity));
     let p = nc / m;
     let e2 = 1.0 + (p * c3) / m;

@@ -49,7 +49,7 @@ pub fn pull(v: Vector, m: f64) -> Pull
     ensures { λ r. ⌜ r ≡ pullOf v m ⌝ }
 {
     let n = state::square(v);
-    pull_by(v, m, n, root::square_root(n))
+    pull_by(v, m, n, root::known::square_root(n))
 }
 
 // Three pulls at once: their roots are worked out side by side, which takes little longer than one.
@@ -59,7 +59,7 @@ fn three_pulls(u: Vector, a: f64, v: Vector, b: f64, w: Vector, c: f64) -> Three
     let n_u = state::square(u);
     let n_v = state::square(v);
     let n_w = state::square(w);
-    let roots = root::square_roots(n_u, n_v, n_w);
+    let roots = root::known::square_roots(n_u, n_v, n_w);
     let first = pull_by(u, a, n_u, roots.a);
     let second = pull_by(v, b, n_v, roots.b);
     let third = pull_by(w, c, n_w, roots.c);

@@ -1,0 +1,31 @@
+// Roots for the layers above, of floats that they know to be finite and not negative or whose NaN they refuse themselves.
+// These are inner functions: of a float that `root` refuses they answer as IEEE 754 does, a NaN below zero and at a NaN, and +infinity itself.
+
+use crate::ThreeRoots;
+use crate::digits;
+use crate::parts;
+ghost use mathlib.Core.Path.{_≡_};
+ghost use Rattle.root.specs.Root.{rootOf, rootsOf};
+
+pub fn square_root(x: f64) -> f64
+    ensures { λ r. ⌜ r ≡ rootOf x ⌝ }
+{
+    let p = parts::opened(x);
+    let q = digits::nearest_root(p.m);
+    parts::closed(x, p, q)
+}
+
+// Three roots side by side, in little more time than one.
+pub fn square_roots(a: f64, b: f64, c: f64) -> ThreeRoots
+    ensures { λ r. ⌜ r ≡ rootsOf a b c ⌝ }
+{
+    let p = parts::opened(a);
+    let q = parts::opened(b);
+    let s = parts::opened(c);
+    let d = digits::three_nearest_roots(p.m, q.m, s.m);
+    ThreeRoots {
+        a: parts::closed(a, p, d.a),
+        b: parts::closed(b, q, d.b),
+        c: parts::closed(c, s, d.c),
+    }
+}
