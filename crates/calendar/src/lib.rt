@@ -109,6 +109,7 @@ fn is_date(year: u64, month: u64, day: u64) -> bool
 }
 
 impl Calendar {
+    // Days are counted from 1950 January 1.
     pub const FIRST_DAY: u64 = 0;
 
     pub const LAST_DAY: u64 = 36_524;
@@ -123,9 +124,10 @@ impl Calendar {
         if Calendar::LAST_DAY < day {
             return DateAnswer::Refused(8);
         }
+        let elapsed = day - Calendar::FIRST_DAY;
         // Four years have 1461 days.
-        let year = Calendar::FIRST_YEAR + (4 * day + 2) / 1461;
-        DateAnswer::Date(date_in_year(year, day - days_before_year(year)))
+        let year = Calendar::FIRST_YEAR + (4 * elapsed + 2) / 1461;
+        DateAnswer::Date(date_in_year(year, elapsed - days_before_year(year)))
     }
 
     pub fn from_date(year: u64, month: u64, day: u64) -> DayAnswer
@@ -133,7 +135,7 @@ impl Calendar {
     {
         if is_date(year, month, day) {
             let before = days_before_year(year) + days_before_month(is_leap(year), month);
-            return DayAnswer::Day(before + (day - 1));
+            return DayAnswer::Day(Calendar::FIRST_DAY + before + (day - 1));
         }
         DayAnswer::Refused(8)
     }

@@ -37,7 +37,7 @@ days-before-month-requires : tie.Need-days-before-month-requires
 days-before-month-requires c κs = omega (arith, passed (c .before .before))
 
 counted : (c : tie.After-days-before-month)
-    → c .before .before .days-before-year .result + c .days-before-month .result + (c .before .before .before .before .before .args .day - 1)
+    → 0 + (c .before .before .days-before-year .result + c .days-before-month .result) + (c .before .before .before .before .before .args .day - 1)
     ≡ dayOf (asked (c .before .before .before .before .before))
 counted c =
     omega (
@@ -49,11 +49,14 @@ counted c =
 add-before : tie.Need-add-before
 add-before c = omega (arith, counted c, in-range (c .before .before .before))
 
-sub-t6 : tie.Need-sub-t6
-sub-t6 c = passed (c .before .before .before) .0 .day-low
+add-t6 : tie.Need-add-t6
+add-t6 c = omega (arith, counted c, in-range (c .before .before .before))
 
-add-t7 : tie.Need-add-t7
-add-t7 c = omega (arith, counted c, in-range (c .before .before .before))
+sub-t7 : tie.Need-sub-t7
+sub-t7 c = passed (c .before .before .before) .0 .day-low
+
+add-t9 : tie.Need-add-t9
+add-t9 c = omega (arith, counted c, in-range (c .before .before .before))
 
 returns : tie.Need-returns
 returns c = rw (tested (c .before .before .before)) (ap Day (counted c))
@@ -70,7 +73,8 @@ from-date-spec =
     is-leap-requires
     days-before-month-requires
     add-before
-    sub-t6
-    add-t7
+    add-t6
+    sub-t7
+    add-t9
     returns
     returns-2)

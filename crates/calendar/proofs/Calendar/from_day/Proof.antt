@@ -9,14 +9,21 @@ use Rattle.calendar.proofs.Lengths.{InYear, year-of-day}
 use Rattle.calendar.proofs.Calendar.from_day.Statement.{statement}
 use Rattle.calendar.proofs.Calendar.from_day.Tie as tie
 
-abbrev yearOf : ℕ → ℕ
-yearOf day = 1950 + (4 * day + 2) / 1461
+-- the days since the first day, which is 0
+abbrev elapsed : ℕ → ℕ
+elapsed day = day - 0
 
-year : (c : tie.Else1) → InYear (c .before .args .day) (yearOf (c .before .args .day))
-year c = year-of-day (c .before .args .day) (yearOf (c .before .args .day)) (omega arith) refl
+abbrev yearOf : ℕ → ℕ
+yearOf day = 1950 + (4 * elapsed day + 2) / 1461
+
+year : (c : tie.Else1) → InYear (elapsed (c .before .args .day)) (yearOf (c .before .args .day))
+year c = year-of-day (elapsed (c .before .args .day)) (yearOf (c .before .args .day)) (omega arith) refl
 
 returns : tie.Need-returns
 returns c = simp (lt-leb _ _ (c .if1 .taken))
+
+sub-elapsed : tie.Need-sub-elapsed
+sub-elapsed c = search needs
 
 mul-year : tie.Need-mul-year
 mul-year c = search needs
@@ -39,7 +46,7 @@ date-in-year-requires c κs = omega (arith, year (c .before))
 returns-2 : tie.Need-returns-2
 returns-2 c =
     let day = c .before .before .before .args .day in
-    let back : daysBeforeYear (yearOf day) + (day - c .before .days-before-year .result) ≡ day = omega (arith, year (c .before .before)) in
+    let back : daysBeforeYear (yearOf day) + (elapsed day - c .before .days-before-year .result) ≡ day = omega (arith, year (c .before .before)) in
     simp (le-leb _ _ (c .before .before .if1 .left), c .date-in-year .ensures, back)
 
 pub from-day-spec : {M : Type 1} → statement M
@@ -47,6 +54,7 @@ from-day-spec =
     tie.close
     (tie.spec
     returns
+    sub-elapsed
     mul-year
     add-year
     add-year-2
