@@ -1,42 +1,37 @@
 -- Every case of the table is right. Assumes nothing.
 use mathlib.Core.Path.{refl}
 use lib.Ieee.{neg, add, sub, mul, div, lt, eq, ofBits, ofInt}
-use Rattle.calendar.proofs.Figures as calendar
-use Rattle.hour.proofs.Figures as hour
-use Rattle.conic.proofs.Figures as conic
+use Rattle.calendar.specs.Gregorian.{ymd, daysBeforeMonth, daysOfYears}
+use Rattle.calendar.proofs.Dates.{date-call-and-back}
+use Rattle.hour.specs.Hour.{hourAngle}
 use Rattle.state.specs.State.{n}
 use Rattle.root.specs.Root.{rootOf}
 use Rattle.book.specs.Series.{argument, clenshaw, series}
 use Rattle.gravity.specs.Pull.{g, sound, r3}
+use Rattle.conic.specs.Conic.{cross, eccentricity, lastFigure, orbit, unfit, _before_, refusal, conicOf, orbitAnswer, conicAnswer}
 use Rattle.cases.specs.Table.{AllRight, table}
 
+infixr 5 _&_
+_&_ : {A B : Type 0} → A → B → A × B
+a & b = (a, b)
+
+-- A date's day is counted by the lengths of years and months, and its date is the way back; every other row computes.
 pub all : AllRight table
-unfolding argument clenshaw series g sound r3 n rootOf neg add sub mul div lt eq ofBits ofInt
+unfolding daysBeforeMonth daysOfYears hourAngle argument clenshaw series g sound r3 n cross eccentricity lastFigure orbit unfit _before_ refusal conicOf orbitAnswer conicAnswer rootOf neg add sub mul div lt eq ofBits ofInt
 all =
-    let days = calendar.figures-hold in
-    let angles = hour.figures-hold in
-    let orbits = conic.figures-hold in (
-      days .1 .0,
-      (
-        days .1 .1 .0,
-        (
-          days .1 .1 .1 .0,
-          (
-            days .1 .1 .1 .1 .0,
-            (
-              angles .0,
-              (
-                angles .1 .0,
-                (
-                  angles .1 .1 .0,
-                  (
-                    angles .1 .1 .1 .0,
-                    (refl, (refl, (refl, (refl, (orbits .0 0, (orbits .1 .0 0, (orbits .1 .1 .0 0, tt))))))),
-                  ),
-                ),
-              ),
-            ),
-          ),
-        ),
-      ),
-    )
+    date-call-and-back (ymd 1958 1 1) refl
+    & date-call-and-back (ymd 2000 2 29) refl
+    & date-call-and-back (ymd 2049 12 31) refl
+    & refl
+    & refl
+    & refl
+    & refl
+    & refl
+    & refl
+    & refl
+    & refl
+    & refl
+    & refl
+    & refl
+    & refl
+    & tt

@@ -1,4 +1,3 @@
-pub mod Figures
 pub mod LongDivision
 pub mod Rounding
 pub mod Sum
