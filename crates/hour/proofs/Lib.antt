@@ -1,3 +1,4 @@
 pub mod LongDivision
+pub mod OneAnswer
 pub mod Rounding
 pub mod Sum

@@ -1,3 +1,4 @@
+pub mod OneAnswer
 pub mod WholeRoots
 pub mod Values
 pub mod RootLaws
