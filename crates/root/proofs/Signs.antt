@@ -1,23 +1,18 @@
 -- Signs: a sum of squares is not negative, so that its root is never refused while it is finite; and the root of what is finite and not negative is finite and not negative.
 -- Assumes nothing.
 use mathlib.Core.Path.{_≡_, refl, sym, _∙_}
-use mathlib.Core.Bool.{Bool, true, false, not, _||_, cond}
+use mathlib.Core.Bool.{Bool, true, false, _||_}
 use Prim.Native.Nat.{ℕ, zero, suc, _+_, _-_, _*_, _/_, _^_}
 use native.Mathlib.Omega.{arith}
-use lib.Dec.{T, ltb}
+use lib.Dec.{T}
 use lib.IntN.{ℤ}
-use lib.Ieee.{Float, nan, inf, fin, Format, binary64, up, down, size, odd, units, round, add, mul, lt, ofBits, prec, low}
-use lib.Ieee.Scale.{finite, overflow}
+use lib.Ieee.{Float, nan, inf, fin, Format, binary64, up, down, size, odd, add, mul, lt, ofBits, low}
+use lib.Ieee.Scale.{finite}
 use borrow.Author.Tests.{le-ltb}
+use Rattle.basis.proofs.Clear.{clear, odd-clear, round-clear}
 use Rattle.root.specs.declared.RootAnswer.the-variants.{Value, Refused}
 use Rattle.root.specs.Root.{nearestRoot, rootOfUnits, positiveRoot, rootOf, negative, rootAnswer}
 use Rattle.root.proofs.Tests.{number-below}
-
--- a NaN, or without a minus sign
-abbrev pub clear : Float → Bool
-clear nan = true
-clear (inf s) = not s
-clear (fin s m e) = not s
 
 pub clear-not-negative : (x : Float) → T (clear x) → negative x ≡ false
 unfolding lt ofBits
@@ -29,27 +24,10 @@ clear-not-negative (fin false m e) t = le-ltb (m * up e * 1) (0 * down e) (omega
 
 -- ---- a sum of squares
 
-odd-clear : (d q k l : ℕ) → T (clear (odd d false q k l))
-unfolding odd
-odd-clear d zero k l = tt
-odd-clear d (suc q) k l = tt
-
 odd-finite : (d q k l : ℕ) → finite (odd d false q k l) ≡ true
 unfolding odd
 odd-finite d zero k l = refl
 odd-finite d (suc q) k l = refl
-
-units-clear : (f : Format) (q k : ℕ) → T (clear (units f false q k))
-unfolding units
-units-clear f q k = go (ltb (q * 2 ^ k) (overflow f))
-  where
-    go : (b : Bool) → T (clear (cond b (odd (suc (prec f)) false q k (low f)) (inf false)))
-    go true = odd-clear (suc (prec f)) q k (low f)
-    go false = tt
-
-round-clear : (f : Format) (a c : ℕ) → T (clear (round f false a c))
-unfolding round
-round-clear f a c = units-clear f _ _
 
 pub square-clear : (f : Format) (x : Float) → T (clear (mul f x x))
 unfolding mul

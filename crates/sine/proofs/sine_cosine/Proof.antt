@@ -1,25 +1,13 @@
 -- `sine::sine_cosine` meets its contract. Assumes nothing.
-use mathlib.Core.Bool.{Bool, true, false}
-use mathlib.Core.Path.{_≡_, ap}
-use Prim.Native.Nat.{ℕ, _≤_, _<_, _%_, _-_}
-use native.Mathlib.Omega.{arith}
 use borrow.Author.Needs.{needs}
 use borrow.Author.Tests.{lt-ltb, le-ltb}
-use Rattle.basis.specs.Choice.{if_then_else_, _=?_}
-use Rattle.sine.specs.Sine.{octant, within, sineCosine, sineCosineAnswer}
+use Rattle.sine.specs.Sine.{sineCosine, sineCosineAnswer}
+use Rattle.sine.proofs.Octants.{within-le}
 use Rattle.sine.proofs.sine_cosine.Statement.{statement}
 use Rattle.sine.proofs.sine_cosine.Tie as tie
 
 from-axis-requires : tie.Need-from-axis-requires
 from-axis-requires c κs = search needs
-
-within-le : (q r : ℕ) → r < octant → within q r ≤ octant
-unfolding within
-within-le q r h = go (q % 2 =? 0)
-  where
-    go : (b : Bool) → (if b then r else octant - r) ≤ octant
-    go true = omega arith
-    go false = omega arith
 
 radians-requires : tie.Need-radians-requires
 radians-requires c κs = rw (c .from-axis .ensures) (within-le _ _ (search needs))
