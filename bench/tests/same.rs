@@ -3,11 +3,12 @@
 
 use belfrywool as proved;
 use reference::trial::chance::Chance;
-use reference::trial::leaves::{bad_dut, bad_moment, moment_dut};
-use reference::trial::plan::{worlds, World};
+use reference::trial::floats::{flight, one_not_finite, wild};
+use reference::trial::plan::worlds;
 use reference::trial::runs::RUN;
-use reference::trial::states::{broken, flight, wild};
+use reference::trial::times::{bad_dut, bad_moment, moment_dut};
 use reference::trial::trip::Trip;
+use reference::trial::world::World;
 use reference::{book, calendar, conic, fixed, hour, motion, root, sine};
 
 const TIMES: usize = 20_000;
@@ -51,7 +52,7 @@ fn calendar_and_angles() {
 }
 
 fn some_state(c: &mut Chance) -> [f64; 6] {
-    let make = c.pick(&[flight as fn(&mut Chance) -> [f64; 6], wild, broken]);
+    let make = c.pick(&[flight as fn(&mut Chance) -> [f64; 6], wild, one_not_finite]);
     make(c)
 }
 

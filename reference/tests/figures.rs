@@ -9,7 +9,7 @@ use reference::motion::{acceleration, order, run, Outcome, Setting, State};
 use reference::root::root;
 use reference::sine::{sine_cosine, OCTANT};
 use reference::strip::strip;
-use reference::trial::leaves::WHOLE_OCTANTS;
+use reference::trial::times::WHOLE_OCTANTS;
 
 /// A book of one body with one entry, the same coefficients on each axis.
 fn one(body: u16, start: u64, span: u64, coefficients: &[f64]) -> Vec<u8> {

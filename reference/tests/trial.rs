@@ -9,8 +9,9 @@ use reference::trial::books::{build, pieces, special, sturdy};
 use reference::trial::chance::Chance;
 use reference::trial::child::Told;
 use reference::trial::compare::{group_input, Tally};
-use reference::trial::plan::{groups, strips, World, KINDS};
+use reference::trial::plan::{groups, strips, KINDS};
 use reference::trial::trip::{break_at, trip, BREAKS};
+use reference::trial::world::World;
 use reference::trial::{damage, sizes};
 
 fn kinds() -> Vec<&'static str> {
@@ -145,5 +146,43 @@ fn numbers_of_calls_and_strips_are_as_asked() {
         let made = groups(&mut c, calls, &kinds(), &[]);
         assert_eq!(made.iter().map(|g| g.calls.len()).sum::<usize>(), calls);
         assert_eq!(strips(&mut c, calls, &[]).len(), calls);
+    }
+}
+
+/// Each file of the driver with its stage and the files that it names.
+fn imports() -> Vec<(String, usize, Vec<String>)> {
+    let folder = format!("{}/src/trial", env!("CARGO_MANIFEST_DIR"));
+    let read = |name: &str| std::fs::read_to_string(format!("{folder}/{name}.rs")).expect(name);
+    let mut files = Vec::new();
+    for (stage, part) in read("mod").split("\n\n").enumerate() {
+        for line in part.lines() {
+            if let Some(name) = line.strip_prefix("pub mod ") {
+                files.push((name.trim_end_matches(';').to_string(), stage));
+            }
+        }
+    }
+    let named = |file: &str| {
+        let text = read(file);
+        let uses = text.lines().filter(|line| line.contains("super::"));
+        let words: Vec<&str> = uses.flat_map(|line| line.split(|c: char| !c.is_alphanumeric() && c != '_')).collect();
+        files.iter().map(|(name, _)| name.clone()).filter(|name| words.contains(&name.as_str())).collect()
+    };
+    files.iter().map(|(file, stage)| (file.clone(), *stage, named(file))).collect()
+}
+
+#[test]
+fn the_drivers_files_run_one_way() {
+    let mut left = imports();
+    let stage: std::collections::BTreeMap<_, _> = left.iter().map(|(f, s, _)| (f.clone(), *s)).collect();
+    assert!(stage.len() > 15);
+    for (file, own, uses) in &left {
+        for used in uses {
+            assert!(stage[used] <= *own, "{file} uses {used}, which is of a later stage");
+        }
+    }
+    while !left.is_empty() {
+        let names: Vec<String> = left.iter().map(|(f, _, _)| f.clone()).collect();
+        left.retain(|(_, _, uses)| uses.iter().any(|u| names.contains(u)));
+        assert!(left.len() < names.len(), "these use one another: {names:?}");
     }
 }

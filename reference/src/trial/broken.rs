@@ -1,9 +1,8 @@
 //! Run calls refused before the first step, or done before it.
 
 use super::chance::Chance;
-use super::plan::World;
-use super::runs::noted;
-use super::trip::{bad_h, break_at, trip, trip_at, Trip, BREAKS, NOMINAL};
+use super::trip::{bad_h, break_at, noted, trip, trip_at, Trip, BREAKS, NOMINAL};
+use super::world::World;
 use crate::hour::END;
 
 /// One, two or more of the refusals before the first step.

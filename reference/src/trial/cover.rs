@@ -1,9 +1,8 @@
 //! Run calls at the edges of cover.
 
 use super::chance::Chance;
-use super::plan::World;
-use super::runs::noted;
-use super::trip::{covered_moment, trip_at, Trip, NOMINAL};
+use super::trip::{covered_moment, noted, trip_at, Trip, NOMINAL};
+use super::world::World;
 use crate::book::Entry;
 use crate::hour::END;
 

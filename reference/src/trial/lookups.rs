@@ -2,12 +2,11 @@
 
 use super::chance::Chance;
 use super::cover;
-use super::leaves::bad_moment;
-use super::plan::{Case, World};
-use super::runs::MakeRuns;
+use super::floats::{hexes, wild};
 use super::sizes;
-use super::states::{hexes, wild};
-use super::trip::{break_setting, trip, Trip, NOMINAL};
+use super::times::bad_moment;
+use super::trip::{break_setting, trip, MakeRuns, Trip, NOMINAL};
+use super::world::{Case, World};
 use crate::hour::END;
 
 pub fn body_line(number: u64, moment: u64) -> Vec<String> {

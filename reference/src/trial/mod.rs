@@ -1,19 +1,30 @@
-//! Inputs from a seed, and the comparing of programs with the reference.
+//! Inputs from a seed, and the comparing of programs with the reference. A file uses only files
+//! of its own stage or of one before it, and no two files use one another.
 
+// Pieces: chance, books, floats, times, and a trip with all its inputs.
 pub mod books;
-pub mod broken;
 pub mod chance;
-pub mod child;
-pub mod compare;
-pub mod cover;
 pub mod damage;
+pub mod floats;
+pub mod times;
+pub mod trip;
+pub mod world;
+
+// Cases: what is asked, sort by sort.
+pub mod broken;
+pub mod cover;
 pub mod leaves;
 pub mod lookups;
-pub mod plan;
-pub mod report;
 pub mod runs;
 pub mod sizes;
 pub mod states;
 pub mod strips;
-pub mod trip;
 pub mod unreadable;
+
+// Plan: how many of each, and with which books.
+pub mod plan;
+
+// Report: programs started, answers compared and counted.
+pub mod child;
+pub mod compare;
+pub mod report;

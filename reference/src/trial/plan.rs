@@ -3,41 +3,14 @@
 use super::books::{build, entries, pieces, special, sturdy};
 use super::chance::Chance;
 use super::strips::{journey, strip, Strip};
+use super::world::{Case, World};
 use super::{damage, leaves, lookups, runs, states, unreadable};
-use crate::book::Entry;
-
-/// A sort of call: lines for a world.
-pub type Case = (&'static str, fn(&mut Chance, &World) -> Vec<String>);
 
 /// All kinds of call, with their share of 100.
 pub const KINDS: [(&str, usize); 11] = [
     ("root", 12), ("sincos", 7), ("hour", 8), ("date", 4), ("day", 5), ("fixed", 8),
     ("conic", 13), ("unreadable", 5), ("body", 8), ("accel", 9), ("run", 21),
 ];
-
-/// A book, and the entries it has or had before it was damaged.
-#[derive(Clone, Debug)]
-pub struct World {
-    pub name: String,
-    pub book: Option<Vec<u8>>,
-    pub entries: Vec<Entry>,
-    pub weight: usize,
-}
-
-impl World {
-    pub fn none() -> World {
-        World { name: "no book".to_string(), book: None, entries: Vec::new(), weight: 2 }
-    }
-
-    pub fn new(name: &str, book: Vec<u8>, weight: usize) -> World {
-        let entries = entries(&book);
-        World { name: name.to_string(), book: Some(book), entries, weight }
-    }
-
-    pub fn bytes(&self) -> &[u8] {
-        self.book.as_deref().unwrap_or(&[])
-    }
-}
 
 #[derive(Clone, Debug)]
 pub struct Call {
@@ -85,13 +58,13 @@ pub fn call(kind: &'static str, case: &str, line: String) -> Call {
     Call { kind, case: case.trim_end().to_string(), line: line.into_bytes() }
 }
 
-/// A spoiled line, from a call of one of the kinds asked for.
-pub fn spoiled(c: &mut Chance, kinds: &[&'static str], i: usize) -> Call {
+/// A line that is no call, from a call of one of the kinds asked for.
+pub fn garbled(c: &mut Chance, kinds: &[&'static str], i: usize) -> Call {
     let kind = c.pick(kinds);
     let any = c.below(1000) as usize;
     let good = made(c, &World::none(), kind, any).remove(0);
-    let (name, spoil) = unreadable::SPOILS[i % unreadable::SPOILS.len()];
-    Call { kind: "unreadable", case: name.to_string(), line: spoil(c, good.line) }
+    let (name, garble) = unreadable::GARBLES[i % unreadable::GARBLES.len()];
+    Call { kind: "unreadable", case: name.to_string(), line: garble(c, good.line) }
 }
 
 /// How many calls each kind gets: shares of the whole, the rest to the first.
@@ -149,7 +122,7 @@ pub fn plain_groups(c: &mut Chance, counts: &[(&'static str, usize)]) -> Vec<Gro
         for i in 0..n {
             if kind == "unreadable" {
                 let from = if kinds.is_empty() { &["root"][..] } else { &kinds };
-                calls.push(spoiled(c, from, i));
+                calls.push(garbled(c, from, i));
             } else {
                 calls.extend(made(c, &World::none(), kind, i));
             }

@@ -3,18 +3,10 @@
 use super::broken::{at_target, ends, many_broken, one_broken, single, two_broken};
 use super::chance::Chance;
 use super::cover::{crossing, edge, far_off, middle_gap, no_cover};
-use super::plan::World;
 use super::sizes::{any_floats, collision, growing, new_component, new_position, on_body, overflow};
-use super::trip::{covered_moment, guesses, trip, trip_at, Trip};
+use super::trip::{covered_moment, guesses, noted, trip, trip_at, RunCase, Trip};
+use super::world::World;
 use crate::motion::{Outcome, State};
-
-/// Run calls for a world; a note tells more of each.
-pub type MakeRuns = fn(&mut Chance, &World) -> Vec<(String, Trip)>;
-pub type RunCase = (&'static str, MakeRuns);
-
-pub fn noted(note: &str, t: Trip) -> Vec<(String, Trip)> {
-    vec![(note.to_string(), t)]
-}
 
 pub fn plain(c: &mut Chance, w: &World) -> Vec<(String, Trip)> {
     let mut t = trip(c, w);

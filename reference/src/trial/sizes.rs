@@ -2,10 +2,9 @@
 
 use super::chance::Chance;
 use super::cover::crossing;
-use super::plan::World;
-use super::runs::noted;
-use super::states::wild;
-use super::trip::{trip, trip_at, Trip};
+use super::floats::wild;
+use super::trip::{noted, trip, trip_at, Trip};
+use super::world::World;
 use crate::book::covers;
 use crate::hour::END;
 

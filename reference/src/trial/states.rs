@@ -1,72 +1,13 @@
 //! Lines for fixed and conic.
 
 use super::chance::Chance;
-use super::leaves::{bad_dut, bad_moment, hex, moment_dut, whole_octants};
-use super::plan::{Case, World};
+use super::floats::{flight, hex, hexes, largest, one_not_finite, signed_zeros, wild};
+use super::times::{bad_dut, bad_moment, moment_dut, whole_octants};
+use super::world::{Case, World};
 use crate::hour::END;
-
-pub fn hexes(floats: &[f64]) -> String {
-    floats.iter().map(|&x| hex(x)).collect::<Vec<_>>().join(" ")
-}
-
-/// Position in km and velocity in km/s as a flight has them.
-pub fn flight(c: &mut Chance) -> [f64; 6] {
-    let reach = c.pick(&[7e3, 4e4, 4e5, 2e6]);
-    let speed = c.pick(&[1.0, 8.0, 11.0]);
-    let mut s = [0.0; 6];
-    for (i, value) in s.iter_mut().enumerate() {
-        *value = c.within(if i < 3 { reach } else { speed });
-    }
-    s
-}
-
-/// Six floats of one sort, with a few zeros and edges among them.
-pub fn wild(c: &mut Chance) -> [f64; 6] {
-    let middle = c.between(0, 2040) as i64 - 1020;
-    let mut s = [0.0; 6];
-    for value in &mut s {
-        *value = match c.below(6) {
-            0 => c.edge(),
-            1 => c.pick(&[0.0, -0.0, 1.0, -2.0]),
-            2 => c.finite(),
-            _ => c.sized((middle - 6).max(-1022), (middle + 6).min(1023)),
-        };
-    }
-    s
-}
-
-/// One of six floats is not finite.
-pub fn broken(c: &mut Chance) -> [f64; 6] {
-    let mut s = flight(c);
-    s[c.below(6) as usize] = c.not_finite();
-    s
-}
 
 pub fn fixed_line(dut: u32, moment: u64, s: [f64; 6]) -> Vec<String> {
     vec![format!("fixed {dut} {moment} {}", hexes(&s))]
-}
-
-/// Zeros of either sign, which the products with the table's zeros decide.
-pub fn zeros(c: &mut Chance) -> [f64; 6] {
-    let mut s = flight(c);
-    for value in &mut s {
-        if !c.one_in(3) {
-            *value = c.pick(&[0.0, -0.0]);
-        }
-    }
-    s
-}
-
-/// So large that a turned component may overflow.
-pub fn largest(c: &mut Chance) -> [f64; 6] {
-    let mut s = flight(c);
-    let reach = c.between(0, 2) as usize;
-    for (i, value) in s.iter_mut().enumerate() {
-        if reach == 2 || i / 3 == reach {
-            *value = c.sized(1022, 1024);
-        }
-    }
-    s
 }
 
 pub fn fixed_with(c: &mut Chance, s: [f64; 6]) -> Vec<String> {
@@ -83,7 +24,7 @@ pub fn fixed_refused(c: &mut Chance, _: &World) -> Vec<String> {
         _ if c.one_in(2) => u64::from(dut).min(100_000) - 1,
         _ => bad_moment(c),
     };
-    let s = if which & 4 != 0 { broken(c) } else { flight(c) };
+    let s = if which & 4 != 0 { one_not_finite(c) } else { flight(c) };
     fixed_line(dut, moment, s)
 }
 
@@ -92,10 +33,10 @@ pub const FIXED: &[Case] = &[
     ("flight", |c, _| { let s = flight(c); fixed_with(c, s) }),
     ("flight", |c, _| { let s = flight(c); fixed_with(c, s) }),
     ("wild", |c, _| { let s = wild(c); fixed_with(c, s) }),
-    ("zeros", |c, _| { let s = zeros(c); fixed_with(c, s) }),
-    ("zeros, whole octants", |c, _| { let s = zeros(c); let (m, d) = whole_octants(c); fixed_line(d, m, s) }),
+    ("zeros", |c, _| { let s = signed_zeros(c); fixed_with(c, s) }),
+    ("zeros, whole octants", |c, _| { let s = signed_zeros(c); let (m, d) = whole_octants(c); fixed_line(d, m, s) }),
     ("largest", |c, _| { let s = largest(c); fixed_with(c, s) }),
-    ("state not finite", |c, _| { let s = broken(c); fixed_with(c, s) }),
+    ("state not finite", |c, _| { let s = one_not_finite(c); fixed_with(c, s) }),
     ("refused", fixed_refused),
 ];
 
@@ -193,7 +134,7 @@ pub fn conic_m(c: &mut Chance, _: &World) -> Vec<String> {
         _ => c.not_finite(),
     };
     let s = match c.below(3) {
-        0 => broken(c),
+        0 => one_not_finite(c),
         1 => [0.0; 6],
         _ => flight(c),
     };
@@ -201,7 +142,7 @@ pub fn conic_m(c: &mut Chance, _: &World) -> Vec<String> {
 }
 
 pub fn conic_state(c: &mut Chance, _: &World) -> Vec<String> {
-    let mut s = broken(c);
+    let mut s = one_not_finite(c);
     if c.one_in(3) {
         s = flight(c);
         s[..3].copy_from_slice(&[0.0, -0.0, 0.0]);

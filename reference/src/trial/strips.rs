@@ -1,9 +1,9 @@
 //! Inputs for strip.
 
 use super::chance::Chance;
-use super::plan::World;
 use super::runs::{self, RUN};
 use super::trip::{break_at, trip, Trip};
+use super::world::World;
 
 /// The most steps of a strip made here.
 pub const MOST: u64 = 150;

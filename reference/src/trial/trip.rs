@@ -1,9 +1,9 @@
 //! One run call with all its inputs, as a line or as an order.
 
 use super::chance::Chance;
-use super::leaves::{bad_dut, bad_moment};
-use super::plan::World;
-use super::states::{flight, hexes};
+use super::floats::{flight, hexes};
+use super::times::{bad_dut, bad_moment};
+use super::world::World;
 use crate::book::covers;
 use crate::hour::{DUT_MOST, END};
 use crate::motion::{order, run, Ran, Setting, State};
@@ -72,6 +72,14 @@ impl Trip {
         let most = (END - 1).saturating_sub(self.state.moment) / h;
         self.target = self.state.moment.saturating_add(h * steps.min(most));
     }
+}
+
+/// Run calls for a world; a note tells more of each.
+pub type MakeRuns = fn(&mut Chance, &World) -> Vec<(String, Trip)>;
+pub type RunCase = (&'static str, MakeRuns);
+
+pub fn noted(note: &str, t: Trip) -> Vec<(String, Trip)> {
+    vec![(note.to_string(), t)]
 }
 
 /// A moment that some entry covers, or any when there is none.

@@ -2,8 +2,8 @@
 
 use super::chance::Chance;
 
-/// A sort of spoiled line, from a good one.
-pub type Spoil = (&'static str, fn(&mut Chance, Vec<u8>) -> Vec<u8>);
+/// A sort of garbled line, from a good one.
+pub type Garble = (&'static str, fn(&mut Chance, Vec<u8>) -> Vec<u8>);
 
 pub fn join(parts: &[&[u8]]) -> Vec<u8> {
     parts.concat()
@@ -73,7 +73,7 @@ pub const NUMBERS: [&[u8]; 26] = [
     b"nan", b"7Ff8000000000000",
 ];
 
-pub const SPOILS: &[Spoil] = &[
+pub const GARBLES: &[Garble] = &[
     ("empty", |_, _| Vec::new()),
     ("one space", |_, _| b" ".to_vec()),
     ("space before", |_, l| join(&[b" ", &l])),
