@@ -1,45 +1,64 @@
--- Digits written from the last to the first. Assumes nothing.
-use Prim.Native.Nat.{ℕ, zero, suc, _+_, _/_, _-_, _%_, _<_, _≤_}
-use mathlib.Core.List.{List, [], _∷_, _++_}
-use mathlib.Core.Path.{_≡_, refl, sym, ap, ap₂, _∙_}
+-- The digits of a number in halves. Assumes nothing.
+use Prim.Native.Nat.{ℕ, zero, suc, _+_, _*_, _/_, _%_, _^_, _<_, _≤_}
+use mathlib.Core.List.{List, [], _∷_, _++_, append-assoc, append-nil}
+use mathlib.Core.Path.{_≡_, refl, sym, ap, _∙_}
+use native.Mathlib.Nat.{add-zero, mul-one, mul-assoc, pow-zero, pow-succ', div-one, div-div-eq-div-mul, mul-le-mul, mod-lt}
 use native.Mathlib.Omega.{arith}
-use native.Mathlib.Numerals.{add-one}
 use lib.Ieee.{Float}
-use lib.ListN.{length, take, drop, set, length-append}
-use lib.Seq.{take-add, drop-cons, drop-set-lt, getD-set-same, append-snoc, lt-length-set}
-use native.Mathlib.Nat.{add-zero, sub-zero}
+use lib.ListN.{length, set, length-append, length-set}
 use Rattle.text.specs.Written.{Wrote}
 use Rattle.text.specs.Numerals.{glyph, digits, bitsOf, bitsText, floatText}
 use Rattle.text.specs.declared.Bits.{Bits}
 use Rattle.text.specs.declared.Bits.the-variants.{Pattern, NaN}
+use borrow.Author.Tests.{lt-ltb, le-ltb}
+use Rattle.text.proofs.Writing.{both, byte}
+use Rattle.text.proofs.Decimal.{by-size}
 
 pub length-digits : (base k n : ℕ) → length (digits base k n) ≡ k
 unfolding digits
 length-digits base zero n = refl
 length-digits base (suc k) n = rw (length-append, length-digits base k (n / base)) (omega arith)
 
-stored : (out : List ℕ) (p b : ℕ) → p < length out → drop p (set out p b) ≡ b ∷ drop (suc p) out
-stored out p b h = drop-cons (set out p b) p 0 (lt-length-set out p b h) ∙ rw (getD-set-same out p b 0 h, drop-set-lt (suc p) out p b (omega arith))
-
--- the digit before those that stand from p + 1 on
-digit-before : (base j k n p : ℕ) (out : List ℕ) → p < length out → digits base j (n / base) ++ take (suc k) (drop p (set out p (glyph (n % base)))) ≡ digits base (suc j) n ++ take k (drop (suc p) out)
+-- more digits are those of n / base^k, and then the last k
+pub digits-split : (base j k n : ℕ) → digits base (j + k) n ≡ digits base j (n / base ^ k) ++ digits base k n
 unfolding digits
-digit-before base j k n p out h = rw (stored out p (glyph (n % base)) h) (sym (append-snoc (digits base j (n / base)) (glyph (n % base)) (take k (drop (suc p) out))))
+digits-split base j zero n = rw (add-zero, pow-zero, div-one, append-nil)
+digits-split base j (suc k) n =
+    let e : j + suc k ≡ suc (j + k) = omega arith in
+    rw (e, digits-split base j k (n / base), append-assoc, div-div-eq-div-mul n base (base ^ k), ← pow-succ' base k)
 
--- of a number's digits D, those below place i stand already, and the first i are those of n: the next digit goes before them
-pub one-digit : (base width i n at r : ℕ) (out D : List ℕ) → 0 < i → i ≤ width → at + (i - 1) < length out → r ≡ glyph (n % base) → digits base i n ++ take (width - i) (drop (at + i) out) ≡ D → digits base (i - 1) (n / base) ++ take (width - (i - 1)) (drop (at + (i - 1)) (set out (at + (i - 1)) r)) ≡ D
-one-digit base width zero n at r out D h g l q e = absurd (omega arith)
-one-digit base width (suc j) n at r out D h g l q e =
-    let a : suc j - 1 ≡ j = omega arith in
-    let b : width - j ≡ suc (width - suc j) = omega arith in
-    let p : at + suc j ≡ suc (at + j) = omega arith in
-    rw (a, b, q) (digit-before base j (width - suc j) n (at + j) out (omega arith) ∙ (rw p at e))
+-- one half written after the other, by a divisor d
+pub halves : (base j k n d : ℕ) {at m r : ℕ} {a b c : List ℕ} → d ≡ base ^ k → Wrote a at (digits base j (n / d)) b m → Wrote b m (digits base k n) c r
+    → Wrote a at (digits base (j + k) n) c r
+halves base j k n d e w v = rw (digits-split base j k n, ← e) (both w v)
 
--- all the digits stand
-pub all-digits : (base width i m n at : ℕ) (before out : List ℕ) → i ≤ 0 → take at out ≡ take at before → digits base i m ++ take (width - i) (drop (at + i) out) ≡ digits base width n → Wrote before at (digits base width n) out (at + width)
+-- the last two digits, byte by byte
+pub two-digits : (base n at : ℕ) (out : List ℕ) → at + 2 ≤ length out
+    → Wrote out at (digits base 2 n) (set (set out at (glyph (n / base % base))) (at + 1) (glyph (n % base))) (at + 2)
 unfolding digits
-all-digits base width zero m n at before out h kept spelt = record { next = ap (λ (k : ℕ). at + k) (sym (length-digits base width n)); bytes = take-add at width out ∙ ap₂ (λ (a b : List ℕ). a ++ b) kept (rw (add-zero, sub-zero) at spelt) }
-all-digits base width (suc i) m n at before out h kept spelt = absurd (omega arith)
+two-digits base n at out h =
+    let e : at + 2 ≡ at + 1 + 1 = omega arith in
+    rw e (both (byte out at (glyph (n / base % base)) (omega arith)) (byte (set out at (glyph (n / base % base))) (at + 1) (glyph (n % base)) (rw length-set (omega arith))))
+
+-- 39 bytes lie between 9 and a
+pub letter : (d : ℕ) → d < 16 → 48 + d + (d + 6) / 16 * 39 ≡ glyph d
+letter d h = by-size d (λ small. rw (lt-ltb d 10 small) (omega arith)) (λ big. rw (le-ltb d 10 big) (omega arith))
+
+-- a base of at most 16: its digits, its square, and the square's
+pub digit-fits : (n base : ℕ) → 1 ≤ base → base ≤ 16 → n % base < 16
+digit-fits n base h g = let l : n % base < base = mod-lt n (omega arith) in omega arith
+
+pub square-fits : (base : ℕ) → base ≤ 16 → base * base ≤ 256
+square-fits base h = mul-le-mul h h
+
+pub square-again : (base : ℕ) → base ≤ 16 → base * base * (base * base) ≤ 65_536
+square-again base h = mul-le-mul (square-fits base h) (square-fits base h)
+
+pub square-is : (base : ℕ) → base * base ≡ base ^ 2
+square-is base = rw (pow-succ' base 1, pow-succ' base 0, pow-zero, mul-one)
+
+pub square-again-is : (base : ℕ) → base * base * (base * base) ≡ base ^ 4
+square-again-is base = rw (pow-succ' base 3, pow-succ' base 2, ← square-is base, mul-assoc)
 
 bits-fit : (b : Bits) → length (bitsText b) ≤ 16
 bits-fit (Pattern bits) = rw (length-digits 16 16 bits) (omega arith)

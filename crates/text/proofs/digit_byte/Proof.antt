@@ -1,27 +1,27 @@
 -- `text::digit_byte` meets its contract. Assumes nothing.
-use borrow.Author.Tests.{lt-ltb, le-ltb}
+use Rattle.text.proofs.Digits.{letter}
 use borrow.Author.Needs.{needs}
 use Rattle.text.proofs.digit_byte.Statement.{statement}
 use Rattle.text.proofs.digit_byte.Tie as tie
 
-cast-result : tie.Need-cast-result
-cast-result c = search needs
-
 add-result : tie.Need-add-result
 add-result c = search needs
-
-cast-result-2 : tie.Need-cast-result-2
-cast-result-2 c = search needs
 
 add-result-2 : tie.Need-add-result-2
 add-result-2 c = search needs
 
-returns : tie.Need-returns
-returns c = rw (lt-ltb _ 10 (c .if1 .taken))
+mul-result : tie.Need-mul-result
+mul-result c = search needs
 
-returns-2 : tie.Need-returns-2
-returns-2 c = rw (le-ltb _ 10 (c .if1 .left))
+add-result-3 : tie.Need-add-result-3
+add-result-3 c = search needs
+
+cast-result : tie.Need-cast-result
+cast-result c = search needs
+
+returns : tie.Need-returns
+returns c = letter (c .args .d) (c .pre)
 
 pub digit-byte-spec : {M : Type 1} → statement M
 digit-byte-spec =
-    tie.close (tie.spec cast-result add-result cast-result-2 add-result-2 returns returns-2)
+    tie.close (tie.spec add-result add-result-2 mul-result add-result-3 cast-result returns)
