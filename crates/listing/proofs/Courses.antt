@@ -5,7 +5,7 @@ use mathlib.Core.List.{List, [], _++_, append-assoc}
 use mathlib.Core.Path.{_≡_, refl, sym, ap, _∙_}
 use native.Mathlib.Nat.{suc-mul, div-le-self}
 use native.Mathlib.Omega.{arith}
-use lib.ListN.{length, take}
+use lib.ListN.{length, take, drop}
 use Rattle.basis.specs.Limits.{endOfTime}
 use Rattle.state.specs.declared.State.{State}
 use Rattle.state.specs.declared.Setting.{Setting}
@@ -21,6 +21,7 @@ use Rattle.motion.proofs.Allowed.{away}
 use Rattle.motion.proofs.OneStep.{done}
 use Rattle.motion.proofs.Walked.{handedOn, handedOff}
 use Rattle.text.specs.Written.{Wrote}
+use Rattle.text.proofs.Writing.{later}
 use Rattle.listing.specs.Lines.{stateLine, outcomeLine}
 use Rattle.listing.specs.Strip.{stepsTo}
 use Rattle.listing.specs.Course.{courseText, remains, OnCourse, longestLine, Advanced, portionOf, startOf}
@@ -48,26 +49,28 @@ module _ (f : State → Moved) (did : ℕ) (s : State) where
 
 -- ---- the loop: at bytes are written, and the rest starts from now
 
-module _ (b : List ℕ) (setting : Setting) (h : ℕ) (from : Course) where
+module _ (b : List ℕ) (setting : Setting) (h : ℕ) (from : Course) (before : List ℕ) where
   pub record Listing (out : List ℕ) (now : State) (sky : Sights) (left did at : ℕ) : Type 0 where
     pub text : courseText (step b setting h) (from .left) (from .done) (from .state) ≡ take at out ++ courseText (step b setting h) left did now
     pub on : OnCourse b setting h (record { state = now; sky = sky; left = left; done = did })
     pub within : at ≤ length out
+    pub rest : drop at out ≡ drop at before
     pub least : left ≤ from .left
     pub moved : left ≡ from .left → at ≡ 0
 
-  pub begins : (out : List ℕ) → OnCourse b setting h from → Listing out (from .state) (from .sky) (from .left) (from .done) 0
-  begins out on = record { text = refl; on = on; within = omega arith; least = omega arith; moved = λ e. refl }
+  pub begins : OnCourse b setting h from → Listing before (from .state) (from .sky) (from .left) (from .done) 0
+  begins on = record { text = refl; on = on; within = omega arith; rest = refl; least = omega arith; moved = λ e. refl }
 
   module _ (out : List ℕ) (now : State) (sky : Sights) (left did at : ℕ) (l : Listing out now sky left did at) where
     pub stands : now .moment < endOfTime
     stands = let i = l .on .inside in omega arith
 
-    pub ends : (o : Outcome) → courseText (step b setting h) left did now ≡ remains (step b setting h) (record { state = now; sky = sky; left = left; done = did }) o → (o ≡ Going → length out < at + longestLine) → Advanced b setting h from out (portionOf o now sky left did at)
+    pub ends : (o : Outcome) → courseText (step b setting h) left did now ≡ remains (step b setting h) (record { state = now; sky = sky; left = left; done = did }) o → (o ≡ Going → length out < at + longestLine) → Advanced b setting h from before out (portionOf o now sky left did at)
     ends o rest full =
         record {
           text = l .text ∙ ap (λ (r : List ℕ). take at out ++ r) rest;
           within = l .within;
+          rest = l .rest;
           onward = l .on;
           nearer = λ e room. nearer (full e) room;
         }
@@ -79,7 +82,7 @@ module _ (b : List ℕ) (setting : Setting) (h : ℕ) (from : Course) where
             omega arith
 
     module _ (some : left ≡ 0 → ⊥) where
-      pub refuses : (k : ℕ) → stepped.Off k ≡ kept (skyAfter b setting h now) (step b setting h now) → Advanced b setting h from out (portionOf (Refused k) now sky left did at)
+      pub refuses : (k : ℕ) → stepped.Off k ≡ kept (skyAfter b setting h now) (step b setting h now) → Advanced b setting h from before out (portionOf (Refused k) now sky left did at)
       refuses k e = ends (Refused k) (text-refused (step b setting h) did now left k some (handedOff _ _ k e)) (λ z. let c : _≡_ {A = ℕ} 0 1 = cc in absurd (omega arith))
 
       pub goes-on : (next : State) (seen : Sights) (after : List ℕ) (r : ℕ) → stepped.On next seen ≡ kept (skyAfter b setting h now) (step b setting h now) → Wrote out at (stateLine next) after r → at + longestLine ≤ length out → length after ≡ length out → Listing after next seen (left - 1) (did + 1) r
@@ -100,6 +103,7 @@ module _ (b : List ℕ) (setting : Setting) (h : ℕ) (from : Course) where
                 ∙ ap (λ (t : List ℕ). t ++ courseText (step b setting h) (left - 1) (did + 1) next) (sym (w .bytes));
             on = record { pass = l .on .pass; seen = handed .at ∙ ap (sights b setting) (sym moment); inside = omega arith; counts = omega arith };
             within = omega (arith, w .next);
+            rest = w .rest ∙ rw (w .next) (later before out at (length (stateLine next)) (l .rest));
             least = omega arith;
             moved = λ z. absurd (omega arith);
           }

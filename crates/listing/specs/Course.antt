@@ -3,7 +3,7 @@ use Prim.Native.Nat.{ℕ, zero, suc, _+_, _*_, _<_, _≤_}
 use mathlib.Core.Bool.{true}
 use mathlib.Core.List.{List, _++_}
 use mathlib.Core.Path.{_≡_}
-use lib.ListN.{length, take}
+use lib.ListN.{length, take, drop}
 use Rattle.basis.specs.Limits.{endOfTime}
 use Rattle.state.specs.declared.State.{State}
 use Rattle.state.specs.declared.Setting.{Setting}
@@ -45,10 +45,11 @@ pub record OnCourse (b : List ℕ) (setting : Setting) (h : ℕ) (c : Course) : 
 abbrev pub longestLine : ℕ
 longestLine = 123
 
--- a portion from the place c on: the lines written to out, and where it ended
-pub record Advanced (b : List ℕ) (setting : Setting) (h : ℕ) (c : Course) (out : List ℕ) (p : Portion) : Type 0 where
+-- a portion from the place c on: the lines that stand in out afterwards, where it ended, and that the rest of out is as it was before
+pub record Advanced (b : List ℕ) (setting : Setting) (h : ℕ) (c : Course) (before out : List ℕ) (p : Portion) : Type 0 where
   pub text : courseText (step b setting h) (c .left) (c .done) (c .state) ≡ take (p .written) out ++ remains (step b setting h) (p .course) (p .outcome)
   pub within : p .written ≤ length out
+  pub rest : drop (p .written) out ≡ drop (p .written) before
   pub onward : OnCourse b setting h (p .course)
   pub nearer : p .outcome ≡ Going → longestLine ≤ length out → p .course .left < c .left
 

@@ -82,7 +82,7 @@ fn portion_of(
 // A line for each state reached, while a whole line still fits.
 pub fn portion(book: &[u8], setting: Setting, h: u32, from: Course, out: &mut [u8]) -> Portion
     requires { ⌜ OnCourse (now book) setting h from ⌝ }
-    ensures { λ r. ⌜ Advanced (now (book .entry)) setting h from (now (out .exit)) r ⌝ }
+    ensures { λ r. ⌜ Advanced (now (book .entry)) setting h from (now (out .entry)) (now (out .exit)) r ⌝ }
 {
     let mut now = from.state;
     let mut sky = from.sky;

@@ -2,9 +2,10 @@
 use Prim.Native.Nat.{ℕ, _+_}
 use mathlib.Core.List.{List, _++_}
 use mathlib.Core.Path.{_≡_}
-use lib.ListN.{length, take}
+use lib.ListN.{length, take, drop}
 
--- what stood before the place stays, then comes the text, and r is the place after it
+-- what stood before the place stays, then comes the text, r is the place after it, and what stood from there on stays
 pub record Wrote (before : List ℕ) (at : ℕ) (text after : List ℕ) (r : ℕ) : Type 0 where
   pub next : r ≡ at + length text
   pub bytes : take r after ≡ take at before ++ text
+  pub rest : drop r after ≡ drop r before
