@@ -136,7 +136,7 @@ pub fn step(book: &[u8], setting: &Setting, s: &State, h: u32) -> Result<State, 
 }
 
 /// What is refused before any step: 1, 4, 3 (state, then target), 7, 2, 5.
-pub fn order(book: &[u8], setting: &Setting, s: &State, h: u32, target: u64) -> Result<(), u64> {
+pub fn start_checks(book: &[u8], setting: &Setting, s: &State, h: u32, target: u64) -> Result<(), u64> {
     book::check(book)?;
     setting_allowed(setting)?;
     if s.moment >= END || target >= END {
@@ -179,7 +179,7 @@ pub fn run(
     book: &[u8], setting: &Setting, state: &State, h: u32, target: u64, budget: u32,
     guesses: [u64; 5],
 ) -> Ran {
-    if let Err(number) = order(book, setting, state, h, target) {
+    if let Err(number) = start_checks(book, setting, state, h, target) {
         return Ran { outcome: Outcome::Refused(number), steps: 0, state: *state, guesses };
     }
     let (outcome, steps, state) = walk(book, setting, state, h, target, budget);

@@ -54,7 +54,7 @@ pub fn strip_into(input: &[u8], out: &mut impl Write) -> io::Result<()> {
     if book.len() > LIMIT {
         return out.write_all(b"REFUSED 1\n");
     }
-    if let Err(number) = motion::order(book, &setting, &state, h, target) {
+    if let Err(number) = motion::start_checks(book, &setting, &state, h, target) {
         return writeln!(out, "REFUSED {number}");
     }
     writeln!(out, "STRIP {h}")?;

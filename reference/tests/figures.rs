@@ -5,7 +5,7 @@ use reference::book;
 use reference::calendar::{date_of, day_of};
 use reference::conic::{conic, Kind};
 use reference::hour::{angle_at, hour_angle, DAY, END};
-use reference::motion::{acceleration, order, run, Outcome, Setting, State};
+use reference::motion::{acceleration, start_checks, run, Outcome, Setting, State};
 use reference::root::root;
 use reference::sine::{sine_cosine, OCTANT};
 use reference::strip::strip;
@@ -116,8 +116,8 @@ fn conics() {
 fn steps_allowed() {
     let state = State { moment: 0, position: [2.0, 0.0, 0.0], velocity: [0.0, 4.0, 0.0] };
     let setting = earth_alone(8.0);
-    assert_eq!(order(&EMPTY, &setting, &state, 3, 0), Err(2));
-    assert_eq!(order(&EMPTY, &setting, &state, 86_400_000, 86_400_000), Ok(()));
+    assert_eq!(start_checks(&EMPTY, &setting, &state, 3, 0), Err(2));
+    assert_eq!(start_checks(&EMPTY, &setting, &state, 86_400_000, 86_400_000), Ok(()));
     let ran = run(&EMPTY, &setting, &state, 1000, 3000, 2, [9; 5]);
     assert_eq!((ran.outcome, ran.steps, ran.state.moment), (Outcome::Going, 2, 2000));
     assert_eq!(ran.guesses, [9; 5]);

@@ -7,7 +7,7 @@ use reference::book;
 use reference::motion::Outcome;
 use reference::trial::books::{build, pieces, special, sturdy};
 use reference::trial::chance::Chance;
-use reference::trial::child::Told;
+use reference::trial::child::Said;
 use reference::trial::compare::{group_input, Tally};
 use reference::trial::plan::{groups, strips, KINDS};
 use reference::trial::trip::{break_at, trip, BREAKS};
@@ -92,7 +92,7 @@ fn tally(spoil: usize) -> Tally {
     let mut tally = Tally { spoil, ..Tally::default() };
     for group in groups(&mut c, 5000, &kinds(), &[]) {
         let output = ask::answers(group.world.bytes(), &group_input(&group));
-        tally.group(&group, &Told { output, ended: String::new() });
+        tally.group(&group, &Said { output, ended: String::new() });
     }
     tally
 }
@@ -127,10 +127,10 @@ fn short_and_long_outputs_are_found() {
     let mut c = Chance::new(12);
     let group = groups(&mut c, 100, &["root"], &[]).remove(0);
     let whole = ask::answers(group.world.bytes(), &group_input(&group));
-    let told = |output: &[u8]| Told { output: output.to_vec(), ended: String::new() };
+    let said = |output: &[u8]| Said { output: output.to_vec(), ended: String::new() };
     let differ = |output: &[u8]| {
         let mut tally = Tally::default();
-        tally.group(&group, &told(output));
+        tally.group(&group, &said(output));
         tally.differ
     };
     assert_eq!(differ(&whole), 0);

@@ -8,7 +8,7 @@ use std::thread::{scope, sleep};
 use std::time::{Duration, Instant};
 
 #[derive(Clone, Debug)]
-pub struct Told {
+pub struct Said {
     pub output: Vec<u8>,
     /// How the program ended, in words.
     pub ended: String,
@@ -33,7 +33,7 @@ pub fn wait(child: &mut Child, until: Instant) -> String {
 /// The output is read up to `most` bytes, and no longer than the limit.
 pub fn talk(
     command: &[String], book: Option<&Path>, input: &[u8], most: u64, limit: Duration,
-) -> Result<Told, String> {
+) -> Result<Said, String> {
     let (program, words) = command.split_first().ok_or("no program given")?;
     let mut child = Command::new(program)
         .args(words)
@@ -59,6 +59,6 @@ pub fn talk(
         let early = receive.recv_timeout(limit);
         let ended = wait(&mut child, until);
         let output = early.or_else(|_| receive.recv()).unwrap_or_default();
-        Told { output, ended }
+        Said { output, ended }
     }))
 }

@@ -3,7 +3,7 @@
 use std::path::PathBuf;
 use std::time::Duration;
 
-use super::child::{talk, Told};
+use super::child::{talk, Said};
 use super::plan::Group;
 use super::report::Counts;
 use super::strips::Strip;
@@ -53,8 +53,8 @@ impl Tally {
     }
 
     /// The program's whole output for a group, line by line.
-    pub fn group(&mut self, group: &Group, told: &Told) {
-        let mut got: Vec<&[u8]> = told.output.split_inclusive(|&b| b == b'\n').collect();
+    pub fn group(&mut self, group: &Group, said: &Said) {
+        let mut got: Vec<&[u8]> = said.output.split_inclusive(|&b| b == b'\n').collect();
         // What comes behind the last answer belongs to it.
         let last = group.calls.len() - 1;
         let joined = got.get(last..).unwrap_or(&[]).concat();
@@ -69,13 +69,13 @@ impl Tally {
             let expected = [answer.as_bytes(), b"\n"].concat();
             self.one(&what, expected, got.get(i).copied(), &|| short(&call.line));
         }
-        self.counts.end("ask", &told.ended);
+        self.counts.end("ask", &said.ended);
     }
 
-    pub fn strip(&mut self, s: &Strip, expected: Vec<u8>, told: &Told, kept: &dyn Fn() -> String) {
+    pub fn strip(&mut self, s: &Strip, expected: Vec<u8>, said: &Said, kept: &dyn Fn() -> String) {
         self.counts.add("strip", &s.case, &String::from_utf8_lossy(&expected));
-        self.one(&format!("strip, {}", s.case), expected, Some(&told.output), kept);
-        self.counts.end("strip", &told.ended);
+        self.one(&format!("strip, {}", s.case), expected, Some(&said.output), kept);
+        self.counts.end("strip", &said.ended);
     }
 }
 
@@ -114,8 +114,8 @@ impl Programs {
             None => None,
         };
         let most = 1000 * group.calls.len() as u64 + 1_000_000;
-        let told = talk(&self.ask, book, &group_input(group), most, self.limit)?;
-        tally.group(group, &told);
+        let said = talk(&self.ask, book, &group_input(group), most, self.limit)?;
+        tally.group(group, &said);
         match book {
             Some(file) if tally.differ == before => drop(std::fs::remove_file(file)),
             Some(file) if before < SHOWN => println!("  book     kept in {}", file.display()),
@@ -128,13 +128,13 @@ impl Programs {
     pub fn print_strip(&self, tally: &mut Tally, s: &Strip) -> Result<(), String> {
         let expected = strip::strip(&s.input);
         let most = 2 * expected.len() as u64 + 100_000;
-        let told = talk(&self.strip, None, &s.input, most, self.limit)?;
+        let said = talk(&self.strip, None, &s.input, most, self.limit)?;
         let file = self.folder.join(format!("strip-{}.input", tally.compared + 1));
         let kept = || match std::fs::write(&file, &s.input) {
             Ok(()) => format!("{} bytes, kept in {}", s.input.len(), file.display()),
             Err(error) => format!("{} bytes, not kept: {error}", s.input.len()),
         };
-        tally.strip(s, expected, &told, &kept);
+        tally.strip(s, expected, &said, &kept);
         Ok(())
     }
 }

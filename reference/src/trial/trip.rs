@@ -6,7 +6,7 @@ use super::times::{bad_dut, bad_moment};
 use super::world::World;
 use crate::book::covers;
 use crate::hour::{DUT_MOST, END};
-use crate::motion::{order, run, Ran, Setting, State};
+use crate::motion::{run, start_checks, Ran, Setting, State};
 
 /// Document 003's coefficients.
 pub const NOMINAL: [f64; 6] = [398603.20, 4900.7589, 132715440000.0, 324769.50, 42977.799, 126710600.0];
@@ -54,7 +54,7 @@ impl Trip {
 
     /// At most so many steps, whatever is asked: the target is moved nearer.
     pub fn shortened(mut self, book: &[u8], most: u64) -> Trip {
-        if order(book, &self.setting, &self.state, self.h, self.target).is_ok() {
+        if start_checks(book, &self.setting, &self.state, self.h, self.target).is_ok() {
             let h = u64::from(self.h);
             let steps = (self.target - self.state.moment) / h;
             self.target = self.state.moment + h * steps.min(most);
