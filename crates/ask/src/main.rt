@@ -1,5 +1,5 @@
 // The question line: reads calls on standard input, one a line, and writes one line for each. Its
-// argument names the file of the book.
+// argument names the file of the book; without one the book has no bytes.
 
 mod calls;
 mod form;
@@ -8,7 +8,6 @@ mod put;
 use put::Out;
 ghost use Prim.Native.Nat.{_+_, _≤_};
 ghost use lib.ListN.{length};
-ghost use Rattle.io.specs.Counts.{Counts};
 
 // One byte more than a book may have: a longer one is refused all the same.
 const BOOK: usize = 61_441;
@@ -16,23 +15,37 @@ const BOOK: usize = 61_441;
 // No call has so many bytes: of a longer line no more are kept, and it is unreadable as it stands.
 const LINE: usize = 1_001;
 
-// The book's bytes at the start of `book`, none where there is no such file, and how many there are.
-fn read_book(book: &mut [u8]) -> usize
-    ensures { λ r. ⌜ Counts r (now (book .exit)) ⌝ }
-{
-    let mut path = io::buffer();
-    let n = os::arg(1, &mut path);
-    let fd = os::open_read(&path[..n]);
-    let length = io::read_full(fd, book);
-    libc::close(fd);
-    length
+// Says on standard error that a file cannot be read, and why.
+fn tell_unread(name: &[u8]) {
+    io::write_all(libc::STDERR_FILENO, b"ask: cannot read ");
+    os::fail(name);
+}
+
+// A short count is the end of the file or a failure: reading once more tells which.
+fn read_failed(fd: i32, count: usize) -> bool {
+    if BOOK <= count {
+        return false;
+    }
+    let mut more = [0u8; 1];
+    let got = libc::read(fd, &mut more);
+    if got < 0 {
+        return true;
+    }
+    false
+}
+
+fn tell_unwritten(written: bool) {
+    if written {
+        return;
+    }
+    os::fail(b"ask: cannot write the answers");
 }
 
 fn write_out(out: &Out, n: usize)
     requires { ⌜ n ≤ 65_536 ⌝ }
 {
     let all: &[u8] = out;
-    io::write_all(libc::STDOUT_FILENO, &all[..n]);
+    tell_unwritten(io::write_all(libc::STDOUT_FILENO, &all[..n]));
 }
 
 // Where an answer has room. Where that would be past the end, all before it is written out.
@@ -97,8 +110,38 @@ fn answer_all(book: &[u8]) {
     }
 }
 
-fn main() {
+// Answers from the book of that name; where it cannot be read, nothing is answered.
+fn answer_from(name: &[u8]) {
+    let fd = os::open_read(name);
+    if fd < 0 {
+        tell_unread(name);
+        return;
+    }
     let mut book = [0u8; BOOK];
-    let length = read_book(&mut book);
-    answer_all(&book[..length]);
+    let count = io::read_full(fd, &mut book);
+    if read_failed(fd, count) {
+        tell_unread(name);
+        return;
+    }
+    libc::close(fd);
+    answer_all(&book[..count]);
+}
+
+fn main() {
+    let words = os::arg_count();
+    if 2 < words {
+        io::write_all(libc::STDERR_FILENO, b"use: ask [BOOK] < QUESTIONS\n");
+        return;
+    }
+    if words < 2 {
+        answer_all(b"");
+        return;
+    }
+    let mut name = io::buffer();
+    let n = os::arg(1, &mut name);
+    if os::errno() != 0 {
+        os::fail(b"ask: the book's name");
+        return;
+    }
+    answer_from(&name[..n]);
 }

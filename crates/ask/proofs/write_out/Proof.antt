@@ -13,8 +13,11 @@ slice-aggregate-write-all c = let h : c .before .before .args .n ≤ length (now
 write-all-requires : tie.Need-write-all-requires
 write-all-requires c κs = search needs
 
+tell-unwritten-requires : tie.Need-tell-unwritten-requires
+tell-unwritten-requires c κs = search needs
+
 returns : tie.Need-returns
 returns c = search needs
 
 pub write-out-spec : {M : Type 1} → statement M
-write-out-spec = tie.close (tie.spec slice-aggregate-write-all write-all-requires returns)
+write-out-spec = tie.close (tie.spec slice-aggregate-write-all write-all-requires tell-unwritten-requires returns)

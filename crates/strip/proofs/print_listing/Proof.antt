@@ -23,14 +23,14 @@ put-header-requires c κs = search needs
 put-state-requires : tie.Need-put-state-requires
 put-state-requires c κs = omega (arith, header-fits (c .before .before .before .before .before .before .before .before .before .args .order .h) (omega arith), c .before .before .before .before .put-header .ensures .next, c .before .before .before .before .put-header .kept .0, c .before .before .before .before .before .before .before .large-buffer .ensures)
 
-slice-reshare-prefix-write-all : tie.Need-slice-reshare-prefix-write-all
-slice-reshare-prefix-write-all c = inside (c .before .before .put-state .ensures) (inside (c .before .before .before .before .before .before .before .put-header .ensures) (omega arith))
+slice-reshare-prefix-print : tie.Need-slice-reshare-prefix-print
+slice-reshare-prefix-print c = inside (c .before .before .put-state .ensures) (inside (c .before .before .before .before .before .before .before .put-header .ensures) (omega arith))
 
-slice-aggregate-write-all : tie.Need-slice-aggregate-write-all
-slice-aggregate-write-all c = sym (length-take-le _ _ (inside (c .before .before .before .put-state .ensures) (inside (c .before .before .before .before .before .before .before .before .put-header .ensures) (omega arith))))
+slice-aggregate-print : tie.Need-slice-aggregate-print
+slice-aggregate-print c = sym (length-take-le _ _ (inside (c .before .before .before .put-state .ensures) (inside (c .before .before .before .before .before .before .before .before .put-header .ensures) (omega arith))))
 
-write-all-requires : tie.Need-write-all-requires
-write-all-requires c κs = search needs
+print-requires : tie.Need-print-requires
+print-requires c κs = search needs
 
 start-requires : tie.Need-start-requires
 start-requires c κs = mayWalk _ _ _ _ _ (c .before .before .before .before .before .before .before .before .before .before .before .before .before .before .before .before .pre)
@@ -52,9 +52,9 @@ print-listing-spec =
     slice-aggregate-out
     put-header-requires
     put-state-requires
-    slice-reshare-prefix-write-all
-    slice-aggregate-write-all
-    write-all-requires
+    slice-reshare-prefix-print
+    slice-aggregate-print
+    print-requires
     start-requires
     print-course-requires
     returns

@@ -16,11 +16,11 @@ put-outcome-requires c κs = search needs
 array-share-prefix-line : tie.Need-array-share-prefix-line
 array-share-prefix-line c = inside (c .before .put-outcome .ensures) (omega arith)
 
-slice-aggregate-write-all : tie.Need-slice-aggregate-write-all
-slice-aggregate-write-all c = sym (length-take-le _ _ (inside (c .before .before .put-outcome .ensures) (omega arith)))
+slice-aggregate-print : tie.Need-slice-aggregate-print
+slice-aggregate-print c = sym (length-take-le _ _ (inside (c .before .before .put-outcome .ensures) (omega arith)))
 
-write-all-requires : tie.Need-write-all-requires
-write-all-requires c κs = search needs
+print-requires : tie.Need-print-requires
+print-requires c κs = search needs
 
 returns : tie.Need-returns
 returns c = search needs
@@ -32,6 +32,6 @@ print-outcome-spec =
     slice-aggregate-put-outcome
     put-outcome-requires
     array-share-prefix-line
-    slice-aggregate-write-all
-    write-all-requires
+    slice-aggregate-print
+    print-requires
     returns)

@@ -1,0 +1,73 @@
+#!/usr/bin/env bash
+# What strip and ask say where something cannot be done: files that cannot be read, words that they do not take, a full disk.
+# One line for each check; ends with 1 if one failed.
+cd "$(dirname "$0")/.." || exit 2
+. tests/programs.sh
+[ -x target/bin/ask ] && [ -x target/bin/strip ] || rt check ask strip >/dev/null || exit 2
+work=$PWD/target/told
+rm -rf "$work"
+mkdir -p "$work"
+failed=0
+dates=$'date 0\nbody 2 0\n'
+
+# Both outputs of a program, for a text on its standard input.
+says() { # TEXT PROGRAM WORD..
+    text=$1
+    shift
+    printf '%s' "$text" | $start "target/bin/$@" >"$work/out" 2>"$work/err"
+}
+
+check() { # NAME OUTPUT ERRORS (a pattern; empty: none)
+    if [ "$(cat "$work/out")" != "$2" ]; then
+        echo "FAILED $1: standard output"
+    elif [ -z "$3" ] && [ -s "$work/err" ]; then
+        echo "FAILED $1: something on standard error"
+    elif [ -n "$3" ] && [ "$(grep -c . "$work/err")" != 1 ]; then
+        echo "FAILED $1: not one line on standard error"
+    elif [ -n "$3" ] && ! grep -q "$3" "$work/err"; then
+        echo "FAILED $1: standard error"
+    else
+        echo "ok $1"
+        return
+    fi
+    failed=1
+}
+
+says "$dates" ask
+check "ask without a book" $'1950 1 1\nREFUSED 1' ''
+says "$dates" ask "$work/nothing"
+check "ask with a file that is not there" '' "^ask: cannot read $work/nothing: No such file"
+says "$dates" ask "$work"
+check "ask with a directory" '' "^ask: cannot read $work: Is a directory"
+says "$dates" ask "$(printf 'x%.0s' {1..5000})"
+check "ask with a name that is too long" '' "^ask: the book's name: File name too long"
+says "$dates" ask data/books/book30.bin more
+check "ask with two words" '' '^use: ask \[BOOK\] < QUESTIONS$'
+{ cat data/books/book30.bin; head -c 61440 /dev/zero; } >"$work/long"
+says "$dates" ask "$work/long"
+check "ask with a book above the limit" $'1950 1 1\nREFUSED 1' ''
+zeros=0000000000000000 small=00000000000000000000
+longest="run 4020000000000000$(printf " $zeros%.0s" {1..5}) $small $small 4000000000000000$(printf " $zeros%.0s" {1..3}) 4010000000000000 $zeros 00000000000000001000$(printf " $small%.0s" {1..7})"
+says "$longest"$'\n' ask
+[ ${#longest} = 417 ] || echo "the longest call has ${#longest} bytes" >>"$work/err"
+check "ask with the longest call" 'REFUSED 1 0 0 4000000000000000 0000000000000000 0000000000000000 0000000000000000 4010000000000000 0000000000000000 0 0 0 0 0' ''
+says "$longest 0"$'\n' ask
+check "ask with a field more" UNREADABLE ''
+printf '%s' "$dates" | $start target/bin/ask >/dev/full 2>"$work/err"
+: >"$work/out"
+check "ask on a full disk" '' '^ask: cannot write the answers: No space left on device$'
+
+says '' strip more
+check "strip with a word" '' '^use: strip < INPUT$'
+says '' strip
+check "strip without input" 'REFUSED 1' ''
+$start target/bin/strip <"$work" >"$work/out" 2>"$work/err"
+check "strip with a directory" '' '^strip: cannot read standard input: Is a directory$'
+cat data/orders/check-case-1.order "$work/long" | $start target/bin/strip >"$work/out" 2>"$work/err"
+check "strip with a book above the limit" 'REFUSED 1' ''
+: >"$work/out"
+cat data/orders/check-case-1.order data/books/book31all.bin | $start target/bin/strip >/dev/full 2>"$work/err"
+check "strip on a full disk" '' '^strip: cannot write the listing: No space left on device$'
+printf '' | $start target/bin/strip >/dev/full 2>"$work/err"
+check "a lone refusal on a full disk" '' '^strip: cannot write the listing: No space left on device$'
+exit $failed
