@@ -27,27 +27,27 @@ ghost use Prim.Native.Nat.{_+_, _≤_};
 ghost use Rattle.ask.specs.Room.{Between};
 
 // The reader has seen that a number of 32 bits has no more of them.
-fn small(number: u64) -> u32 {
+fn narrowed(number: u64) -> u32 {
     (number % 4_294_967_296) as u32
 }
 
-fn float_at(v: &Numbers, i: usize) -> f64
+fn nth_float(v: &Numbers, i: usize) -> f64
     requires { ⌜ i + 1 ≤ 22 ⌝ }
 {
     text::float_of_bits(v[i])
 }
 
-fn state_at(v: &Numbers, moment: u64, i: usize) -> State
+fn state_from(v: &Numbers, moment: u64, i: usize) -> State
     requires { ⌜ i + 6 ≤ 22 ⌝ }
 {
     State {
         moment,
-        x: float_at(v, i),
-        y: float_at(v, i + 1),
-        z: float_at(v, i + 2),
-        vx: float_at(v, i + 3),
-        vy: float_at(v, i + 4),
-        vz: float_at(v, i + 5),
+        x: nth_float(v, i),
+        y: nth_float(v, i + 1),
+        z: nth_float(v, i + 2),
+        vx: nth_float(v, i + 3),
+        vy: nth_float(v, i + 4),
+        vz: nth_float(v, i + 5),
     }
 }
 
@@ -55,7 +55,7 @@ fn root_answer(v: &Numbers, out: &mut Out, at: usize) -> usize
     requires { ⌜ at + 512 ≤ 65_536 ⌝ }
     ensures { λ r. ⌜ Between at 1 512 r ⌝ }
 {
-    match root::root(float_at(v, 0)) {
+    match root::root(nth_float(v, 0)) {
         RootAnswer::Value(y) => put_floats(out, at, &[y]),
         RootAnswer::Refused(number) => put_refused(out, at, number),
     }
@@ -75,7 +75,7 @@ fn hour_answer(v: &Numbers, out: &mut Out, at: usize) -> usize
     requires { ⌜ at + 512 ≤ 65_536 ⌝ }
     ensures { λ r. ⌜ Between at 1 512 r ⌝ }
 {
-    match hour::hour_angle(v[0], small(v[1])) {
+    match hour::hour_angle(v[0], narrowed(v[1])) {
         HourAnswer::Parts(parts) => put_numbers(out, at, &[parts]),
         HourAnswer::Refused(number) => put_refused(out, at, number),
     }
@@ -105,7 +105,7 @@ fn fixed_answer(v: &Numbers, out: &mut Out, at: usize) -> usize
     requires { ⌜ at + 512 ≤ 65_536 ⌝ }
     ensures { λ r. ⌜ Between at 1 512 r ⌝ }
 {
-    match fixed::earth_fixed(state_at(v, v[1], 2), small(v[0])) {
+    match fixed::earth_fixed(state_from(v, v[1], 2), narrowed(v[0])) {
         FixedAnswer::Fixed(f) => put_floats(out, at, &[f.x, f.y, f.z, f.vx, f.vy, f.vz]),
         FixedAnswer::Refused(number) => put_refused(out, at, number),
     }
@@ -139,7 +139,7 @@ fn conic_answer(v: &Numbers, out: &mut Out, at: usize) -> usize
     requires { ⌜ at + 512 ≤ 65_536 ⌝ }
     ensures { λ r. ⌜ Between at 1 512 r ⌝ }
 {
-    match conic::conic_figures(float_at(v, 0), state_at(v, 0, 1)) {
+    match conic::conic_figures(nth_float(v, 0), state_from(v, 0, 1)) {
         ConicAnswer::Figures(centred) => {
             let conic = centred.conic;
             put_conic(out, at, centred.centre, conic)
@@ -161,13 +161,13 @@ fn body_answer(book: &[u8], v: &Numbers, out: &mut Out, at: usize) -> usize
 // The first seven numbers: six coefficients and DUT.
 fn setting_of(v: &Numbers) -> Setting {
     Setting {
-        earth: float_at(v, 0),
-        moon: float_at(v, 1),
-        sun: float_at(v, 2),
-        venus: float_at(v, 3),
-        mars: float_at(v, 4),
-        jupiter: float_at(v, 5),
-        dut: small(v[6]),
+        earth: nth_float(v, 0),
+        moon: nth_float(v, 1),
+        sun: nth_float(v, 2),
+        venus: nth_float(v, 3),
+        mars: nth_float(v, 4),
+        jupiter: nth_float(v, 5),
+        dut: narrowed(v[6]),
     }
 }
 
@@ -176,9 +176,9 @@ fn accel_answer(book: &[u8], v: &Numbers, out: &mut Out, at: usize) -> usize
     ensures { λ r. ⌜ Between at 1 512 r ⌝ }
 {
     let position = Vector {
-        x: float_at(v, 8),
-        y: float_at(v, 9),
-        z: float_at(v, 10),
+        x: nth_float(v, 8),
+        y: nth_float(v, 9),
+        z: nth_float(v, 10),
     };
     match gravity::acceleration(book, setting_of(v), v[7], position) {
         AccelerationAnswer::Is(a) => put_floats(out, at, &[a.x, a.y, a.z]),
@@ -219,14 +219,14 @@ fn run_of(book: &[u8], v: &Numbers) -> RunAnswer {
         mars: v[20],
         jupiter: v[21],
     };
-    let state = state_at(v, v[7], 8);
+    let state = state_from(v, v[7], 8);
     motion::run(
         book,
         setting_of(v),
         state,
-        small(v[14]),
+        narrowed(v[14]),
         v[15],
-        small(v[16]),
+        narrowed(v[16]),
         guesses,
     )
 }

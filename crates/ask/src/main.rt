@@ -10,7 +10,7 @@ ghost use Prim.Native.Nat.{_+_, _≤_};
 ghost use lib.ListN.{length};
 
 // One byte more than a book may have: a longer one is refused all the same.
-const BOOK: usize = 61_441;
+const BOOK: usize = book::LONGEST_BOOK + 1;
 
 // No call has so many bytes: of a longer line no more are kept, and it is unreadable as it stands.
 const LINE: usize = 1_001;
@@ -91,19 +91,19 @@ fn answer_block(book: &[u8], block: &[u8], line: &mut [u8; LINE], kept: usize) -
     n
 }
 
-// The number of turns is one that no run uses up: nothing else says that the input ends.
+// The number of blocks is one that no input uses up: nothing else says that the input ends.
 fn answer_all(book: &[u8]) {
     let mut block = [0u8; 65536];
     let mut line = [0u8; LINE];
     let mut kept = 0;
-    let mut turns = u64::MAX;
-    while 0 < turns {
+    let mut blocks_left = u64::MAX;
+    while 0 < blocks_left {
         let n = io::count(libc::read(libc::STDIN_FILENO, &mut block), &block);
         if n == 0 {
             break;
         }
         kept = answer_block(book, &block[..n], &mut line, kept);
-        turns -= 1;
+        blocks_left -= 1;
     }
     if 0 < kept {
         answer_block(book, b"\n", &mut line, kept);

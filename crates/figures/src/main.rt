@@ -183,7 +183,7 @@ fn documented() {
 
 fn main() {
     documented();
-    let mut space = io::large_buffer();
-    let n = io::read_full(STDIN_FILENO, &mut space);
-    roots(&space[..n]);
+    let mut lines = io::large_buffer();
+    let n = io::read_full(STDIN_FILENO, &mut lines);
+    roots(&lines[..n]);
 }

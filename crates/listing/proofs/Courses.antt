@@ -50,22 +50,22 @@ module _ (f : State → Moved) (did : ℕ) (s : State) where
 -- ---- the loop: at bytes are written, and the rest starts from now
 
 module _ (b : List ℕ) (setting : Setting) (h : ℕ) (from : Course) (before : List ℕ) where
-  pub record Listing (out : List ℕ) (now : State) (sky : Sights) (left did at : ℕ) : Type 0 where
+  pub record Listing (out : List ℕ) (now : State) (sighted : Sights) (left did at : ℕ) : Type 0 where
     pub text : courseText (step b setting h) (from .left) (from .done) (from .state) ≡ take at out ++ courseText (step b setting h) left did now
-    pub on : OnCourse b setting h (record { state = now; sky = sky; left = left; done = did })
+    pub on : OnCourse b setting h (record { state = now; sights = sighted; left = left; done = did })
     pub within : at ≤ length out
     pub rest : drop at out ≡ drop at before
     pub least : left ≤ from .left
     pub moved : left ≡ from .left → at ≡ 0
 
-  pub begins : OnCourse b setting h from → Listing before (from .state) (from .sky) (from .left) (from .done) 0
+  pub begins : OnCourse b setting h from → Listing before (from .state) (from .sights) (from .left) (from .done) 0
   begins on = record { text = refl; on = on; within = omega arith; rest = refl; least = omega arith; moved = λ e. refl }
 
-  module _ (out : List ℕ) (now : State) (sky : Sights) (left did at : ℕ) (l : Listing out now sky left did at) where
+  module _ (out : List ℕ) (now : State) (sighted : Sights) (left did at : ℕ) (l : Listing out now sighted left did at) where
     pub stands : now .moment < endOfTime
     stands = let i = l .on .inside in omega arith
 
-    pub ends : (o : Outcome) → courseText (step b setting h) left did now ≡ remains (step b setting h) (record { state = now; sky = sky; left = left; done = did }) o → (o ≡ Going → length out < at + longestLine) → Advanced b setting h from before out (portionOf o now sky left did at)
+    pub ends : (o : Outcome) → courseText (step b setting h) left did now ≡ remains (step b setting h) (record { state = now; sights = sighted; left = left; done = did }) o → (o ≡ Going → length out < at + longestLine) → Advanced b setting h from before out (portionOf o now sighted left did at)
     ends o rest full =
         record {
           text = l .text ∙ ap (λ (r : List ℕ). take at out ++ r) rest;
@@ -82,7 +82,7 @@ module _ (b : List ℕ) (setting : Setting) (h : ℕ) (from : Course) (before : 
             omega arith
 
     module _ (some : left ≡ 0 → ⊥) where
-      pub refuses : (k : ℕ) → stepped.Off k ≡ kept (skyAfter b setting h now) (step b setting h now) → Advanced b setting h from before out (portionOf (Refused k) now sky left did at)
+      pub refuses : (k : ℕ) → stepped.Off k ≡ kept (skyAfter b setting h now) (step b setting h now) → Advanced b setting h from before out (portionOf (Refused k) now sighted left did at)
       refuses k e = ends (Refused k) (text-refused (step b setting h) did now left k some (handedOff _ _ k e)) (λ z. let c : _≡_ {A = ℕ} 0 1 = cc in absurd (omega arith))
 
       pub goes-on : (next : State) (seen : Sights) (after : List ℕ) (r : ℕ) → stepped.On next seen ≡ kept (skyAfter b setting h now) (step b setting h now) → Wrote out at (stateLine next) after r → at + longestLine ≤ length out → length after ≡ length out → Listing after next seen (left - 1) (did + 1) r

@@ -37,7 +37,7 @@ remains f c (Refused k) = outcomeLine (Refused k) (c .done)
 -- the bodies of the state are known, and the steps left end before the end of time
 pub record OnCourse (b : List ℕ) (setting : Setting) (h : ℕ) (c : Course) : Type 0 where
   pub pass : passes b ≡ true
-  pub seen : c .sky ≡ sights b setting (c .state .moment)
+  pub seen : c .sights ≡ sights b setting (c .state .moment)
   pub inside : c .state .moment + c .left * h < endOfTime
   pub counts : c .done + c .left < endOfTime
 
@@ -54,15 +54,15 @@ pub record Advanced (b : List ℕ) (setting : Setting) (h : ℕ) (c : Course) (b
   pub nearer : p .outcome ≡ Going → longestLine ≤ length out → p .course .left < c .left
 
 abbrev pub portionOf : Outcome → State → Sights → ℕ → ℕ → ℕ → Portion
-portionOf outcome s sky left done written =
-    record { outcome = outcome; course = record { state = s; sky = sky; left = left; done = done }; written = written }
+portionOf outcome s sighted left done written =
+    record { outcome = outcome; course = record { state = s; sights = sighted; left = left; done = done }; written = written }
 
 -- where the run of an order starts
 abbrev pub startOf : List ℕ → Order → Course
 startOf b o =
     record {
       state = o .state;
-      sky = sights b (o .setting) (o .state .moment);
+      sights = sights b (o .setting) (o .state .moment);
       left = stepsTo (o .state) (o .h) (o .target);
       done = 0;
     }

@@ -18,12 +18,12 @@ ghost use Rattle.motion.specs.Kept.{MayWalk};
 ghost use Rattle.listing.specs.Course.{OnCourse, Advanced, startOf, portionOf};
 
 // Where each body was found last is where to look for it first.
-fn guesses_of(sky: Sights) -> Guesses {
-    let moon = sky.moon;
-    let sun = sky.sun;
-    let venus = sky.venus;
-    let mars = sky.mars;
-    let jupiter = sky.jupiter;
+fn guesses_of(sighted: Sights) -> Guesses {
+    let moon = sighted.moon;
+    let sun = sighted.sun;
+    let venus = sighted.venus;
+    let mars = sighted.mars;
+    let jupiter = sighted.jupiter;
     Guesses {
         moon: moon.entry as u64,
         sun: sun.entry as u64,
@@ -50,7 +50,7 @@ pub fn start(book: &[u8], order: Order) -> Course
     let moment = state.moment;
     Course {
         state,
-        sky: sights_at(book, setting, moment, g),
+        sights: sights_at(book, setting, moment, g),
         left: (order.target - moment) / (order.h as u64),
         done: 0,
     }
@@ -59,16 +59,16 @@ pub fn start(book: &[u8], order: Order) -> Course
 fn portion_of(
     outcome: Outcome,
     state: State,
-    sky: Sights,
+    sighted: Sights,
     left: u64,
     done: u64,
     written: usize,
 ) -> Portion
-    ensures { λ r. ⌜ r ≡ portionOf outcome state sky left done written ⌝ }
+    ensures { λ r. ⌜ r ≡ portionOf outcome state sighted left done written ⌝ }
 {
     let course = Course {
         state,
-        sky,
+        sights: sighted,
         left,
         done,
     };
@@ -85,27 +85,27 @@ pub fn portion(book: &[u8], setting: Setting, h: u32, from: Course, out: &mut [u
     ensures { λ r. ⌜ Advanced (now (book .entry)) setting h from (now (out .entry)) (now (out .exit)) r ⌝ }
 {
     let mut now = from.state;
-    let mut sky = from.sky;
+    let mut sighted = from.sights;
     let mut left = from.left;
     let mut done = from.done;
     let mut at: usize = 0;
     while at + LONGEST_LINE <= out.len() {
         if left == 0 {
-            return portion_of(Outcome::Arrived, now, sky, left, done, at);
+            return portion_of(Outcome::Arrived, now, sighted, left, done, at);
         }
-        let stepped = step_under(book, setting, now, h, guesses_of(sky), sky);
+        let stepped = step_under(book, setting, now, h, guesses_of(sighted), sighted);
         match stepped {
             Stepped::On(next, seen) => {
                 at = put_state(out, at, next);
                 now = next;
-                sky = seen;
+                sighted = seen;
                 left -= 1;
                 done += 1;
             }
             Stepped::Off(k) => {
-                return portion_of(Outcome::Refused(k), now, sky, left, done, at);
+                return portion_of(Outcome::Refused(k), now, sighted, left, done, at);
             }
         }
     }
-    portion_of(Outcome::Going, now, sky, left, done, at)
+    portion_of(Outcome::Going, now, sighted, left, done, at)
 }

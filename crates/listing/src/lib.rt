@@ -33,7 +33,7 @@ pub enum OrderAnswer {
 // A place of a run: the state with the bodies at its moment, the steps left to the target and the steps done.
 pub struct Course {
     pub state: State,
-    pub sky: Sights,
+    pub sights: Sights,
     pub left: u64,
     pub done: u64,
 }

@@ -73,8 +73,8 @@ fn print_course(book: &[u8], setting: Setting, h: u32, from: Course, out: &mut [
 fn print_listing(book: &[u8], order: Order)
     requires { ⌜ startRefusal (now book) (order .setting) (order .state) (order .h) (order .target) ≡ 0 ⌝ }
 {
-    let mut space = io::large_buffer();
-    let out: &mut [u8] = &mut space;
+    let mut buffer = io::large_buffer();
+    let out: &mut [u8] = &mut buffer;
     let header = put_header(out, 0, order.h);
     let injection = order.state;
     let n = put_state(out, header, injection);

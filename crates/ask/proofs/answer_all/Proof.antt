@@ -1,4 +1,4 @@
--- `ask::answer_all` meets its contract: it ends, as its turns are counted down. Assumes nothing.
+-- `ask::answer_all` meets its contract: it ends, as its blocks are counted down. Assumes nothing.
 use Prim.Native.Nat.{_≤_}
 use mathlib.Core.Path.{_≡_}
 use lib.ListN.{length}
@@ -7,10 +7,10 @@ use Rattle.ask.proofs.answer_all.Statement.{statement}
 use Rattle.ask.proofs.answer_all.Tie as tie
 
 abbrev Inv-loop : tie.InvT-loop
-Inv-loop book block₀ line₀ kept₀ turns₀ t7 block line kept turns = (kept ≤ 1_001) × (length block ≡ 65_536) × (length t7 ≡ 1)
+Inv-loop book block₀ line₀ kept₀ blocks-left₀ t7 block line kept blocks-left = (kept ≤ 1_001) × (length block ≡ 65_536) × (length t7 ≡ 1)
 
 abbrev μ-loop : tie.MeasureT-loop
-μ-loop book block₀ line₀ kept₀ turns₀ t7 block line kept turns = turns
+μ-loop book block₀ line₀ kept₀ blocks-left₀ t7 block line kept blocks-left = blocks-left
 
 loop-holds : tie.Need-loop-holds Inv-loop μ-loop
 loop-holds c = search needs
@@ -36,8 +36,8 @@ slice-aggregate-answer-block c = search needs
 answer-block-requires : tie.Need-answer-block-requires Inv-loop μ-loop
 answer-block-requires c κs = search needs
 
-sub-turns : tie.Need-sub-turns Inv-loop μ-loop
-sub-turns c = search needs
+sub-blocks-left : tie.Need-sub-blocks-left Inv-loop μ-loop
+sub-blocks-left c = search needs
 
 loop-less : tie.Need-loop-less Inv-loop μ-loop
 loop-less c = search needs
@@ -71,7 +71,7 @@ answer-all-spec =
     array-share-prefix-block
     slice-aggregate-answer-block
     answer-block-requires
-    sub-turns
+    sub-blocks-left
     loop-less
     loop-again
     slice-aggregate-answer-block-2
