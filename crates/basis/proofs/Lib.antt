@@ -1,3 +1,4 @@
 pub mod Clear
 pub mod Bounds
 pub mod OneAnswer
+pub mod Cases

@@ -1,7 +1,9 @@
 // What every crate above shares: the limits of time, and the test for a finite float.
 
 ghost use mathlib.Core.Path.{_≡_};
+ghost use mathlib.Core.Bool.{not};
 ghost use lib.Ieee.Scale.{finite};
+ghost use Rattle.basis.specs.Choice.{if_then_else_};
 
 // Moments are whole milliseconds from 0 up to but not including this.
 pub const END_OF_TIME: u64 = 3_155_760_000_000;
@@ -22,4 +24,11 @@ pub fn is_finite(x: f64) -> bool
         return -top < x;
     }
     false
+}
+
+// A check before later ones: its number where it fails, else what they come to.
+pub fn unless(ok: bool, number: u64, later: u64) -> u64
+    ensures { λ r. ⌜ r ≡ (if not ok then number else later) ⌝ }
+{
+    if ok { later } else { number }
 }

@@ -7,3 +7,5 @@ pub mod Numerator
 pub mod Turns
 pub mod Figures
 pub mod BodyAt
+pub mod OneAnswer
+pub mod Refused

@@ -18,6 +18,7 @@ use Rattle.gravity.specs.Acceleration.{standing, settled}
 use Rattle.gravity.specs.declared.AccelerationAnswer.{AccelerationAnswer}
 use Rattle.gravity.specs.declared.AccelerationAnswer.the-variants.{Refused}
 use Rattle.gravity.specs.declared.Pull.{Pull}
+use Rattle.gravity.specs.declared.TwoPulls.{TwoPulls}
 use Rattle.gravity.specs.declared.ThreePulls.{ThreePulls}
 use Rattle.gravity.specs.declared.Sight.{Sight}
 use Rattle.gravity.specs.declared.Sights.{Sights}
@@ -51,6 +52,24 @@ sightBy b m t (Entry i) = sightAt (standing (place b i t)) i m
 
 unfoldable pub sightOf : List ℕ → ℕ → Float → ℕ → Sight
 sightOf b number m t = if used m then sightBy b m t (lookup b number t) else blank m 0
+
+-- a body that entry i puts at R, its pull on the Earth not worked out yet
+abbrev pub foundAt : Vector → ℕ → Float → Sight
+foundAt R i m = if finiteVector R then record { refusal = 0; entry = i; m = m; place = R; pull = noPull } else blank m 7
+
+abbrev pub foundBy : List ℕ → Float → ℕ → Lookup → Sight
+foundBy b m t Nothing = blank m 6
+foundBy b m t (Entry i) = foundAt (standing (place b i t)) i m
+
+unfoldable pub foundOf : List ℕ → ℕ → Float → ℕ → Sight
+foundOf b number m t = if used m then foundBy b m t (lookup b number t) else blank m 0
+
+-- and with its pull, where there is one
+abbrev pub withPull : Sight → Pull → Sight
+withPull s p =
+    if used (s .m)
+    then (if s .refusal =? 0 then record { refusal = s .refusal; entry = s .entry; m = s .m; place = s .place; pull = p } else s)
+    else s
 
 unfoldable pub sights : List ℕ → Setting → ℕ → Sights
 sights b s t =
@@ -100,7 +119,10 @@ opposite p = record { x = neg (p .x); y = neg (p .y); z = neg (p .z); sound = p 
 abbrev pub startBy : Vector → Float → Pull
 startBy P earth = opposite (pullOf P earth)
 
--- three pulls side by side
+-- two and three pulls side by side
+abbrev pub twoPullsOf : Vector → Float → Vector → Float → TwoPulls
+twoPullsOf u a v b = record { first = pullOf u a; second = pullOf v b }
+
 abbrev pub pullsOf : Vector → Float → Vector → Float → Vector → Float → ThreePulls
 pullsOf u a v b w c = record { first = pullOf u a; second = pullOf v b; third = pullOf w c }
 

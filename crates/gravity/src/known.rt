@@ -9,6 +9,7 @@ use crate::Sights;
 use crate::pulls::less;
 use crate::pulls::near_sum;
 use crate::pulls::pull;
+use crate::pulls::two_pulls;
 use book::Lookup;
 use book::Place;
 use state::Setting;
@@ -17,7 +18,7 @@ ghost use mathlib.Core.Bool.{true};
 ghost use mathlib.Core.Path.{_≡_};
 ghost use Rattle.book.specs.Passes.{passes};
 ghost use Rattle.gravity.specs.Acceleration.{standing};
-ghost use Rattle.gravity.specs.Sight.{blank, sightAt, sightOf, sights, orLater, refusalOf, settledBy, listed, accelerationBy};
+ghost use Rattle.gravity.specs.Sight.{blank, foundAt, foundOf, withPull, sightOf, sights, orLater, refusalOf, settledBy, listed, accelerationBy};
 
 fn blank_sight(m: f64, refusal: u64) -> Sight
     ensures { λ r. ⌜ r ≡ blank m refusal ⌝ }
@@ -42,9 +43,8 @@ fn blank_sight(m: f64, refusal: u64) -> Sight
     }
 }
 
-// The body's own pull on the Earth is worked out here, once for the moment.
-fn sight_at(p: Place, entry: usize, m: f64) -> Sight
-    ensures { λ r. ⌜ r ≡ sightAt (standing p) entry m ⌝ }
+fn found_at(p: Place, entry: usize, m: f64) -> Sight
+    ensures { λ r. ⌜ r ≡ foundAt (standing p) entry m ⌝ }
 {
     let place = Vector {
         x: p.x,
@@ -52,7 +52,8 @@ fn sight_at(p: Place, entry: usize, m: f64) -> Sight
         z: p.z,
     };
     if state::vector_is_finite(place) {
-        let pull = pull(place, m);
+        let blank = blank_sight(m, 0);
+        let pull = blank.pull;
         return Sight {
             refusal: 0,
             entry,
@@ -64,26 +65,66 @@ fn sight_at(p: Place, entry: usize, m: f64) -> Sight
     blank_sight(m, 7)
 }
 
-fn sight(book: &[u8], number: u64, m: f64, moment: u64, guess: u64) -> Sight
+// A body as it is looked up.
+fn found(book: &[u8], number: u64, m: f64, moment: u64, guess: u64) -> Sight
     requires { ⌜ passes (now book) ≡ true ⌝ }
-    ensures { λ r. ⌜ r ≡ sightOf (now (book .entry)) number m moment ⌝ }
+    ensures { λ r. ⌜ r ≡ foundOf (now (book .entry)) number m moment ⌝ }
 {
     if 0.0 < m {
         let Lookup::Entry(entry) = book::known::lookup_guessed(book, number, moment, guess as usize)
         else {
             return blank_sight(m, 6);
         };
-        return sight_at(book::known::place_at(book, entry, moment), entry, m);
+        return found_at(book::known::place_at(book, entry, moment), entry, m);
     }
     blank_sight(m, 0)
 }
 
+fn with_pull(s: Sight, pull: Pull) -> Sight
+    ensures { λ r. ⌜ r ≡ withPull s pull ⌝ }
+{
+    if 0.0 < s.m {
+        if s.refusal == 0 {
+            let place = s.place;
+            return Sight {
+                refusal: s.refusal,
+                entry: s.entry,
+                m: s.m,
+                place,
+                pull,
+            };
+        }
+    }
+    s
+}
+
+fn sight(book: &[u8], number: u64, coefficient: f64, moment: u64, guess: u64) -> Sight
+    requires { ⌜ passes (now book) ≡ true ⌝ }
+    ensures { λ r. ⌜ r ≡ sightOf (now (book .entry)) number coefficient moment ⌝ }
+{
+    let there = found(book, number, coefficient, moment, guess);
+    if 0.0 < coefficient {
+        let place = there.place;
+        return with_pull(there, pull(place, coefficient));
+    }
+    there
+}
+
+// The bodies' own pulls on the Earth are worked out here, once for the moment: those of the first two, which are almost always
+// used, side by side.
 pub fn sights_at(book: &[u8], setting: Setting, moment: u64, guesses: Guesses) -> Sights
     requires { ⌜ passes (now book) ≡ true ⌝ }
     ensures { λ r. ⌜ r ≡ sights (now (book .entry)) setting moment ⌝ }
 {
-    let moon = sight(book, 2, setting.moon, moment, guesses.moon);
-    let sun = sight(book, 3, setting.sun, moment, guesses.sun);
+    let found_moon = found(book, 2, setting.moon, moment, guesses.moon);
+    let found_sun = found(book, 3, setting.sun, moment, guesses.sun);
+    let moon_place = found_moon.place;
+    let sun_place = found_sun.place;
+    let pulls = two_pulls(moon_place, setting.moon, sun_place, setting.sun);
+    let by_moon = pulls.first;
+    let by_sun = pulls.second;
+    let moon = with_pull(found_moon, by_moon);
+    let sun = with_pull(found_sun, by_sun);
     let venus = sight(book, 4, setting.venus, moment, guesses.venus);
     let mars = sight(book, 5, setting.mars, moment, guesses.mars);
     let jupiter = sight(book, 6, setting.jupiter, moment, guesses.jupiter);
@@ -103,14 +144,14 @@ fn or_later(k: u64, later: u64) -> u64
 }
 
 // The number of the first body refused, 0 where there is none.
-fn refusal_of(sky: Sights) -> u64
-    ensures { λ r. ⌜ r ≡ refusalOf (listed sky) ⌝ }
+fn refusal_of(bodies: Sights) -> u64
+    ensures { λ r. ⌜ r ≡ refusalOf (listed bodies) ⌝ }
 {
-    let moon = sky.moon;
-    let sun = sky.sun;
-    let venus = sky.venus;
-    let mars = sky.mars;
-    let jupiter = sky.jupiter;
+    let moon = bodies.moon;
+    let sun = bodies.sun;
+    let venus = bodies.venus;
+    let mars = bodies.mars;
+    let jupiter = bodies.jupiter;
     let last = or_later(mars.refusal, or_later(jupiter.refusal, 0));
     or_later(
         moon.refusal,
@@ -134,16 +175,16 @@ fn settle(sum: Pull) -> AccelerationAnswer
     AccelerationAnswer::Refused(7)
 }
 
-pub fn acceleration_under(sky: Sights, earth: f64, p: Vector) -> AccelerationAnswer
-    ensures { λ r. ⌜ r ≡ accelerationBy sky earth p ⌝ }
+pub fn acceleration_under(bodies: Sights, earth: f64, p: Vector) -> AccelerationAnswer
+    ensures { λ r. ⌜ r ≡ accelerationBy bodies earth p ⌝ }
 {
-    let refusal = refusal_of(sky);
+    let refusal = refusal_of(bodies);
     if refusal == 0 {
-        let moon = sky.moon;
-        let sun = sky.sun;
-        let venus = sky.venus;
-        let mars = sky.mars;
-        let jupiter = sky.jupiter;
+        let moon = bodies.moon;
+        let sun = bodies.sun;
+        let venus = bodies.venus;
+        let mars = bodies.mars;
+        let jupiter = bodies.jupiter;
         let sum = near_sum(p, earth, moon, sun);
         return settle(less(p, less(p, less(p, sum, venus), mars), jupiter));
     }

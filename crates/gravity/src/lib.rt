@@ -4,10 +4,13 @@ pub mod known;
 mod pulls;
 
 use basis::END_OF_TIME;
+use basis::unless;
 use state::Setting;
 use state::Vector;
+ghost use mathlib.Core.Bool.{true};
 ghost use mathlib.Core.Path.{_≡_};
-ghost use Rattle.gravity.specs.Acceleration.{accelerationAnswer};
+ghost use Rattle.book.specs.Passes.{passes};
+ghost use Rattle.gravity.specs.Acceleration.{accelerationAt, accelerationAnswer};
 
 pub enum AccelerationAnswer {
     Is(Vector),
@@ -20,6 +23,11 @@ pub struct Pull {
     pub y: f64,
     pub z: f64,
     pub sound: bool,
+}
+
+pub struct TwoPulls {
+    pub first: Pull,
+    pub second: Pull,
 }
 
 pub struct ThreePulls {
@@ -63,18 +71,24 @@ pub fn acceleration(
 ) -> AccelerationAnswer
     ensures { λ r. ⌜ r ≡ accelerationAnswer (now (book .entry)) setting moment position ⌝ }
 {
-    if !book::book_passes(book) {
-        return AccelerationAnswer::Refused(1);
+    let passes = book::book_passes(book);
+    let allowed = state::setting_is_allowed(setting);
+    let finite = state::vector_is_finite(position);
+    let after_moment = unless(finite, 7, 0);
+    let after_setting = unless(moment < END_OF_TIME, 3, after_moment);
+    let after_book = unless(allowed, 4, after_setting);
+    let refusal = unless(passes, 1, after_book);
+    if refusal == 0 {
+        return rule(book, setting, moment, position);
     }
-    if !state::setting_is_allowed(setting) {
-        return AccelerationAnswer::Refused(4);
-    }
-    if END_OF_TIME <= moment {
-        return AccelerationAnswer::Refused(3);
-    }
-    if !state::vector_is_finite(position) {
-        return AccelerationAnswer::Refused(7);
-    }
+    AccelerationAnswer::Refused(refusal)
+}
+
+// The rule itself, in a book that is known to pass.
+fn rule(book: &[u8], setting: Setting, moment: u64, position: Vector) -> AccelerationAnswer
+    requires { ⌜ passes (now book) ≡ true ⌝ }
+    ensures { λ r. ⌜ r ≡ accelerationAt (now (book .entry)) setting moment position ⌝ }
+{
     let g = Guesses {
         moon: 0,
         sun: 0,
@@ -82,6 +96,6 @@ pub fn acceleration(
         mars: 0,
         jupiter: 0,
     };
-    let sky = known::sights_at(book, setting, moment, g);
-    known::acceleration_under(sky, setting.earth, position)
+    let bodies = known::sights_at(book, setting, moment, g);
+    known::acceleration_under(bodies, setting.earth, position)
 }

@@ -3,13 +3,14 @@
 use crate::Pull;
 use crate::Sight;
 use crate::ThreePulls;
+use crate::TwoPulls;
 use state::Vector;
 ghost use mathlib.Core.Path.{_≡_};
 ghost use mathlib.Core.Bool.{_&&_, not};
 ghost use lib.Ieee.{eq};
 ghost use Rattle.basis.specs.Floats.{zero64};
 ghost use Rattle.gravity.specs.Pull.{divisible, minus};
-ghost use Rattle.gravity.specs.Sight.{pullBy, pullOf, pullsOf, opposite, takenOff, lessNear, lessBy, startBy};
+ghost use Rattle.gravity.specs.Sight.{pullBy, pullOf, twoPullsOf, pullsOf, opposite, takenOff, lessNear, lessBy, startBy};
 
 fn both(a: bool, b: bool) -> bool
     ensures { λ r. ⌜ r ≡ (a && b) ⌝ }
@@ -50,6 +51,18 @@ pub fn pull(v: Vector, m: f64) -> Pull
 {
     let n = state::square(v);
     pull_by(v, m, n, root::known::square_root(n))
+}
+
+// Two pulls at once: their roots are worked out side by side.
+pub fn two_pulls(u: Vector, a: f64, v: Vector, b: f64) -> TwoPulls
+    ensures { λ r. ⌜ r ≡ twoPullsOf u a v b ⌝ }
+{
+    let n_u = state::square(u);
+    let n_v = state::square(v);
+    let roots = root::known::two_roots(n_u, n_v);
+    let first = pull_by(u, a, n_u, roots.a);
+    let second = pull_by(v, b, n_v, roots.b);
+    TwoPulls { first, second }
 }
 
 // Three pulls at once: their roots are worked out side by side, which takes little longer than one.

@@ -40,7 +40,7 @@ fn three_digits_on(part: Division, divisor: u64) -> Division
 }
 
 // The fourth term.
-fn turn(t: u64, divisor: u64) -> Division
+fn fourth_term(t: u64, divisor: u64) -> Division
     requires { ⌜ TurnRoom t divisor ⌝ }
     ensures { λ r. ⌜ r ≡ division (417_807_417 * 10 ^ 11 * t) divisor ⌝ }
 {
@@ -66,7 +66,7 @@ fn angle(d: u64, t: u64) -> u64
     ensures { λ r. ⌜ r ≡ hourAngle d t ⌝ }
 {
     let divisor = 1_000_000_000_000_000 + 521 * d;
-    let turned = turn(t, divisor);
+    let turned = fourth_term(t, divisor);
     let whole = 1_000_755_426_000 + 9_856_473_460 * d + turned.quotient;
     let fractions = 29_015 * (d * d) + fraction(turned.rest, divisor);
     (whole + fractions / 10_000_000) % CIRCLE

@@ -9,6 +9,7 @@ use lib.Ieee.{Float, nan, inf, fin, binary64, low, up, down, size, odd, lt, ofBi
 use lib.Ieee.Scale.{finite}
 use lib.Ieee.Exact.{HasValue}
 use Rattle.basis.specs.Choice.{if_then_else_, _<?_, _≤?_}
+use Rattle.root.specs.declared.TwoRoots.{TwoRoots}
 use Rattle.root.specs.declared.ThreeRoots.{ThreeRoots}
 use Rattle.root.specs.declared.RootAnswer.{RootAnswer}
 use Rattle.root.specs.declared.RootAnswer.the-variants.{Value, Refused}
@@ -65,7 +66,10 @@ rootOf (fin s zero e) = fin s zero e
 rootOf (fin true (suc m) e) = nan
 rootOf (fin false (suc m) e) = positiveRoot (low binary64) (suc m) e
 
--- three roots at once
+-- two and three roots at once
+abbrev pub twoRootsOf : Float → Float → TwoRoots
+twoRootsOf a b = record { a = rootOf a; b = rootOf b }
+
 abbrev pub rootsOf : Float → Float → Float → ThreeRoots
 rootsOf a b c = record { a = rootOf a; b = rootOf b; c = rootOf c }
 

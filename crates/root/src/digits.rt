@@ -13,6 +13,11 @@ pub struct Lane {
     pub t: u64,
 }
 
+pub struct TwoNumbers {
+    pub a: u64,
+    pub b: u64,
+}
+
 pub struct ThreeNumbers {
     pub a: u64,
     pub b: u64,
@@ -79,6 +84,25 @@ pub fn nearest_root(m: u64) -> u64
         g = g >> 2;
     }
     last(s)
+}
+
+// The same of two numbers, in one loop whose lanes do not wait for one another.
+pub fn two_nearest_roots(a: u64, b: u64) -> TwoNumbers
+    requires { ⌜ (2 ^ 52 ≤ a) × (a < 2 ^ 54) × (2 ^ 52 ≤ b) × (b < 2 ^ 54) ⌝ }
+    ensures { λ r. ⌜ (r .a ≡ nearestRoot (a * 2 ^ 52)) × (r .b ≡ nearestRoot (b * 2 ^ 52)) ⌝ }
+{
+    let mut s = first(a);
+    let mut t = first(b);
+    let mut g: u64 = LEADING;
+    while 1 < g {
+        s = two_turns(s, g);
+        t = two_turns(t, g);
+        g = g >> 2;
+    }
+    TwoNumbers {
+        a: last(s),
+        b: last(t),
+    }
 }
 
 // The same of three numbers, in one loop whose lanes do not wait for one another.

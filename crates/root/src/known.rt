@@ -2,10 +2,11 @@
 // These are inner functions: of a float that `root` refuses they answer as IEEE 754 does, a NaN below zero and at a NaN, and +infinity itself.
 
 use crate::ThreeRoots;
+use crate::TwoRoots;
 use crate::digits;
 use crate::parts;
 ghost use mathlib.Core.Path.{_≡_};
-ghost use Rattle.root.specs.Root.{rootOf, rootsOf};
+ghost use Rattle.root.specs.Root.{rootOf, twoRootsOf, rootsOf};
 
 pub fn square_root(x: f64) -> f64
     ensures { λ r. ⌜ r ≡ rootOf x ⌝ }
@@ -13,6 +14,19 @@ pub fn square_root(x: f64) -> f64
     let p = parts::opened(x);
     let q = digits::nearest_root(p.m);
     parts::closed(x, p, q)
+}
+
+// Two roots side by side, in little more time than one.
+pub fn two_roots(a: f64, b: f64) -> TwoRoots
+    ensures { λ r. ⌜ r ≡ twoRootsOf a b ⌝ }
+{
+    let p = parts::opened(a);
+    let q = parts::opened(b);
+    let d = digits::two_nearest_roots(p.m, q.m);
+    TwoRoots {
+        a: parts::closed(a, p, d.a),
+        b: parts::closed(b, q, d.b),
+    }
 }
 
 // Three roots side by side, in little more time than one.

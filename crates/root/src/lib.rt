@@ -12,6 +12,11 @@ pub enum RootAnswer {
     Refused(u64),
 }
 
+pub struct TwoRoots {
+    pub a: f64,
+    pub b: f64,
+}
+
 pub struct ThreeRoots {
     pub a: f64,
     pub b: f64,

@@ -10,8 +10,8 @@ use Rattle.hour.proofs.angle.Tie as tie
 square : (c : tie.Start) → c .args .d * c .args .d ≤ 1_334_002_576
 square c = square-below (c .args .d) (c .pre .0)
 
-turned : (c : tie.After-turn) → (c .turn .result .rest < slowing (c .before .args .d)) × (c .turn .result .quotient < 3_700_000_000_000)
-turned c = turned-bounds (c .before .args .d) (c .before .args .t) (c .before .pre .1) (c .turn .ensures)
+turned : (c : tie.After-fourth-term) → (c .fourth-term .result .rest < slowing (c .before .args .d)) × (c .fourth-term .result .quotient < 3_700_000_000_000)
+turned c = turned-bounds (c .before .args .d) (c .before .args .t) (c .before .pre .1) (c .fourth-term .ensures)
 
 carried : (c : tie.After-fraction) → c .fraction .result < 10_000_000
 carried c = fraction-below (turned (c .before .before) .0) (c .fraction .ensures)
@@ -22,8 +22,8 @@ mul-divisor c = search needs
 add-divisor : tie.Need-add-divisor
 add-divisor c = search needs
 
-turn-requires : tie.Need-turn-requires
-turn-requires c κs = search needs
+fourth-term-requires : tie.Need-fourth-term-requires
+fourth-term-requires c κs = search needs
 
 mul-whole : tie.Need-mul-whole
 mul-whole c = search needs
@@ -50,7 +50,7 @@ add-result : tie.Need-add-result
 add-result c = omega (arith, turned (c .before .before), square (c .before .before .before), carried c)
 
 returns : tie.Need-returns
-returns c = let a = c .before .before .before .args in angle-of (a .d) (a .t) (c .before .before .turn .ensures) (c .fraction .ensures)
+returns c = let a = c .before .before .before .args in angle-of (a .d) (a .t) (c .before .before .fourth-term .ensures) (c .fraction .ensures)
 
 pub angle-spec : {M : Type 1} → statement M
 angle-spec =
@@ -58,7 +58,7 @@ angle-spec =
     (tie.spec
     mul-divisor
     add-divisor
-    turn-requires
+    fourth-term-requires
     mul-whole
     add-whole
     add-whole-2

@@ -1,55 +1,24 @@
 -- `gravity::known::sight` meets its contract. Assumes nothing.
-use Rattle.book.proofs.Found.{covered}
-use mathlib.Core.Path.{sym, _∙_}
-use Rattle.gravity.specs.Sight.{sightOf}
+use mathlib.Core.Path.{_∙_}
+use Rattle.gravity.proofs.Drawn.{drawn, undrawn}
 use borrow.Author.Needs.{needs}
 use Rattle.gravity.proofs.known.sight.Statement.{statement}
 use Rattle.gravity.proofs.known.sight.Tie as tie
 
-lookup-guessed-requires : tie.Need-lookup-guessed-requires
-lookup-guessed-requires c κs = search needs
+found-requires : tie.Need-found-requires
+found-requires c κs = search needs
 
-enum-known-entry : tie.Need-enum-known-entry
-enum-known-entry c = search needs
+pull-requires : tie.Need-pull-requires
+pull-requires c κs = search needs
 
-enum-told : tie.Need-enum-told
-enum-told c = search needs
-
-blank-sight-requires : tie.Need-blank-sight-requires
-blank-sight-requires c κs = search needs
+with-pull-requires : tie.Need-with-pull-requires
+with-pull-requires c κs = search needs
 
 returns : tie.Need-returns
-unfolding sightOf
-returns c = rw (c .before .before .before .before .if1 .taken, sym (c .before .before .before .lookup-guessed .ensures) ∙ c .before .enum-told .given .1, c .blank-sight .ensures)
-
-place-at-requires : tie.Need-place-at-requires
-place-at-requires c κs = (c .before .before .before .before .before .before .pre, covered _ _ _ _ (sym (c .before .before .before .lookup-guessed .ensures) ∙ c .before .entry .given .1))
-
-sight-at-requires : tie.Need-sight-at-requires
-sight-at-requires c κs = search needs
+returns c = rw (c .with-pull .ensures, c .before .pull .ensures, c .before .before .before .before .found .ensures) (drawn _ _ _ _)
 
 returns-2 : tie.Need-returns-2
-unfolding sightOf
-returns-2 c = rw (c .before .before .before .before .before .before .if1 .taken, sym (c .before .before .before .before .before .lookup-guessed .ensures) ∙ c .before .before .before .entry .given .1, c .sight-at .ensures, c .before .place-at .ensures)
-
-blank-sight-requires-2 : tie.Need-blank-sight-requires-2
-blank-sight-requires-2 c κs = search needs
-
-returns-3 : tie.Need-returns-3
-unfolding sightOf
-returns-3 c = rw (c .blank-sight2 .ensures, c .before .if1 .left)
+returns-2 c = c .before .found .ensures ∙ undrawn _ _ _ _ (c .if1 .left)
 
 pub sight-spec : {M : Type 1} → statement M
-sight-spec =
-    tie.close
-    (tie.spec
-    lookup-guessed-requires
-    enum-known-entry
-    enum-told
-    blank-sight-requires
-    returns
-    place-at-requires
-    sight-at-requires
-    returns-2
-    blank-sight-requires-2
-    returns-3)
+sight-spec = tie.close (tie.spec found-requires pull-requires with-pull-requires returns returns-2)

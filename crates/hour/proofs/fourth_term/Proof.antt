@@ -1,12 +1,12 @@
--- `hour::turn` meets its contract: a hundredfold and three times a thousandfold make 10^11. Assumes nothing.
+-- `hour::fourth_term` meets its contract: a hundredfold and three times a thousandfold make 10^11. Assumes nothing.
 use mathlib.Core.Path.{ap, _∙_}
 use Prim.Native.Nat.{ℕ}
 use borrow.Author.Needs.{needs}
 use native.Mathlib.Omega.{arith}
 use Rattle.hour.specs.Division.{division}
 use Rattle.hour.proofs.LongDivision.{started}
-use Rattle.hour.proofs.turn.Statement.{statement}
-use Rattle.hour.proofs.turn.Tie as tie
+use Rattle.hour.proofs.fourth_term.Statement.{statement}
+use Rattle.hour.proofs.fourth_term.Tie as tie
 
 mul-divide : tie.Need-mul-divide
 mul-divide c = search needs
@@ -31,8 +31,8 @@ returns c =
     (c .before .before .before .divide .ensures)))
     ∙ ap (λ (n : ℕ). division n (c .before .before .before .before .args .divisor)) (omega arith)
 
-pub turn-spec : {M : Type 1} → statement M
-turn-spec =
+pub fourth-term-spec : {M : Type 1} → statement M
+fourth-term-spec =
     tie.close
     (tie.spec
     mul-divide

@@ -1,0 +1,17 @@
+-- `gravity::rule` meets its contract. Assumes nothing.
+use Rattle.gravity.proofs.Under.{underIs}
+use borrow.Author.Needs.{needs}
+use Rattle.gravity.proofs.rule.Statement.{statement}
+use Rattle.gravity.proofs.rule.Tie as tie
+
+sights-at-requires : tie.Need-sights-at-requires
+sights-at-requires c κs = search needs
+
+acceleration-under-requires : tie.Need-acceleration-under-requires
+acceleration-under-requires c κs = search needs
+
+returns : tie.Need-returns
+returns c = rw (c .acceleration-under .ensures, c .before .sights-at .ensures) (underIs _ _ _ _)
+
+pub rule-spec : {M : Type 1} → statement M
+rule-spec = tie.close (tie.spec sights-at-requires acceleration-under-requires returns)
