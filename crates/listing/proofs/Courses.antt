@@ -12,12 +12,12 @@ use Rattle.state.specs.declared.Setting.{Setting}
 use Rattle.gravity.specs.Sight.{sights}
 use Rattle.gravity.specs.declared.Sights.{Sights}
 use Rattle.motion.specs.Step.{Moved, On, Off, step}
-use Rattle.motion.specs.Run.{withinSteps}
-use Rattle.motion.specs.Kept.{kept, skyAfter, MayWalk}
+use Rattle.start.specs.Start.{withinSteps}
+use Rattle.motion.specs.Kept.{kept, bodiesAfter, MayWalk}
 use Rattle.motion.specs.declared.Outcome.{Outcome}
 use Rattle.motion.specs.declared.Outcome.the-variants.{Arrived, Going, Refused}
 use Rattle.motion.specs.declared.Stepped.the-variants as stepped
-use Rattle.motion.proofs.Allowed.{away}
+use Rattle.start.proofs.Allowed.{away}
 use Rattle.motion.proofs.OneStep.{done}
 use Rattle.motion.proofs.Walked.{handedOn, handedOff}
 use Rattle.text.specs.Written.{Wrote}
@@ -82,12 +82,12 @@ module _ (b : List ℕ) (setting : Setting) (h : ℕ) (from : Course) (before : 
             omega arith
 
     module _ (some : left ≡ 0 → ⊥) where
-      pub refuses : (k : ℕ) → stepped.Off k ≡ kept (skyAfter b setting h now) (step b setting h now) → Advanced b setting h from before out (portionOf (Refused k) now sighted left did at)
+      pub refuses : (k : ℕ) → stepped.Off k ≡ kept (bodiesAfter b setting h now) (step b setting h now) → Advanced b setting h from before out (portionOf (Refused k) now sighted left did at)
       refuses k e = ends (Refused k) (text-refused (step b setting h) did now left k some (handedOff _ _ k e)) (λ z. let c : _≡_ {A = ℕ} 0 1 = cc in absurd (omega arith))
 
-      pub goes-on : (next : State) (seen : Sights) (after : List ℕ) (r : ℕ) → stepped.On next seen ≡ kept (skyAfter b setting h now) (step b setting h now) → Wrote out at (stateLine next) after r → at + longestLine ≤ length out → length after ≡ length out → Listing after next seen (left - 1) (did + 1) r
+      pub goes-on : (next : State) (seen : Sights) (after : List ℕ) (r : ℕ) → stepped.On next seen ≡ kept (bodiesAfter b setting h now) (step b setting h now) → Wrote out at (stateLine next) after r → at + longestLine ≤ length out → length after ≡ length out → Listing after next seen (left - 1) (did + 1) r
       goes-on next seen after r e w room same =
-          let handed = handedOn (skyAfter b setting h now) (step b setting h now) next seen e in
+          let handed = handedOn (bodiesAfter b setting h now) (step b setting h now) next seen e in
           let moment = done b setting h now next (handed .on) .moment in
           let inside = l .on .inside in
           let counts = l .on .counts in

@@ -16,10 +16,11 @@ use Rattle.state.specs.declared.State.{State}
 use Rattle.book.specs.Passes.{longestBook, passes}
 use Rattle.motion.specs.Step.{Moved, On, Off, step}
 use Rattle.motion.specs.Walk.{walk}
-use Rattle.motion.specs.Run.{Reached, counted, run, startRefusal}
-use Rattle.motion.proofs.Allowed.{away}
+use Rattle.start.specs.Start.{startRefusal}
+use Rattle.motion.specs.Run.{Reached, counted, runTo}
+use Rattle.start.proofs.Allowed.{away}
 use Rattle.motion.proofs.OneStep.{done}
-use Rattle.motion.proofs.Portions.{walkFirst}
+use Rattle.motion.proofs.Walks.{walkFirst}
 use Rattle.motion.proofs.Runs.{runArrived, runRefused, runOn}
 use Rattle.motion.proofs.Start.{mayWalk}
 use Rattle.listing.specs.Lines.{headerLine, stateLine, outcomeLine, loneRefusal}
@@ -56,7 +57,7 @@ one-more f did s next r e =
     rw (add-one (r .steps), e, q) (append-assoc (stateLine next) (stateLines (statesAfter f (r .steps) next)) _)
 
 module _ (f : State → Moved) (h target : ℕ) (some : 1 ≤ h) (clock : (s next : State) → f s ≡ On next → next .moment ≡ s .moment + h) where
-  pub course-run : (left did : ℕ) (s : State) → s .moment + left * h ≡ target → courseText f left did s ≡ textOf f did s (run f target left s)
+  pub course-run : (left did : ℕ) (s : State) → s .moment + left * h ≡ target → courseText f left did s ≡ textOf f did s (runTo f target left s)
   unfolding courseText statesAfter stateLines
   course-run zero did s reach =
       let here : s .moment ≡ target = let z = zero-mul h in omega arith in
@@ -69,18 +70,18 @@ module _ (f : State → Moved) (h target : ℕ) (some : 1 ≤ h) (clock : (s nex
       short : s .moment ≡ target → ⊥
       short e = omega (arith, m)
 
-      go : (m : Moved) → f s ≡ m → ((did : ℕ) (s : State) → s .moment + left * h ≡ target → courseText f left did s ≡ textOf f did s (run f target left s)) → courseText f (suc left) did s ≡ textOf f did s (run f target (suc left) s)
+      go : (m : Moved) → f s ≡ m → ((did : ℕ) (s : State) → s .moment + left * h ≡ target → courseText f left did s ≡ textOf f did s (runTo f target left s)) → courseText f (suc left) did s ≡ textOf f did s (runTo f target (suc left) s)
       go (Off k) e later = rw (runRefused f target s short left k e, e, add-zero did)
       go (On next) e later =
           let c = clock s next e in
           let l : suc left - 1 ≡ left = omega arith in
           rw (runOn f target s short left next e)
-          (text-goes-on f did s (suc left) next (λ z. absurd (omega arith)) e ∙ rw l (ap (λ (t : List ℕ). stateLine next ++ t) (later (did + 1) next (omega (arith, m)))) ∙ sym (one-more f did s next (run f target left next) e))
+          (text-goes-on f did s (suc left) next (λ z. absurd (omega arith)) e ∙ rw l (ap (λ (t : List ℕ). stateLine next ++ t) (later (did + 1) next (omega (arith, m)))) ∙ sym (one-more f did s next (runTo f target left next) e))
 
   pub run-course : (n : ℕ) (s : State) → s .moment + n * h ≡ target → runText f target n s ≡ stateLine s ++ courseText f n 0 s
   unfolding stateLines
   run-course n s reach =
-      let r = run f target n s in
+      let r = runTo f target n s in
       append-assoc (stateLine s) (stateLines (statesAfter f (r .steps) s)) (outcomeLine (r .outcome) (r .steps))
       ∙ ap (λ (t : List ℕ). stateLine s ++ t) (sym (course-run n 0 s reach ∙ ap (λ (k : ℕ). stateLines (statesAfter f (r .steps) s) ++ outcomeLine (r .outcome) k) (zero-add (r .steps))))
 
@@ -90,7 +91,7 @@ pub order-course : (b : List ℕ) (o : Order) → startRefusal b (o .setting) (o
 unfolding orderText
 order-course b o e =
     let may = mayWalk b (o .setting) (o .state) (o .h) (o .target) e in
-    let long = may .length in
+    let long = may .long in
     rw e (ap (λ (t : List ℕ). headerLine (o .h) ++ t)
     (run-course (step b (o .setting) (o .h)) (o .h) (o .target) (omega arith) (λ s next d. done b (o .setting) (o .h) s next d .moment) (stepsTo (o .state) (o .h) (o .target)) (o .state) (away (o .state .moment) (o .h) (o .target) (may .reachable))))
 

@@ -5,7 +5,8 @@ use lib.ListN.{drop}
 use Rattle.basis.specs.Choice.{if_then_else_, _=?_}
 use Rattle.state.specs.declared.State.{State}
 use Rattle.motion.specs.Step.{Moved, On, Off, step}
-use Rattle.motion.specs.Run.{Reached, run, startRefusal}
+use Rattle.start.specs.Start.{startRefusal}
+use Rattle.motion.specs.Run.{Reached, runTo}
 use Rattle.listing.specs.Lines.{headerLine, stateLine, outcomeLine, loneRefusal}
 use Rattle.listing.specs.Order.{orderLength, readOrder}
 use Rattle.listing.specs.declared.Order.{Order}
@@ -28,7 +29,7 @@ stateLines (s ∷ rest) = stateLine s ++ stateLines rest
 -- "each state from the injection on, and the outcome with steps done"
 abbrev pub runText : (State → Moved) → ℕ → ℕ → State → List ℕ
 runText f target budget s =
-    let r = run f target budget s in stateLines (s ∷ statesAfter f (r .steps) s) ++ outcomeLine (r .outcome) (r .steps)
+    let r = runTo f target budget s in stateLines (s ∷ statesAfter f (r .steps) s) ++ outcomeLine (r .outcome) (r .steps)
 
 -- as many steps of h as lead from the state to the target
 abbrev pub stepsTo : State → ℕ → ℕ → ℕ

@@ -15,20 +15,20 @@ use Rattle.motion.specs.Kept.{kept}
 use Rattle.motion.specs.declared.Stepped.{Stepped}
 use Rattle.motion.specs.declared.Stepped.the-variants as stepped
 
--- p is the stage's position P, sky the bodies at its moment, r what the acceleration under them answered
-pub answered : (b : List ℕ) (s : Setting) (t : ℕ) (P p : Vector) (sky : Sights) (r x : AccelerationAnswer)
-    → p ≡ P → sky ≡ sights b s t → r ≡ accelerationBy sky (s .earth) p → r ≡ x → accelerationAt b s t P ≡ x
-answered b s t P p sky r x place seen by is =
+-- p is the stage's position P, bodies the bodies at its moment, r what the acceleration under them answered
+pub answered : (b : List ℕ) (s : Setting) (t : ℕ) (P p : Vector) (bodies : Sights) (r x : AccelerationAnswer)
+    → p ≡ P → bodies ≡ sights b s t → r ≡ accelerationBy bodies (s .earth) p → r ≡ x → accelerationAt b s t P ≡ x
+answered b s t P p bodies r x place seen by is =
     sym (underIs b s t P)
     ∙ ap (λ (k : Sights). accelerationBy k (s .earth) P) (sym seen)
-    ∙ ap (accelerationBy sky (s .earth)) (sym place)
+    ∙ ap (accelerationBy bodies (s .earth)) (sym place)
     ∙ sym by
     ∙ is
 
-pub goesOn : (q : AccelerationAnswer) (a : Vector) (next : Vector → Moved) (sky : Sights) (r : Stepped)
-    → q ≡ Is a → r ≡ kept sky (next a) → r ≡ kept sky (andThen q next)
-goesOn q a next sky r e h = h ∙ sym (ap (λ (x : AccelerationAnswer). kept sky (andThen x next)) e)
+pub goesOn : (q : AccelerationAnswer) (a : Vector) (next : Vector → Moved) (bodies : Sights) (r : Stepped)
+    → q ≡ Is a → r ≡ kept bodies (next a) → r ≡ kept bodies (andThen q next)
+goesOn q a next bodies r e h = h ∙ sym (ap (λ (x : AccelerationAnswer). kept bodies (andThen x next)) e)
 
-pub leaves : (q : AccelerationAnswer) (k : ℕ) (next : Vector → Moved) (sky : Sights)
-    → q ≡ Refused k → stepped.Off k ≡ kept sky (andThen q next)
-leaves q k next sky e = sym (ap (λ (x : AccelerationAnswer). kept sky (andThen x next)) e)
+pub leaves : (q : AccelerationAnswer) (k : ℕ) (next : Vector → Moved) (bodies : Sights)
+    → q ≡ Refused k → stepped.Off k ≡ kept bodies (andThen q next)
+leaves q k next bodies e = sym (ap (λ (x : AccelerationAnswer). kept bodies (andThen x next)) e)

@@ -1,7 +1,7 @@
-pub mod Allowed
 pub mod Answered
 pub mod OneStep
 pub mod Runs
 pub mod Start
 pub mod Walked
-pub mod Portions
+pub mod Walks
+pub mod OneAnswer

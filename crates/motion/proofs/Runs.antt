@@ -8,27 +8,27 @@ use borrow.Author.Tests.{eq-eqb, ne-eqb}
 use Rattle.basis.specs.Choice.{if_then_else_}
 use Rattle.state.specs.declared.State.{State}
 use Rattle.motion.specs.Step.{Moved, On, Off}
-use Rattle.motion.specs.Run.{Reached, ended, counted, atTarget, afterwards, run}
+use Rattle.motion.specs.Run.{Reached, ended, counted, atTarget, afterwards, runTo}
 use Rattle.motion.specs.Kept.{countedBy}
 use Rattle.motion.specs.declared.Outcome.the-variants.{Arrived, Going, Refused}
 
 module _ (f : State → Moved) (target : ℕ) (s : State) where
-  pub runArrived : (budget : ℕ) → s .moment ≡ target → run f target budget s ≡ ended Arrived s
-  unfolding run
+  pub runArrived : (budget : ℕ) → s .moment ≡ target → runTo f target budget s ≡ ended Arrived s
+  unfolding runTo
   runArrived zero e = rw (eq-eqb _ _ e)
   runArrived (suc budget) e = rw (eq-eqb _ _ e)
 
   module _ (short : s .moment ≡ target → ⊥) where
-    pub runGoing : run f target 0 s ≡ ended Going s
-    unfolding run
+    pub runGoing : runTo f target 0 s ≡ ended Going s
+    unfolding runTo
     runGoing = rw (ne-eqb _ _ short)
 
-    pub runRefused : (budget k : ℕ) → f s ≡ Off k → run f target (suc budget) s ≡ ended (Refused k) s
-    unfolding run
+    pub runRefused : (budget k : ℕ) → f s ≡ Off k → runTo f target (suc budget) s ≡ ended (Refused k) s
+    unfolding runTo
     runRefused budget k e = rw (ne-eqb _ _ short, e)
 
-    pub runOn : (budget : ℕ) (next : State) → f s ≡ On next → run f target (suc budget) s ≡ counted (run f target budget next)
-    unfolding run
+    pub runOn : (budget : ℕ) (next : State) → f s ≡ On next → runTo f target (suc budget) s ≡ counted (runTo f target budget next)
+    unfolding runTo
     runOn budget next e = rw (ne-eqb _ _ short, e)
 
 -- ---- counting

@@ -13,14 +13,14 @@ use Rattle.gravity.specs.declared.Sights.{Sights}
 use Rattle.gravity.specs.declared.Guesses.{Guesses}
 use Rattle.gravity.proofs.Under.{allClear, seenEntry}
 use Rattle.motion.specs.Step.{Moved, On, Off, step}
-use Rattle.motion.specs.Run.{Reached, ended, run, withinSteps, guessesAt, guessesAfter, withGuesses}
-use Rattle.motion.specs.Kept.{kept, skyAfter, guessesFrom, countedBy, MayWalk, Walking}
+use Rattle.motion.specs.Run.{Reached, ended, runTo, guessesAt, guessesAfter, handedBack, withGuesses}
+use Rattle.motion.specs.Kept.{kept, bodiesAfter, guessesFrom, countedBy, MayWalk, Walking}
 use Rattle.motion.specs.declared.RunAnswer.{RunAnswer}
 use Rattle.motion.specs.declared.Outcome.{Outcome}
 use Rattle.motion.specs.declared.Outcome.the-variants.{Arrived, Going, Refused}
 use Rattle.motion.specs.declared.Stepped.{Stepped}
 use Rattle.motion.specs.declared.Stepped.the-variants as stepped
-use Rattle.motion.proofs.Allowed.{away}
+use Rattle.start.proofs.Allowed.{away}
 use Rattle.motion.proofs.OneStep.{Done, done}
 use Rattle.motion.proofs.Runs.{runArrived, runGoing, runRefused, runOn, countNone, countOne, countEnded}
 
@@ -48,56 +48,56 @@ guessesSeen b s t given clear =
 
 -- ---- what a step handed back
 
-pub record HandedOn (sky : Sights) (m : Moved) (next : State) (seen : Sights) : Type 0 where
+pub record HandedOn (bodies : Sights) (m : Moved) (next : State) (seen : Sights) : Type 0 where
   pub on : m ≡ On next
-  pub at : seen ≡ sky
+  pub at : seen ≡ bodies
 
-pub handedOn : (sky : Sights) (m : Moved) (next : State) (seen : Sights) → stepped.On next seen ≡ kept sky m → HandedOn sky m next seen
-handedOn sky (On s) next seen e = record { on = cc; at = cc }
-handedOn sky (Off k) next seen e = let z : _≡_ {A = ℕ} 0 1 = cc in absurd (omega arith)
+pub handedOn : (bodies : Sights) (m : Moved) (next : State) (seen : Sights) → stepped.On next seen ≡ kept bodies m → HandedOn bodies m next seen
+handedOn bodies (On s) next seen e = record { on = cc; at = cc }
+handedOn bodies (Off k) next seen e = let z : _≡_ {A = ℕ} 0 1 = cc in absurd (omega arith)
 
-pub handedOff : (sky : Sights) (m : Moved) (k : ℕ) → stepped.Off k ≡ kept sky m → m ≡ Off k
-handedOff sky (On s) k e = let z : _≡_ {A = ℕ} 0 1 = cc in absurd (omega arith)
-handedOff sky (Off j) k e = cc
+pub handedOff : (bodies : Sights) (m : Moved) (k : ℕ) → stepped.Off k ≡ kept bodies m → m ≡ Off k
+handedOff bodies (On s) k e = let z : _≡_ {A = ℕ} 0 1 = cc in absurd (omega arith)
+handedOff bodies (Off j) k e = cc
 
 module _ (b : List ℕ) (setting : Setting) (start : State) (h target budget : ℕ) (given : Guesses) where
-  pub walkStarts : MayWalk b start h target → (sky : Sights) → sky ≡ sights b setting (start .moment)
-      → Walking b setting start h target budget given start sky given 0
-  walkStarts may sky e =
+  pub walkStarts : MayWalk b start h target → (bodies : Sights) → bodies ≡ sights b setting (start .moment)
+      → Walking b setting start h target budget given start bodies given 0
+  walkStarts may bodies e =
       record {
         within = omega arith;
-        rest = countNone _ ∙ ap (λ (k : ℕ). countedBy 0 (run (step b setting h) target k start)) (omega arith);
+        rest = countNone _ ∙ ap (λ (k : ℕ). countedBy 0 (runTo (step b setting h) target k start)) (omega arith);
         seen = e;
         guess = refl;
         left = (target - start .moment) / h;
         reach = away (start .moment) h target (may .reachable);
       }
 
-  module _ (now : State) (sky : Sights) (guesses : Guesses) (n : ℕ) (w : Walking b setting start h target budget given now sky guesses n) where
+  module _ (now : State) (bodies : Sights) (guesses : Guesses) (n : ℕ) (w : Walking b setting start h target budget given now bodies guesses n) where
     pub walkIn : target < endOfTime → now .moment < endOfTime
     walkIn e = let r = w .reach in omega arith
 
-    pub walkEnds : (o : Outcome) → run (step b setting h) target (budget - n) now ≡ ended o now
-        → record { outcome = o; steps = n; state = now; guesses = guesses } ≡ withGuesses b setting given (run (step b setting h) target budget start)
+    pub walkEnds : (o : Outcome) → runTo (step b setting h) target (budget - n) now ≡ ended o now
+        → handedBack o n now guesses ≡ withGuesses b setting given (runTo (step b setting h) target budget start)
     walkEnds o e =
         sym
         (ap (withGuesses b setting given) (w .rest ∙ ap (countedBy n) e ∙ countEnded n (ended o now) refl)
-        ∙ ap (λ (g : Guesses). record { outcome = o; steps = n; state = now; guesses = g }) (sym (w .guess)))
+        ∙ ap (handedBack o n now) (sym (w .guess)))
 
     pub walkGoesOn : (next : State) (seen : Sights) → n < budget → (now .moment ≡ target → ⊥)
-        → stepped.On next seen ≡ kept (skyAfter b setting h now) (step b setting h now)
+        → stepped.On next seen ≡ kept (bodiesAfter b setting h now) (step b setting h now)
         → Walking b setting start h target budget given next seen (guessesFrom seen given) (n + 1)
     walkGoesOn next seen room short e =
-        let handed = handedOn (skyAfter b setting h now) (step b setting h now) next seen e in
+        let handed = handedOn (bodiesAfter b setting h now) (step b setting h now) next seen e in
         let did = done b setting h now next (handed .on) in
         let k = oneLess (now .moment) h (w .left) target short (w .reach) in
         record {
           within = omega arith;
           rest =
               w .rest
-              ∙ ap (λ (m : ℕ). countedBy n (run (step b setting h) target m now)) (omega arith)
+              ∙ ap (λ (m : ℕ). countedBy n (runTo (step b setting h) target m now)) (omega arith)
               ∙ ap (countedBy n) (runOn (step b setting h) target now short (budget - (n + 1)) next (handed .on))
-              ∙ countOne n (run (step b setting h) target (budget - (n + 1)) next);
+              ∙ countOne n (runTo (step b setting h) target (budget - (n + 1)) next);
           seen = handed .at ∙ ap (sights b setting) (sym (did .moment));
           guess =
               ap (λ (s : Sights). guessesFrom s given) (handed .at)

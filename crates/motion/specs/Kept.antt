@@ -14,16 +14,17 @@ use Rattle.gravity.specs.declared.Sight.{Sight}
 use Rattle.gravity.specs.declared.Sights.{Sights}
 use Rattle.gravity.specs.declared.Guesses.{Guesses}
 use Rattle.motion.specs.Step.{Moved, On, Off, step}
-use Rattle.motion.specs.Run.{Reached, run, withinSteps, guessesAfter}
+use Rattle.start.specs.Start.{withinSteps}
+use Rattle.motion.specs.Run.{Reached, runTo, guessesAfter}
 use Rattle.motion.specs.declared.Stepped.{Stepped}
 use Rattle.motion.specs.declared.Stepped.the-variants as stepped
 
 abbrev pub kept : Sights → Moved → Stepped
-kept sky (On s) = stepped.On s sky
-kept sky (Off k) = stepped.Off k
+kept bodies (On s) = stepped.On s bodies
+kept bodies (Off k) = stepped.Off k
 
-abbrev pub skyAfter : List ℕ → Setting → ℕ → State → Sights
-skyAfter b setting h s = sights b setting (s .moment + h)
+abbrev pub bodiesAfter : List ℕ → Setting → ℕ → State → Sights
+bodiesAfter b setting h s = sights b setting (s .moment + h)
 
 abbrev pub guessFrom : Sight → ℕ → ℕ
 guessFrom b given = if used (b .m) then b .entry else given
@@ -45,15 +46,15 @@ countedBy n r = record { outcome = r .outcome; steps = n + r .steps; state = r .
 -- what a run that passed its checks may lean on
 pub record MayWalk (b : List ℕ) (s : State) (h target : ℕ) : Type 0 where
   pub pass : passes b ≡ true
-  pub length : 2 ≤ h
+  pub long : 2 ≤ h
   pub reachable : withinSteps (s .moment) h target ≡ true
   pub ends : target < endOfTime
 
 -- where the loop stands after n steps: the rest of the run starts from now
-pub record Walking (b : List ℕ) (setting : Setting) (start : State) (h target budget : ℕ) (given : Guesses) (now : State) (sky : Sights) (guesses : Guesses) (n : ℕ) : Type 0 where
+pub record Walking (b : List ℕ) (setting : Setting) (start : State) (h target budget : ℕ) (given : Guesses) (now : State) (bodies : Sights) (guesses : Guesses) (n : ℕ) : Type 0 where
   pub within : n ≤ budget
-  pub rest : run (step b setting h) target budget start ≡ countedBy n (run (step b setting h) target (budget - n) now)
-  pub seen : sky ≡ sights b setting (now .moment)
+  pub rest : runTo (step b setting h) target budget start ≡ countedBy n (runTo (step b setting h) target (budget - n) now)
+  pub seen : bodies ≡ sights b setting (now .moment)
   pub guess : guesses ≡ guessesAfter b setting n (now .moment) given
   pub left : ℕ
   pub reach : now .moment + left * h ≡ target

@@ -2,4 +2,3 @@ pub mod Step
 pub mod Walk
 pub mod Run
 pub mod Kept
-pub mod Journey

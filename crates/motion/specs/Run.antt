@@ -1,17 +1,16 @@
 -- Document 01, "The step and the run" and "Refusal numbers": the run call, for every input.
-use mathlib.Core.Bool.{Bool, not, _&&_}
+use mathlib.Core.Bool.{Bool}
 use mathlib.Core.List.{List}
-use Prim.Native.Nat.{ℕ, zero, suc, _+_, _-_, _%_}
+use Prim.Native.Nat.{ℕ, zero, suc, _+_}
 use lib.Ieee.{Float}
-use Rattle.basis.specs.Choice.{if_then_else_, _≤?_, _=?_}
-use Rattle.basis.specs.Limits.{isMoment}
-use Rattle.state.specs.State.{finiteState, used, settingAllowed}
+use Rattle.basis.specs.Choice.{if_then_else_, _=?_}
+use Rattle.state.specs.State.{used}
 use Rattle.state.specs.declared.State.{State}
 use Rattle.state.specs.declared.Setting.{Setting}
-use Rattle.book.specs.Passes.{passes}
 use Rattle.book.specs.Lookup.{lookup}
 use Rattle.gravity.specs.Sight.{entryOr}
 use Rattle.gravity.specs.declared.Guesses.{Guesses}
+use Rattle.start.specs.Start.{startRefusal}
 use Rattle.motion.specs.Step.{Moved, On, Off, step}
 use Rattle.motion.specs.declared.Outcome.{Outcome}
 use Rattle.motion.specs.declared.Outcome.the-variants.{Arrived, Going, Refused}
@@ -38,28 +37,9 @@ afterwards rest s (On next) = counted (rest next)
 afterwards rest s (Off k) = ended (Refused k) s
 
 -- "It takes steps until the target is reached, the budget is spent, or a step is refused"
-unfoldable pub run : (State → Moved) → ℕ → ℕ → State → Reached
-run f target zero s = if atTarget target s then ended Arrived s else ended Going s
-run f target (suc budget) s = if atTarget target s then ended Arrived s else afterwards (run f target budget) s (f s)
-
--- "Step h is an even number of ms, 2 to 86,400,000"
-abbrev pub stepAllowed : ℕ → Bool
-stepAllowed h = (2 ≤? h) && (h ≤? 86_400_000) && (h % 2 =? 0)
-
--- 5: "target before the state, or not a whole number of steps away"
-abbrev pub withinSteps : ℕ → ℕ → ℕ → Bool
-withinSteps t h target = (t ≤? target) && ((target - t) % h =? 0)
-
--- "Run call order: 1, 4, 3 (state, then target), 7 (state), 2, 5"; 0 where the steps may begin
-unfoldable pub startRefusal : List ℕ → Setting → State → ℕ → ℕ → ℕ
-startRefusal b setting s h target =
-    if not (passes b) then 1 else
-    if not (settingAllowed setting) then 4 else
-    if not (isMoment (s .moment)) then 3 else
-    if not (isMoment target) then 3 else
-    if not (finiteState s) then 7 else
-    if not (stepAllowed h) then 2 else
-    if not (withinSteps (s .moment) h target) then 5 else 0
+unfoldable pub runTo : (State → Moved) → ℕ → ℕ → State → Reached
+runTo f target zero s = if atTarget target s then ended Arrived s else ended Going s
+runTo f target (suc budget) s = if atTarget target s then ended Arrived s else afterwards (runTo f target budget) s (f s)
 
 -- "If steps were done, each used body's returned guess is the entry covering the returned moment; all other guesses come back as given"
 abbrev pub guessAt : List ℕ → ℕ → ℕ → Float → ℕ → ℕ
@@ -79,23 +59,21 @@ guessesAt b s t given =
 abbrev pub guessesAfter : List ℕ → Setting → ℕ → ℕ → Guesses → Guesses
 guessesAfter b s n t given = if n =? 0 then given else guessesAt b s t given
 
+-- "answers arrived, going or refused with the number of steps done"
+abbrev pub handedBack : Outcome → ℕ → State → Guesses → RunAnswer
+handedBack outcome steps state guesses = record { outcome = outcome; steps = steps; state = state; guesses = guesses }
+
 abbrev pub withGuesses : List ℕ → Setting → Guesses → Reached → RunAnswer
-withGuesses b s given r =
-    record {
-      outcome = r .outcome;
-      steps = r .steps;
-      state = r .state;
-      guesses = guessesAfter b s (r .steps) (r .state .moment) given;
-    }
+withGuesses b s given r = handedBack (r .outcome) (r .steps) (r .state) (guessesAfter b s (r .steps) (r .state .moment) given)
 
 -- "state as given, 0 steps"
 abbrev pub refusedAtOnce : ℕ → State → Guesses → RunAnswer
-refusedAtOnce k s given = record { outcome = Refused k; steps = 0; state = s; guesses = given }
+refusedAtOnce k s given = handedBack (Refused k) 0 s given
 
 unfoldable pub runAnswer : List ℕ → Setting → State → ℕ → ℕ → ℕ → Guesses → RunAnswer
 runAnswer b setting s h target budget given =
     let k = startRefusal b setting s h target in
-    if k =? 0 then withGuesses b setting given (run (step b setting h) target budget s) else refusedAtOnce k s given
+    if k =? 0 then withGuesses b setting given (runTo (step b setting h) target budget s) else refusedAtOnce k s given
 
 -- "A single step is a run with budget 1 and the target one step on"
 abbrev pub singleStepAnswer : List ℕ → Setting → State → ℕ → Guesses → RunAnswer

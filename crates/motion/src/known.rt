@@ -15,7 +15,7 @@ ghost use Rattle.book.specs.Passes.{passes};
 ghost use Rattle.basis.specs.Limits.{endOfTime};
 ghost use Rattle.gravity.specs.Sight.{sights};
 ghost use Rattle.motion.specs.Step.{step};
-ghost use Rattle.motion.specs.Kept.{kept, skyAfter};
+ghost use Rattle.motion.specs.Kept.{kept, bodiesAfter};
 
 // One step from s, whose bodies at its own moment are known.
 pub fn step_under(
@@ -24,13 +24,13 @@ pub fn step_under(
     s: State,
     h: u32,
     g: Guesses,
-    sky: Sights,
+    bodies: Sights,
 ) -> Stepped
     requires { ⌜ (passes (now book) ≡ true) × (s .moment < endOfTime) ⌝ }
-    requires { ⌜ sky ≡ sights (now book) setting (s .moment) ⌝ }
-    ensures { λ r. ⌜ r ≡ kept (skyAfter (now (book .entry)) setting h s) (step (now (book .entry)) setting h s) ⌝ }
+    requires { ⌜ bodies ≡ sights (now book) setting (s .moment) ⌝ }
+    ensures { λ r. ⌜ r ≡ kept (bodiesAfter (now (book .entry)) setting h s) (step (now (book .entry)) setting h s) ⌝ }
 {
-    let answer = acceleration_under(sky, setting.earth, state::position_of(s));
+    let answer = acceleration_under(bodies, setting.earth, state::position_of(s));
     match answer {
         AccelerationAnswer::Is(a1) => second_stage(book, setting, s, h, g, a1),
         AccelerationAnswer::Refused(k) => Stepped::Off(k),

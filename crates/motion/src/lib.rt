@@ -1,6 +1,5 @@
 // The motion of a spacecraft: steps of a fixed length under a book of bodies, run in portions.
 
-pub mod checks;
 pub mod known;
 mod stages;
 mod walking;
@@ -44,7 +43,7 @@ pub fn run(
 ) -> RunAnswer
     ensures { λ r. ⌜ r ≡ runAnswer (now (book .entry)) setting state h target budget guesses ⌝ }
 {
-    let refusal = checks::start_refusal(book, setting, state, h, target);
+    let refusal = start::start_refusal(book, setting, state, h, target);
     if refusal == 0 {
         return walking::walk_on(book, setting, state, h, target, budget, guesses);
     }

@@ -17,7 +17,7 @@ ghost use Rattle.basis.specs.Limits.{endOfTime};
 ghost use Rattle.gravity.specs.Acceleration.{accelerationAt};
 ghost use Rattle.gravity.specs.Sight.{sights};
 ghost use Rattle.motion.specs.Step.{stepH, along, weigh, weighed, half, sixth, velocity2, velocity3, velocity4, lastly, stage2, stage3, stage4};
-ghost use Rattle.motion.specs.Kept.{kept, skyAfter};
+ghost use Rattle.motion.specs.Kept.{kept, bodiesAfter};
 
 fn seconds(h: u32) -> f64
     ensures { λ r. ⌜ r ≡ stepH h ⌝ }
@@ -64,9 +64,17 @@ fn weigh_all(k1: Vector, k2: Vector, k3: Vector, k4: Vector) -> Vector
 }
 
 // The new state, with the bodies at its moment.
-fn finish(s: State, h: u32, sky: Sights, a1: Vector, a2: Vector, a3: Vector, a4: Vector) -> Stepped
+fn finish(
+    s: State,
+    h: u32,
+    bodies: Sights,
+    a1: Vector,
+    a2: Vector,
+    a3: Vector,
+    a4: Vector,
+) -> Stepped
     requires { ⌜ s .moment < endOfTime ⌝ }
-    ensures { λ r. ⌜ r ≡ kept sky (lastly h s a1 a2 a3 a4) ⌝ }
+    ensures { λ r. ⌜ r ≡ kept bodies (lastly h s a1 a2 a3 a4) ⌝ }
 {
     let half = half_of(h);
     let sixth = sixth_of(h);
@@ -87,7 +95,7 @@ fn finish(s: State, h: u32, sky: Sights, a1: Vector, a2: Vector, a3: Vector, a4:
                 vy: w.y,
                 vz: w.z,
             };
-            return Stepped::On(next, sky);
+            return Stepped::On(next, bodies);
         }
     }
     Stepped::Off(7)
@@ -104,14 +112,14 @@ fn fourth_stage(
     a3: Vector,
 ) -> Stepped
     requires { ⌜ (passes (now book) ≡ true) × (s .moment < endOfTime) ⌝ }
-    ensures { λ r. ⌜ r ≡ kept (skyAfter (now (book .entry)) setting h s) (stage4 (accelerationAt (now (book .entry)) setting) h s a1 a2 a3) ⌝ }
+    ensures { λ r. ⌜ r ≡ kept (bodiesAfter (now (book .entry)) setting h s) (stage4 (accelerationAt (now (book .entry)) setting) h s a1 a2 a3) ⌝ }
 {
     let v3 = toward(state::velocity_of(s), half_of(h), a2);
     let p4 = toward(state::position_of(s), seconds(h), v3);
-    let sky = sights_at(book, setting, s.moment + h as u64, g);
-    let answer = acceleration_under(sky, setting.earth, p4);
+    let bodies = sights_at(book, setting, s.moment + h as u64, g);
+    let answer = acceleration_under(bodies, setting.earth, p4);
     match answer {
-        AccelerationAnswer::Is(a4) => finish(s, h, sky, a1, a2, a3, a4),
+        AccelerationAnswer::Is(a4) => finish(s, h, bodies, a1, a2, a3, a4),
         AccelerationAnswer::Refused(k) => Stepped::Off(k),
     }
 }
@@ -122,18 +130,18 @@ fn third_stage(
     s: State,
     h: u32,
     g: Guesses,
-    sky: Sights,
+    bodies: Sights,
     a1: Vector,
     a2: Vector,
 ) -> Stepped
     requires { ⌜ (passes (now book) ≡ true) × (s .moment < endOfTime) ⌝ }
-    requires { ⌜ sky ≡ sights (now book) setting (s .moment + h / 2) ⌝ }
-    ensures { λ r. ⌜ r ≡ kept (skyAfter (now (book .entry)) setting h s) (stage3 (accelerationAt (now (book .entry)) setting) h s a1 a2) ⌝ }
+    requires { ⌜ bodies ≡ sights (now book) setting (s .moment + h / 2) ⌝ }
+    ensures { λ r. ⌜ r ≡ kept (bodiesAfter (now (book .entry)) setting h s) (stage3 (accelerationAt (now (book .entry)) setting) h s a1 a2) ⌝ }
 {
     let half = half_of(h);
     let v2 = toward(state::velocity_of(s), half, a1);
     let p3 = toward(state::position_of(s), half, v2);
-    let answer = acceleration_under(sky, setting.earth, p3);
+    let answer = acceleration_under(bodies, setting.earth, p3);
     match answer {
         AccelerationAnswer::Is(a3) => fourth_stage(book, setting, s, h, g, a1, a2, a3),
         AccelerationAnswer::Refused(k) => Stepped::Off(k),
@@ -150,13 +158,13 @@ pub fn second_stage(
     a1: Vector,
 ) -> Stepped
     requires { ⌜ (passes (now book) ≡ true) × (s .moment < endOfTime) ⌝ }
-    ensures { λ r. ⌜ r ≡ kept (skyAfter (now (book .entry)) setting h s) (stage2 (accelerationAt (now (book .entry)) setting) h s a1) ⌝ }
+    ensures { λ r. ⌜ r ≡ kept (bodiesAfter (now (book .entry)) setting h s) (stage2 (accelerationAt (now (book .entry)) setting) h s a1) ⌝ }
 {
     let p2 = toward(state::position_of(s), half_of(h), state::velocity_of(s));
-    let sky = sights_at(book, setting, s.moment + (h / 2) as u64, g);
-    let answer = acceleration_under(sky, setting.earth, p2);
+    let bodies = sights_at(book, setting, s.moment + (h / 2) as u64, g);
+    let answer = acceleration_under(bodies, setting.earth, p2);
     match answer {
-        AccelerationAnswer::Is(a2) => third_stage(book, setting, s, h, g, sky, a1, a2),
+        AccelerationAnswer::Is(a2) => third_stage(book, setting, s, h, g, bodies, a1, a2),
         AccelerationAnswer::Refused(k) => Stepped::Off(k),
     }
 }

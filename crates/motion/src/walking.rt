@@ -12,7 +12,7 @@ use state::Setting;
 use state::State;
 ghost use mathlib.Core.Path.{_≡_};
 ghost use Rattle.motion.specs.Step.{step};
-ghost use Rattle.motion.specs.Run.{run, withGuesses};
+ghost use Rattle.motion.specs.Run.{handedBack, runTo, withGuesses};
 ghost use Rattle.motion.specs.Kept.{guessFrom, guessesFrom, MayWalk};
 
 fn guess_from(b: Sight, given: u64) -> u64
@@ -21,20 +21,31 @@ fn guess_from(b: Sight, given: u64) -> u64
     if 0.0 < b.m { b.entry as u64 } else { given }
 }
 
-fn guesses_from(sky: Sights, given: Guesses) -> Guesses
-    ensures { λ r. ⌜ r ≡ guessesFrom sky given ⌝ }
+fn guesses_from(bodies: Sights, given: Guesses) -> Guesses
+    ensures { λ r. ⌜ r ≡ guessesFrom bodies given ⌝ }
 {
-    let moon = sky.moon;
-    let sun = sky.sun;
-    let venus = sky.venus;
-    let mars = sky.mars;
-    let jupiter = sky.jupiter;
+    let moon = bodies.moon;
+    let sun = bodies.sun;
+    let venus = bodies.venus;
+    let mars = bodies.mars;
+    let jupiter = bodies.jupiter;
     Guesses {
         moon: guess_from(moon, given.moon),
         sun: guess_from(sun, given.sun),
         venus: guess_from(venus, given.venus),
         mars: guess_from(mars, given.mars),
         jupiter: guess_from(jupiter, given.jupiter),
+    }
+}
+
+fn handed_back(outcome: Outcome, steps: u32, state: State, guesses: Guesses) -> RunAnswer
+    ensures { λ r. ⌜ r ≡ handedBack outcome steps state guesses ⌝ }
+{
+    RunAnswer {
+        outcome,
+        steps,
+        state,
+        guesses,
     }
 }
 
@@ -49,51 +60,31 @@ pub fn walk_on(
     given: Guesses,
 ) -> RunAnswer
     requires { ⌜ MayWalk (now book) start h target ⌝ }
-    ensures { λ r. ⌜ r ≡ withGuesses (now (book .entry)) setting given (run (step (now (book .entry)) setting h) target budget start) ⌝ }
+    ensures { λ r. ⌜ r ≡ withGuesses (now (book .entry)) setting given (runTo (step (now (book .entry)) setting h) target budget start) ⌝ }
 {
-    let mut sky = sights_at(book, setting, start.moment, given);
+    let mut bodies = sights_at(book, setting, start.moment, given);
     let mut now = start;
     let mut guesses = given;
     let mut n: u32 = 0;
     while n < budget {
         if now.moment == target {
-            return RunAnswer {
-                outcome: Outcome::Arrived,
-                steps: n,
-                state: now,
-                guesses,
-            };
+            return handed_back(Outcome::Arrived, n, now, guesses);
         }
-        let stepped = step_under(book, setting, now, h, guesses, sky);
+        let stepped = step_under(book, setting, now, h, guesses, bodies);
         match stepped {
             Stepped::On(next, seen) => {
                 now = next;
-                sky = seen;
+                bodies = seen;
                 guesses = guesses_from(seen, given);
                 n += 1;
             }
             Stepped::Off(k) => {
-                return RunAnswer {
-                    outcome: Outcome::Refused(k),
-                    steps: n,
-                    state: now,
-                    guesses,
-                };
+                return handed_back(Outcome::Refused(k), n, now, guesses);
             }
         }
     }
     if now.moment == target {
-        return RunAnswer {
-            outcome: Outcome::Arrived,
-            steps: n,
-            state: now,
-            guesses,
-        };
+        return handed_back(Outcome::Arrived, n, now, guesses);
     }
-    RunAnswer {
-        outcome: Outcome::Going,
-        steps: n,
-        state: now,
-        guesses,
-    }
+    handed_back(Outcome::Going, n, now, guesses)
 }

@@ -22,7 +22,7 @@ use state::Setting;
 ghost use mathlib.Core.Path.{_≡_};
 ghost use Prim.Native.Nat.{_≤_};
 ghost use lib.ListN.{length};
-ghost use Rattle.motion.specs.Run.{startRefusal};
+ghost use Rattle.start.specs.Start.{startRefusal};
 ghost use Rattle.listing.specs.Course.{OnCourse};
 
 // An order, the longest book, and one byte more: enough to see that a book is too long.
@@ -87,7 +87,7 @@ fn print_listing(book: &[u8], order: Order)
 fn print_order(book: &[u8], order: Order) {
     let setting = order.setting;
     let injection = order.state;
-    let refusal = motion::checks::start_refusal(book, setting, injection, order.h, order.target);
+    let refusal = start::start_refusal(book, setting, injection, order.h, order.target);
     if refusal == 0 {
         print_listing(book, order);
     } else {

@@ -6,7 +6,7 @@ use native.Mathlib.Omega.{arith}
 use borrow.Author.Needs.{needs}
 use denote.Ref.{now}
 use Rattle.motion.specs.Step.{step}
-use Rattle.motion.specs.Run.{run}
+use Rattle.motion.specs.Run.{runTo}
 use Rattle.motion.specs.Kept.{Walking}
 use Rattle.motion.specs.declared.Outcome.the-variants.{Arrived, Going, Refused}
 use Rattle.motion.proofs.Runs.{runArrived, runGoing, runRefused}
@@ -21,11 +21,11 @@ noMore : (n budget : ℕ) → budget ≤ n → budget - n ≡ 0
 noMore n budget h = omega arith
 
 abbrev Inv-loop : tie.InvT-loop
-Inv-loop book setting h target budget given sky₀ now₀ guesses₀ n₀ sky now guesses n =
-    Walking book setting now₀ h target budget given now sky guesses n
+Inv-loop book setting h target budget given bodies₀ now₀ guesses₀ n₀ bodies now guesses n =
+    Walking book setting now₀ h target budget given now bodies guesses n
 
 abbrev μ-loop : tie.MeasureT-loop
-μ-loop book setting h target budget given sky₀ now₀ guesses₀ n₀ sky now guesses n = budget - n
+μ-loop book setting h target budget given bodies₀ now₀ guesses₀ n₀ bodies now guesses n = budget - n
 
 sights-at-requires : tie.Need-sights-at-requires Inv-loop μ-loop
 sights-at-requires c κs = c .before .pre .pass
@@ -36,18 +36,22 @@ loop-holds c =
     let b = now (x .book) in
     walkStarts b (x .setting) (x .start) (x .h) (x .target) (x .budget) (x .given) (c .before .before .pre) _ (c .sights-at .ensures)
 
+handed-back-requires : tie.Need-handed-back-requires Inv-loop μ-loop
+handed-back-requires c κs = tt
+
 returns : tie.Need-returns Inv-loop μ-loop
 returns c =
-    let x = c .before .before .before .before .before .before .args in
+    let x = c .before .before .before .before .before .before .before .args in
     let b = now (x .book) in
-    let l = c .before .before .before .loop in
-    walkEnds b (x .setting) (x .start) (x .h) (x .target) (x .budget) (x .given) (l .now) (l .sky) (l .guesses) (l .n) (l .inv) Arrived (runArrived (step b (x .setting) (x .h)) (x .target) (l .now) (x .budget - l .n) (c .if1 .taken))
+    let l = c .before .before .before .before .loop in
+    c .handed-back .ensures
+    ∙ walkEnds b (x .setting) (x .start) (x .h) (x .target) (x .budget) (x .given) (l .now) (l .bodies) (l .guesses) (l .n) (l .inv) Arrived (runArrived (step b (x .setting) (x .h)) (x .target) (l .now) (x .budget - l .n) (c .before .if1 .taken))
 
 step-under-requires : tie.Need-step-under-requires Inv-loop μ-loop
 step-under-requires c κs =
     let x = c .before .before .before .before .before .before .args in
     let l = c .before .before .before .loop in
-    ((c .before .before .before .before .before .before .pre .pass, walkIn (now (x .book)) (x .setting) (x .start) (x .h) (x .target) (x .budget) (x .given) (l .now) (l .sky) (l .guesses) (l .n) (l .inv) (c .before .before .before .before .before .before .pre .ends)), l .inv .seen)
+    ((c .before .before .before .before .before .before .pre .pass, walkIn (now (x .book)) (x .setting) (x .start) (x .h) (x .target) (x .budget) (x .given) (l .now) (l .bodies) (l .guesses) (l .n) (l .inv) (c .before .before .before .before .before .before .pre .ends)), l .inv .seen)
 
 enum-known-stepped : tie.Need-enum-known-stepped Inv-loop μ-loop
 enum-known-stepped c = c .match .keys1
@@ -66,36 +70,48 @@ loop-again c =
     let x = c .before .before .before .before .before .before .before .before .before .before .before .args in
     let b = now (x .book) in
     let l = c .before .before .before .before .before .before .before .before .loop in
-    rw (c .guesses-from .ensures) (walkGoesOn b (x .setting) (x .start) (x .h) (x .target) (x .budget) (x .given) (l .now) (l .sky) (l .guesses) (l .n) (l .inv) _ _ (c .before .before .before .before .before .before .before .loop-test .taken) (c .before .before .before .before .before .if1 .left) (sym (c .before .before .stepped .given .1) ∙ c .before .before .before .before .step-under .ensures))
+    rw (c .guesses-from .ensures) (walkGoesOn b (x .setting) (x .start) (x .h) (x .target) (x .budget) (x .given) (l .now) (l .bodies) (l .guesses) (l .n) (l .inv) _ _ (c .before .before .before .before .before .before .before .loop-test .taken) (c .before .before .before .before .before .if1 .left) (sym (c .before .before .stepped .given .1) ∙ c .before .before .before .before .step-under .ensures))
 
 enum-known-stepped-2 : tie.Need-enum-known-stepped-2 Inv-loop μ-loop
 enum-known-stepped-2 c = c .match .keys2
 
+handed-back-requires-2 : tie.Need-handed-back-requires-2 Inv-loop μ-loop
+handed-back-requires-2 c κs = tt
+
 returns-2 : tie.Need-returns-2 Inv-loop μ-loop
 returns-2 c =
-    let x = c .before .before .before .before .before .before .before .before .before .before .args in
+    let x = c .before .before .before .before .before .before .before .before .before .before .before .args in
     let b = now (x .book) in
-    let l = c .before .before .before .before .before .before .before .loop in
-    let off = handedOff _ _ _ (sym (c .before .stepped2 .given .1) ∙ c .before .before .before .step-under .ensures) in
-    walkEnds b (x .setting) (x .start) (x .h) (x .target) (x .budget) (x .given) (l .now) (l .sky) (l .guesses) (l .n) (l .inv) (Refused _)
-    (ap (λ (k : ℕ). run (step b (x .setting) (x .h)) (x .target) k (l .now)) (oneMore (l .n) (x .budget) (c .before .before .before .before .before .before .loop-test .taken))
-    ∙ runRefused (step b (x .setting) (x .h)) (x .target) (l .now) (c .before .before .before .before .if1 .left) (x .budget - (l .n + 1)) _ off)
+    let l = c .before .before .before .before .before .before .before .before .loop in
+    let off = handedOff _ _ _ (sym (c .before .before .stepped2 .given .1) ∙ c .before .before .before .before .step-under .ensures) in
+    c .handed-back2 .ensures
+    ∙ walkEnds b (x .setting) (x .start) (x .h) (x .target) (x .budget) (x .given) (l .now) (l .bodies) (l .guesses) (l .n) (l .inv) (Refused _)
+    (ap (λ (k : ℕ). runTo (step b (x .setting) (x .h)) (x .target) k (l .now)) (oneMore (l .n) (x .budget) (c .before .before .before .before .before .before .before .loop-test .taken))
+    ∙ runRefused (step b (x .setting) (x .h)) (x .target) (l .now) (c .before .before .before .before .before .if1 .left) (x .budget - (l .n + 1)) _ off)
+
+handed-back-requires-3 : tie.Need-handed-back-requires-3 Inv-loop μ-loop
+handed-back-requires-3 c κs = tt
 
 returns-3 : tie.Need-returns-3 Inv-loop μ-loop
 returns-3 c =
-    let x = c .before .before .before .before .before .before .args in
+    let x = c .before .before .before .before .before .before .before .args in
     let b = now (x .book) in
-    let l = c .before .before .before .loop in
-    walkEnds b (x .setting) (x .start) (x .h) (x .target) (x .budget) (x .given) (l .now) (l .sky) (l .guesses) (l .n) (l .inv) Arrived (runArrived (step b (x .setting) (x .h)) (x .target) (l .now) (x .budget - l .n) (c .if2 .taken))
+    let l = c .before .before .before .before .loop in
+    c .handed-back3 .ensures
+    ∙ walkEnds b (x .setting) (x .start) (x .h) (x .target) (x .budget) (x .given) (l .now) (l .bodies) (l .guesses) (l .n) (l .inv) Arrived (runArrived (step b (x .setting) (x .h)) (x .target) (l .now) (x .budget - l .n) (c .before .if2 .taken))
+
+handed-back-requires-4 : tie.Need-handed-back-requires-4 Inv-loop μ-loop
+handed-back-requires-4 c κs = tt
 
 returns-4 : tie.Need-returns-4 Inv-loop μ-loop
 returns-4 c =
-    let x = c .before .before .before .before .before .before .args in
+    let x = c .before .before .before .before .before .before .before .args in
     let b = now (x .book) in
-    let l = c .before .before .before .loop in
-    walkEnds b (x .setting) (x .start) (x .h) (x .target) (x .budget) (x .given) (l .now) (l .sky) (l .guesses) (l .n) (l .inv) Going
-    (ap (λ (k : ℕ). run (step b (x .setting) (x .h)) (x .target) k (l .now)) (noMore (l .n) (x .budget) (c .before .before .loop-test .left))
-    ∙ runGoing (step b (x .setting) (x .h)) (x .target) (l .now) (c .if2 .left))
+    let l = c .before .before .before .before .loop in
+    c .handed-back4 .ensures
+    ∙ walkEnds b (x .setting) (x .start) (x .h) (x .target) (x .budget) (x .given) (l .now) (l .bodies) (l .guesses) (l .n) (l .inv) Going
+    (ap (λ (k : ℕ). runTo (step b (x .setting) (x .h)) (x .target) k (l .now)) (noMore (l .n) (x .budget) (c .before .before .before .loop-test .left))
+    ∙ runGoing (step b (x .setting) (x .h)) (x .target) (l .now) (c .before .if2 .left))
 
 pub walk-on-spec : {M : Type 1} → statement M
 walk-on-spec =
@@ -105,6 +121,7 @@ walk-on-spec =
     μ-loop
     sights-at-requires
     loop-holds
+    handed-back-requires
     returns
     step-under-requires
     enum-known-stepped
@@ -113,6 +130,9 @@ walk-on-spec =
     loop-less
     loop-again
     enum-known-stepped-2
+    handed-back-requires-2
     returns-2
+    handed-back-requires-3
     returns-3
+    handed-back-requires-4
     returns-4)

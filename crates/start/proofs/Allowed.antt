@@ -7,7 +7,7 @@ use native.Mathlib.Omega.{arith}
 use borrow.Author.Tests.{leb-true, eqb-true}
 use Rattle.basis.specs.Choice.{_≤?_, _=?_}
 use Rattle.book.proofs.Below.{left, right}
-use Rattle.motion.specs.Run.{stepAllowed, withinSteps}
+use Rattle.start.specs.Start.{stepAllowed, withinSteps}
 
 pub longEnough : (h : ℕ) → stepAllowed h ≡ true → 2 ≤ h
 longEnough h e = leb-true 2 h (left (2 ≤? h) (h ≤? 86_400_000) (left ((2 ≤? h) && (h ≤? 86_400_000)) (h % 2 =? 0) e))

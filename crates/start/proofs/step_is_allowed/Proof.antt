@@ -1,7 +1,7 @@
--- `motion::checks::step_is_allowed` meets its contract. Assumes nothing.
+-- `start::step_is_allowed` meets its contract. Assumes nothing.
 use borrow.Author.Tests.{le-leb, lt-leb}
-use Rattle.motion.proofs.checks.step_is_allowed.Statement.{statement}
-use Rattle.motion.proofs.checks.step_is_allowed.Tie as tie
+use Rattle.start.proofs.step_is_allowed.Statement.{statement}
+use Rattle.start.proofs.step_is_allowed.Tie as tie
 
 returns : tie.Need-returns
 returns c = simp (lt-leb _ _ (c .if1 .taken))

@@ -1,0 +1,80 @@
+-- What a run call answers once its checks have passed, and that they pass again where it stopped. Assumes nothing.
+use mathlib.Core.Bool.{true}
+use mathlib.Core.List.{List}
+use mathlib.Core.Path.{_≡_, refl, sym, ap, _∙_, subst}
+use Prim.Native.Nat.{ℕ, zero, suc, _+_, _-_, _*_, _/_, _%_, _≤_, _<_}
+use native.Mathlib.Nat.{mul-mod-left}
+use native.Mathlib.Omega.{arith}
+use borrow.Author.Tests.{lt-ltb, le-leb, ltb-true, ne-eqb}
+use Rattle.basis.specs.Limits.{endOfTime}
+use Rattle.state.specs.State.{finiteState}
+use Rattle.state.specs.declared.State.{State}
+use Rattle.state.specs.declared.Setting.{Setting}
+use Rattle.gravity.specs.Sight.{sights, listed, refusalOf}
+use Rattle.gravity.specs.declared.Guesses.{Guesses}
+use Rattle.motion.specs.Step.{On, step}
+use Rattle.start.specs.Start.{withinSteps, startRefusal}
+use Rattle.motion.specs.Run.{runTo, withGuesses, refusedAtOnce, runAnswer}
+use Rattle.start.proofs.Allowed.{away}
+use Rattle.motion.proofs.OneStep.{Done, done}
+use Rattle.start.proofs.Passed.{Passed, passed}
+use Rattle.journey.proofs.Ran.{Ran, ran, stays}
+
+pub answerIs : (b : List ℕ) (setting : Setting) (s : State) (h target budget : ℕ) (given : Guesses) → startRefusal b setting s h target ≡ 0
+    → runAnswer b setting s h target budget given ≡ withGuesses b setting given (runTo (step b setting h) target budget s)
+unfolding runAnswer
+answerIs b setting s h target budget given e = rw e
+
+pub refusedIs : (b : List ℕ) (setting : Setting) (s : State) (h target budget : ℕ) (given : Guesses) (k : ℕ) → startRefusal b setting s h target ≡ suc k
+    → runAnswer b setting s h target budget given ≡ refusedAtOnce (suc k) s given
+unfolding runAnswer
+refusedIs b setting s h target budget given k e = rw (e, ne-eqb (suc k) 0 (λ z. absurd (omega arith)))
+
+stillWithin : (t h left target : ℕ) → t + left * h ≡ target → withinSteps t h target ≡ true
+stillWithin t h left target e =
+    let ahead : t ≤ target = omega arith in
+    let apart : target - t ≡ left * h = omega arith in
+    rw (le-leb t target ahead, apart, mul-mod-left left h)
+
+-- what a step leaves true of its new state: its components are finite, and every used body was seen at its moment
+pub record Left (b : List ℕ) (setting : Setting) (s : State) : Type 0 where
+  pub finite : finiteState s ≡ true
+  pub clear : refusalOf (listed (sights b setting (s .moment))) ≡ 0
+
+module _ (b : List ℕ) (setting : Setting) (h target : ℕ) where
+  pub moves : (s next : State) → step b setting h s ≡ On next → next .moment ≡ s .moment + h
+  moves s next e = done b setting h s next e .moment
+
+  pub leaves : (s next : State) → step b setting h s ≡ On next → Left b setting next
+  leaves s next e =
+      let d = done b setting h s next e in
+      record { finite = d .finite; clear = ap (λ (t : ℕ). refusalOf (listed (sights b setting t))) (d .moment) ∙ d .clear }
+
+  pub runFrom : (s : State) (budget : ℕ) → Passed b setting s h target
+      → Ran (step b setting h) h target (Left b setting) moves leaves s budget (runTo (step b setting h) target budget s)
+  runFrom s budget p =
+      ran (step b setting h) h target (Left b setting) moves leaves budget s ((target - s .moment) / h) (away (s .moment) h target (p .reachable))
+
+  -- the checks pass again where a run stopped
+  pub checksStay : (s : State) (budget : ℕ) → Passed b setting s h target → Passed b setting (runTo (step b setting h) target budget s .state) h target
+  checksStay s budget p =
+      let r = runFrom s budget p in
+      let q = runTo (step b setting h) target budget s in
+      let last : target < endOfTime = ltb-true target endOfTime (p .ends) in
+      let reach = r .reach in
+      let here : q .state .moment < endOfTime = omega arith in
+      record {
+        book = p .book;
+        set = p .set;
+        begins = lt-ltb _ _ here;
+        ends = p .ends;
+        finite = go (q .steps) refl;
+        length = p .length;
+        reachable = stillWithin _ h (r .left) target reach;
+      }
+    where
+      go : (n : ℕ) → runTo (step b setting h) target budget s .steps ≡ n → finiteState (runTo (step b setting h) target budget s .state) ≡ true
+      go zero none =
+          ap finiteState (stays (step b setting h) h target (Left b setting) moves leaves s (runTo (step b setting h) target budget s) (runFrom s budget p .walked) none)
+          ∙ p .finite
+      go (suc n) some = runFrom s budget p .seen (omega arith) .finite

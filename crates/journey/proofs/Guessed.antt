@@ -1,0 +1,67 @@
+-- Once steps were done, each used body's returned guess is the entry that covers the returned moment. Assumes nothing.
+use mathlib.Core.Bool.{Bool, true, false}
+use mathlib.Core.List.{List}
+use mathlib.Core.Path.{_≡_, refl, sym, ap, _∙_}
+use Prim.Native.Nat.{ℕ, zero, suc, _≤_}
+use native.Mathlib.Omega.{arith}
+use lib.Ieee.{Float}
+use borrow.Author.Tests.{ne-eqb, eq-eqb}
+use Rattle.state.specs.State.{used}
+use Rattle.state.specs.declared.State.{State}
+use Rattle.state.specs.declared.Setting.{Setting}
+use Rattle.book.specs.Lookup.{lookup}
+use Rattle.book.specs.declared.Lookup.{Lookup}
+use Rattle.book.specs.declared.Lookup.the-variants.{Entry, Nothing}
+use Rattle.gravity.specs.Sight.{sightOf, sights, listed, refusalOf, entryOr}
+use Rattle.gravity.specs.declared.Guesses.{Guesses}
+use Rattle.gravity.proofs.Under.{allClear}
+use Rattle.motion.specs.Step.{step}
+use Rattle.motion.specs.Run.{runTo, guessAt, guessesAt, guessesAfter, runAnswer}
+use Rattle.start.specs.Start.{startRefusal}
+use Rattle.motion.specs.declared.RunAnswer.{RunAnswer}
+use Rattle.start.proofs.Passed.{passed}
+use Rattle.journey.specs.Guessed.{Guess, AllGuessed}
+use Rattle.journey.proofs.Ran.{Ran}
+use Rattle.journey.proofs.Answers.{Left, answerIs, refusedIs, runFrom}
+
+-- a body that was seen
+one : (b : List ℕ) (number : ℕ) (m : Float) (t given : ℕ) → sightOf b number m t .refusal ≡ 0 → Guess b t number m given (guessAt b t number m given)
+unfolding sightOf
+one b number m t given clear =
+    record { covering = λ u. by u (lookup b number t) refl; other = λ u. rw u }
+  where
+    by : used m ≡ true → (l : Lookup) → lookup b number t ≡ l → lookup b number t ≡ Entry (guessAt b t number m given)
+    by u (Entry i) e = rw (u, e)
+    by u Nothing e = let six : _≡_ {A = ℕ} 6 0 = rw (u, e) at clear in absurd (omega arith)
+
+all : (b : List ℕ) (s : Setting) (t : ℕ) (given : Guesses) → refusalOf (listed (sights b s t)) ≡ 0 → AllGuessed b s t given (guessesAt b s t given)
+unfolding sights guessesAt
+all b s t given clear =
+    let seen = allClear (listed (sights b s t)) clear in
+    record {
+      moon = one b 2 (s .moon) t (given .moon) (seen .0);
+      sun = one b 3 (s .sun) t (given .sun) (seen .1 .0);
+      venus = one b 4 (s .venus) t (given .venus) (seen .1 .1 .0);
+      mars = one b 5 (s .mars) t (given .mars) (seen .1 .1 .1 .0);
+      jupiter = one b 6 (s .jupiter) t (given .jupiter) (seen .1 .1 .1 .1 .0);
+    }
+
+module _ (b : List ℕ) (setting : Setting) (s : State) (h target budget : ℕ) (given : Guesses) where
+  -- "If steps were done"
+  pub guessed : startRefusal b setting s h target ≡ 0 → 1 ≤ runAnswer b setting s h target budget given .steps
+      → AllGuessed b setting (runAnswer b setting s h target budget given .state .moment) given (runAnswer b setting s h target budget given .guesses)
+  guessed e =
+      rw (answerIs b setting s h target budget given e)
+      (λ some.
+      let q = runTo (step b setting h) target budget s in
+      let left = runFrom b setting h target s budget (passed b setting s h target e) .seen some in
+      rw (ne-eqb (q .steps) 0 (λ z. absurd (omega arith))) (all b setting (q .state .moment) given (left .clear)))
+
+  -- where none was done, every guess comes back as given
+  pub unmoved : runAnswer b setting s h target budget given .steps ≡ 0 → runAnswer b setting s h target budget given .guesses ≡ given
+  unmoved none = go (startRefusal b setting s h target) refl none
+    where
+      go : (k : ℕ) → startRefusal b setting s h target ≡ k → runAnswer b setting s h target budget given .steps ≡ 0
+          → runAnswer b setting s h target budget given .guesses ≡ given
+      go zero e = rw (answerIs b setting s h target budget given e) (λ z. rw (eq-eqb _ _ z))
+      go (suc k) e = rw (refusedIs b setting s h target budget given k e) (λ z. refl)

@@ -1,0 +1,124 @@
+-- A step is refused by 6 or 7 alone, and a run by these and the numbers of its start checks. Assumes nothing.
+use mathlib.Core.Bool.{Bool, true, false, not, _&&_, _||_, true≢false}
+use mathlib.Core.List.{List}
+use mathlib.Core.Logic.{_⊎_, inl, inr}
+use mathlib.Core.Path.{_≡_, refl, sym, ap, _∙_}
+use Prim.Native.Nat.{ℕ, zero, suc, _+_, _/_}
+use borrow.Author.Tests.{eqb-true}
+use Rattle.basis.specs.Choice.{if_then_else_, _=?_}
+use Rattle.basis.specs.Limits.{isMoment}
+use Rattle.basis.proofs.Cases.{by-if}
+use Rattle.state.specs.State.{position, velocity, finiteVector, finiteState, settingAllowed}
+use Rattle.state.specs.declared.Vector.{Vector}
+use Rattle.state.specs.declared.State.{State}
+use Rattle.state.specs.declared.Setting.{Setting}
+use Rattle.book.specs.Passes.{passes}
+use Rattle.gravity.specs.Acceleration.{accelerationAt}
+use Rattle.gravity.specs.declared.AccelerationAnswer.{AccelerationAnswer}
+use Rattle.gravity.specs.declared.AccelerationAnswer.the-variants.{Is, Refused}
+use Rattle.gravity.specs.declared.Guesses.{Guesses}
+use Rattle.gravity.proofs.Refused.{refusedBy, rule-refused}
+use Rattle.start.specs.Start.{stepAllowed, withinSteps, startRefusal}
+use Rattle.motion.specs.Step.{Moved, On, Off, andThen, along, weighed, half, sixth, stepH, velocity2, velocity3, velocity4, arrive, lastly, stage1, stage2, stage3, stage4, step}
+use Rattle.motion.specs.Run.{Reached, atTarget, afterwards, runTo, withGuesses, refusedAtOnce, runAnswer}
+use Rattle.motion.specs.declared.Outcome.{Outcome}
+use Rattle.motion.specs.declared.Outcome.the-variants as outcome
+use Rattle.motion.specs.declared.RunAnswer.{RunAnswer}
+
+abbrev pub offBy : (ℕ → Bool) → Moved → Bool
+offBy ok (On s) = true
+offBy ok (Off k) = ok k
+
+-- an outcome whose refusal, if it is one, meets the test
+abbrev pub outcomeBy : (ℕ → Bool) → Outcome → Bool
+outcomeBy ok outcome.Arrived = true
+outcomeBy ok outcome.Going = true
+outcomeBy ok (outcome.Refused k) = ok k
+
+module _ (ok : ℕ → Bool) (six : ok 6 ≡ true) (seven : ok 7 ≡ true) where
+  then-off : (a : AccelerationAnswer) (next : Vector → Moved) → refusedBy ok a ≡ true → ((v : Vector) → offBy ok (next v) ≡ true) → offBy ok (andThen a next) ≡ true
+  then-off (Is v) next first rest = rest v
+  then-off (Refused k) next first rest = first
+
+  arrive-off : (t : ℕ) (p v : Vector) → offBy ok (arrive t p v) ≡ true
+  arrive-off t p v = by-if (offBy ok) (finiteVector p && finiteVector v) refl seven
+
+  module _ (acc : ℕ → Vector → AccelerationAnswer) (each : (t : ℕ) (P : Vector) → refusedBy ok (acc t P) ≡ true) (h : ℕ) (s : State) where
+    stage4-off : (a1 a2 a3 : Vector) → offBy ok (stage4 acc h s a1 a2 a3) ≡ true
+    stage4-off a1 a2 a3 =
+        let P = along (position s) (stepH h) (velocity3 h s a2) in
+        then-off (acc (s .moment + h) P) (lastly h s a1 a2 a3) (each (s .moment + h) P)
+        (λ a4.
+        arrive-off (s .moment + h)
+        (along (position s) (sixth h) (weighed (velocity s) (velocity2 h s a1) (velocity3 h s a2) (velocity4 h s a3)))
+        (along (velocity s) (sixth h) (weighed a1 a2 a3 a4)))
+
+    stage3-off : (a1 a2 : Vector) → offBy ok (stage3 acc h s a1 a2) ≡ true
+    stage3-off a1 a2 =
+        let P = along (position s) (half h) (velocity2 h s a1) in
+        then-off (acc (s .moment + h / 2) P) (stage4 acc h s a1 a2) (each (s .moment + h / 2) P) (stage4-off a1 a2)
+
+    stage2-off : (a1 : Vector) → offBy ok (stage2 acc h s a1) ≡ true
+    stage2-off a1 =
+        let P = along (position s) (half h) (velocity s) in
+        then-off (acc (s .moment + h / 2) P) (stage3 acc h s a1) (each (s .moment + h / 2) P) (stage3-off a1)
+
+    stage1-off : offBy ok (stage1 acc h s) ≡ true
+    stage1-off = then-off (acc (s .moment) (position s)) (stage2 acc h s) (each (s .moment) (position s)) stage2-off
+
+  pub step-off : (b : List ℕ) (setting : Setting) (h : ℕ) (s : State) → offBy ok (step b setting h s) ≡ true
+  unfolding step
+  step-off b setting h s = stage1-off (accelerationAt b setting) (rule-refused ok six seven b setting) h s
+
+  module _ (f : State → Moved) (steps : (s : State) → offBy ok (f s) ≡ true) (target : ℕ) where
+    after-off : (rest : State → Reached) (s : State) (m : Moved) → ((next : State) → outcomeBy ok (rest next .outcome) ≡ true) → offBy ok m ≡ true
+        → outcomeBy ok (afterwards rest s m .outcome) ≡ true
+    after-off rest s (On next) later here = later next
+    after-off rest s (Off k) later here = here
+
+    run-off : (budget : ℕ) (s : State) → outcomeBy ok (runTo f target budget s .outcome) ≡ true
+    unfolding runTo
+    run-off zero s = by-if (λ (r : Reached). outcomeBy ok (r .outcome)) (atTarget target s) refl refl
+    run-off (suc budget) s =
+        by-if (λ (r : Reached). outcomeBy ok (r .outcome)) (atTarget target s) refl
+        (after-off (runTo f target budget) s (f s) (run-off budget) (steps s))
+
+  module _ (one : ok 1 ≡ true) (four : ok 4 ≡ true) (three : ok 3 ≡ true) (two : ok 2 ≡ true) (five : ok 5 ≡ true) where
+    -- 0, or a number of the checks
+    start-off : (b : List ℕ) (setting : Setting) (s : State) (h target : ℕ)
+        → ((startRefusal b setting s h target =? 0) || ok (startRefusal b setting s h target)) ≡ true
+    unfolding startRefusal
+    start-off b setting s h target =
+        let p : ℕ → Bool = λ k. (k =? 0) || ok k in
+        by-if p (not (passes b)) one
+        (by-if p (not (settingAllowed setting)) four
+        (by-if p (not (isMoment (s .moment))) three
+        (by-if p (not (isMoment target)) three
+        (by-if p (not (finiteState s)) seven
+        (by-if p (not (stepAllowed h)) two (by-if p (not (withinSteps (s .moment) h target)) five refl))))))
+
+    -- a run by 1, 4, 3, 7, 2, 5 and 6 alone
+    pub run-refused : (b : List ℕ) (setting : Setting) (s : State) (h target budget : ℕ) (given : Guesses)
+        → outcomeBy ok (runAnswer b setting s h target budget given .outcome) ≡ true
+    unfolding runAnswer
+    run-refused b setting s h target budget given = go (startRefusal b setting s h target =? 0) (start-off b setting s h target)
+      where
+        go : (none : Bool) → (none || ok (startRefusal b setting s h target)) ≡ true
+            → outcomeBy ok ((if none then withGuesses b setting given (runTo (step b setting h) target budget s)
+            else refusedAtOnce (startRefusal b setting s h target) s given) .outcome) ≡ true
+        go true e = run-off (step b setting h) (step-off b setting h) target budget s
+        go false e = e
+
+-- "refused by 6 or 7 alone"
+pub sixOrSeven : (b : List ℕ) (setting : Setting) (h k : ℕ) (s : State) → step b setting h s ≡ Off k → (k ≡ 6) ⊎ (k ≡ 7)
+sixOrSeven b setting h k s e = go (k =? 6) refl (k =? 7) refl
+  where
+    holds : ((k =? 6) || (k =? 7)) ≡ true
+    holds =
+        sym (ap (offBy (λ (j : ℕ). (j =? 6) || (j =? 7))) e)
+        ∙ step-off (λ (j : ℕ). (j =? 6) || (j =? 7)) refl refl b setting h s
+
+    go : (six : Bool) → (k =? 6) ≡ six → (seven : Bool) → (k =? 7) ≡ seven → (k ≡ 6) ⊎ (k ≡ 7)
+    go true is seven or = inl (eqb-true k 6 is)
+    go false is true or = inr (eqb-true k 7 or)
+    go false is false or = let clash : _≡_ {A = Bool} false true = rw (is, or) at holds in absurd (true≢false (sym clash))

@@ -1,0 +1,3 @@
+pub mod Journey
+pub mod Guessed
+pub mod Wrong

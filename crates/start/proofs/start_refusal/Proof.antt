@@ -1,0 +1,99 @@
+-- `start::start_refusal` meets its contract. Assumes nothing.
+use Rattle.start.specs.Start.{startRefusal}
+use Rattle.start.proofs.Order.{lastTwo}
+use borrow.Author.Needs.{needs}
+use Rattle.start.proofs.start_refusal.Statement.{statement}
+use Rattle.start.proofs.start_refusal.Tie as tie
+use Rattle.start.proofs.start_refusal.Reads as reads
+use Rattle.start.proofs.start_refusal.Lts as lts
+use Rattle.basis.proofs.unless.Reads as unless-reads
+use Rattle.book.proofs.book_passes.Reads as book-passes-reads
+use Rattle.start.proofs.is_moment.Reads as is-moment-reads
+use Rattle.start.proofs.is_within_steps.Reads as is-within-steps-reads
+use Rattle.start.proofs.step_is_allowed.Reads as step-is-allowed-reads
+use Rattle.state.proofs.setting_is_allowed.Reads as setting-is-allowed-reads
+use Rattle.state.proofs.state_is_finite.Reads as state-is-finite-reads
+
+book-passes-requires : tie.Need-book-passes-requires
+book-passes-requires c κs = search needs
+
+setting-is-allowed-requires : tie.Need-setting-is-allowed-requires
+setting-is-allowed-requires c κs = search needs
+
+is-moment-requires : tie.Need-is-moment-requires
+is-moment-requires c κs = search needs
+
+is-moment-requires-2 : tie.Need-is-moment-requires-2
+is-moment-requires-2 c κs = search needs
+
+state-is-finite-requires : tie.Need-state-is-finite-requires
+state-is-finite-requires c κs = search needs
+
+step-is-allowed-requires : tie.Need-step-is-allowed-requires
+step-is-allowed-requires c κs = search needs
+
+is-within-steps-requires : tie.Need-is-within-steps-requires
+is-within-steps-requires c κs = search needs
+
+unless-requires : tie.Need-unless-requires
+unless-requires c κs = search needs
+
+unless-requires-2 : tie.Need-unless-requires-2
+unless-requires-2 c κs = search needs
+
+unless-requires-3 : tie.Need-unless-requires-3
+unless-requires-3 c κs = search needs
+
+unless-requires-4 : tie.Need-unless-requires-4
+unless-requires-4 c κs = search needs
+
+unless-requires-5 : tie.Need-unless-requires-5
+unless-requires-5 c κs = search needs
+
+unless-requires-6 : tie.Need-unless-requires-6
+unless-requires-6 c κs = search needs
+
+unless-requires-7 : tie.Need-unless-requires-7
+unless-requires-7 c κs = search needs
+
+returns : tie.Need-returns
+unfolding startRefusal
+returns c =
+    let x = c .before .before .before .before .before .before .before .before .before .before .before .before .before .before .before .args in
+    rw (
+      c .unless7 .ensures,
+      c .before .unless6 .ensures,
+      c .before .before .unless5 .ensures,
+      c .before .before .before .unless4 .ensures,
+      c .before .before .before .before .unless3 .ensures,
+      c .before .before .before .before .before .unless2 .ensures,
+      c .before .before .before .before .before .before .unless .ensures,
+      c .before .before .before .before .before .before .before .is-within-steps .ensures,
+      c .before .before .before .before .before .before .before .before .step-is-allowed .ensures,
+      c .before .before .before .before .before .before .before .before .before .state-is-finite .ensures,
+      c .before .before .before .before .before .before .before .before .before .before .is-moment2 .ensures,
+      c .before .before .before .before .before .before .before .before .before .before .before .is-moment .ensures,
+      c .before .before .before .before .before .before .before .before .before .before .before .before .setting-is-allowed .ensures,
+      c .before .before .before .before .before .before .before .before .before .before .before .before .before .book-passes .ensures,
+      ← lastTwo (x .s .moment) (x .h) (x .target),
+    )
+
+pub start-refusal-spec : {M : Type 1} → statement M
+start-refusal-spec =
+    tie.close
+    (tie.spec
+    book-passes-requires
+    setting-is-allowed-requires
+    is-moment-requires
+    is-moment-requires-2
+    state-is-finite-requires
+    step-is-allowed-requires
+    is-within-steps-requires
+    unless-requires
+    unless-requires-2
+    unless-requires-3
+    unless-requires-4
+    unless-requires-5
+    unless-requires-6
+    unless-requires-7
+    returns)
