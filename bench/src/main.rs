@@ -31,22 +31,19 @@ impl Flight {
         run(book, &self.setting, &self.start, H, self.target(), u32::MAX, [0; 5])
     }
 
-    fn by_proved(&self) -> (belfrywool::Outcome, u32, belfrywool::State, [u64; 5]) {
+    fn by_proved(&self) -> belfrywool::Ran {
         let Setting { coefficients, dut } = self.setting;
         let setting = belfrywool::Setting { coefficients, dut };
         let ([x, y, z], [vx, vy, vz]) = (self.start.position, self.start.velocity);
         let moment = self.start.moment;
-        let mut state = belfrywool::State { moment, coordinates: [x, y, z, vx, vy, vz] };
-        let mut guesses = [0; 5];
+        let state = belfrywool::State { moment, coordinates: [x, y, z, vx, vy, vz] };
         let book = black_box(&self.book);
-        let (outcome, steps) =
-            belfrywool::run(book, &setting, &mut state, H, self.target(), u32::MAX, &mut guesses);
-        (outcome, steps, state, guesses)
+        belfrywool::run(book, &setting, &state, H, self.target(), u32::MAX, &[0; 5])
     }
 
     fn same(&self) -> bool {
         let ran = self.by_reference();
-        let (outcome, steps, state, guesses) = self.by_proved();
+        let belfrywool::Ran { outcome, steps, state, guesses } = self.by_proved();
         let reached = ran.state.position.iter().chain(&ran.state.velocity).map(|x| x.to_bits());
         ran.outcome == Outcome::Arrived
             && outcome == belfrywool::Outcome::Arrived

@@ -95,19 +95,18 @@ fn back(ran: &motion::Ran) -> Back {
 fn proved_back(book: &[u8], t: &Trip, single: bool) -> Back {
     let setting = proved::Setting { coefficients: t.setting.coefficients, dut: t.setting.dut };
     let coordinates = joined(t.state.position, t.state.velocity);
-    let mut state = proved::State { moment: t.state.moment, coordinates };
-    let mut guesses = t.guesses;
-    let (outcome, steps) = if single {
-        proved::single_step(book, &setting, &mut state, t.h, &mut guesses)
+    let state = proved::State { moment: t.state.moment, coordinates };
+    let ran = if single {
+        proved::single_step(book, &setting, &state, t.h, &t.guesses)
     } else {
-        proved::run(book, &setting, &mut state, t.h, t.target, t.budget, &mut guesses)
+        proved::run(book, &setting, &state, t.h, t.target, t.budget, &t.guesses)
     };
-    let number = match outcome {
+    let number = match ran.outcome {
         proved::Outcome::Arrived => Some(0),
         proved::Outcome::Going => None,
         proved::Outcome::Refused(number) => Some(number),
     };
-    (number, steps, state.moment, bits(state.coordinates), guesses)
+    (number, ran.steps, ran.state.moment, bits(ran.state.coordinates), ran.guesses)
 }
 
 fn on_a_book(c: &mut Chance, w: &World, t: &Trip) {

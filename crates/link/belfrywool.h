@@ -70,17 +70,19 @@ uint64_t belfry_acceleration(const uint8_t *book, size_t length, const double co
                              uint64_t moment, const double position[3], double acceleration[3]);
 
 /* Steps of h milliseconds from the state (moment, coordinates) to the moment `target`, at most `budget` of them.
-   Returns BELFRY_ARRIVED, BELFRY_GOING, or the number of the refusal. Whatever it returns, moment and coordinates are
-   then the last state reached and steps the number of steps done, so that the same call goes on from there.
-   guesses: for each of the bodies 2 to 6 the entry of the book to try first, counted from 0. It may be wrong, and is
-   brought up to date. */
-uint64_t belfry_run(const uint8_t *book, size_t length, const double coefficients[6], uint32_t dut, uint32_t h,
-                    uint64_t target, uint32_t budget, uint64_t *moment, double coordinates[6], uint64_t guesses[5],
+   guesses: for each of the bodies 2 to 6 the entry of the book to try first, counted from 0; it may be wrong.
+   Returns BELFRY_ARRIVED, BELFRY_GOING, or the number of the refusal. Whatever it returns, it writes the last state
+   reached to `reached` and `there`, guesses for the next call to `entries`, and the number of steps done to `steps`:
+   the next call takes these and goes on from there. What it reads and what it writes stand apart. */
+uint64_t belfry_run(const uint8_t *book, size_t length, const double coefficients[6], uint32_t dut, uint64_t moment,
+                    const double coordinates[6], uint32_t h, uint64_t target, uint32_t budget,
+                    const uint64_t guesses[5], uint64_t *reached, double there[6], uint64_t entries[5],
                     uint32_t *steps);
 
 /* A run of one step to the moment one step on. */
-uint64_t belfry_single_step(const uint8_t *book, size_t length, const double coefficients[6], uint32_t dut, uint32_t h,
-                            uint64_t *moment, double coordinates[6], uint64_t guesses[5], uint32_t *steps);
+uint64_t belfry_single_step(const uint8_t *book, size_t length, const double coefficients[6], uint32_t dut,
+                            uint64_t moment, const double coordinates[6], uint32_t h, const uint64_t guesses[5],
+                            uint64_t *reached, double there[6], uint64_t entries[5], uint32_t *steps);
 
 /* turned: the state's six coordinates in axes that turn with the Earth. */
 uint64_t belfry_earth_fixed(uint64_t moment, const double coordinates[6], uint32_t dut, double turned[6]);

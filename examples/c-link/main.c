@@ -104,21 +104,37 @@ static void accelerations(void) {
 static const uint8_t empty[8] = {8};
 static const double earth[6] = {8};
 
+/* Where a journey stands: a state, and guesses for the next call. */
+struct place {
+    uint64_t moment;
+    double coordinates[6];
+    uint64_t guesses[5];
+};
+
+/* One call of a journey, from `now` to `next`. */
+static uint64_t portion(const struct place *now, uint32_t h, uint64_t target, uint32_t budget, struct place *next,
+                        uint32_t *steps) {
+    return belfry_run(empty, 8, earth, 0, now->moment, now->coordinates, h, target, budget, now->guesses, &next->moment,
+                      next->coordinates, next->guesses, steps);
+}
+
 static void runs(void) {
-    double coordinates[6] = {2, 0, 0, 0, 4, 0};
-    uint64_t moment = 0, guesses[5] = {0}, number;
+    struct place now = {0, {2, 0, 0, 0, 4, 0}, {0}}, next;
+    uint64_t number;
     uint32_t steps;
-    number = belfry_run(empty, 8, earth, 0, 3, 0, 9, &moment, coordinates, guesses, &steps);
+    number = portion(&now, 3, 0, 9, &next, &steps);
     printf("h 3: refused %" PRIu64 ", steps %" PRIu32 "\n", number, steps);
-    number = belfry_run(empty, 8, earth, 0, 1000, 0, 9, &moment, coordinates, guesses, &steps);
+    number = portion(&now, 1000, 0, 9, &next, &steps);
     printf("at the target: steps %" PRIu32 ",", steps);
-    floats(coordinates, 6);
+    floats(next.coordinates, 6);
     do {
-        number = belfry_run(empty, 8, earth, 0, 1000, 5000, 2, &moment, coordinates, guesses, &steps);
-        printf("%s: steps %" PRIu32 ", moment %" PRIu64 "\n", number ? "going" : "arrived", steps, moment);
+        number = portion(&now, 1000, 5000, 2, &next, &steps);
+        now = next;
+        printf("%s: steps %" PRIu32 ", moment %" PRIu64 "\n", number ? "going" : "arrived", steps, now.moment);
     } while (number == BELFRY_GOING);
-    number = belfry_single_step(empty, 8, earth, 0, 86400000, &moment, coordinates, guesses, &steps);
-    printf("a day's step, %s: steps %" PRIu32 ", moment %" PRIu64 "\n", number ? "going" : "arrived", steps, moment);
+    number = belfry_single_step(empty, 8, earth, 0, now.moment, now.coordinates, 86400000, now.guesses, &next.moment,
+                                next.coordinates, next.guesses, &steps);
+    printf("a day's step, %s: steps %" PRIu32 ", moment %" PRIu64 "\n", number ? "going" : "arrived", steps, next.moment);
 }
 
 static void states(void) {

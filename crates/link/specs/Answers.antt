@@ -13,24 +13,26 @@ use Rattle.gravity.specs.declared.AccelerationAnswer.{AccelerationAnswer}
 use Rattle.motion.specs.declared.Outcome.{Outcome}
 use Rattle.motion.specs.declared.RunAnswer.{RunAnswer}
 use Rattle.fixed.specs.declared.FixedAnswer.{FixedAnswer}
-use Rattle.conic.specs.declared.CentredConic.{CentredConic}
 use Rattle.conic.specs.declared.ConicAnswer.{ConicAnswer}
-use Rattle.link.specs.Lent.{dateIn, sineCosineIn, placeIn, vectorIn, coordinatesIn, guessesIn, fixedIn}
+use Rattle.link.specs.Lent.{dateIn, sineCosineIn, placeIn, vectorIn, coordinatesIn, guessesIn, fixedIn, Both, bothIn, namesIn, figuresIn}
 
 -- values as they lie in memory, or document 01's number of the refusal
 pub data Answer (A : Type 0) : Type 0 where
   Accepted : A → Answer A
   Refused : ℕ → Answer A
 
--- what a call returns: 0 where it is accepted
-abbrev pub number : {A : Type 0} → Answer A → ℕ
-number (Accepted values) = 0
-number (Refused k) = k
+-- what a caller has of a call: what it returned, and what the memory that it was lent to write holds afterwards
+pub record Handed (A : Type 0) : Type 0 where
+  pub returned : ℕ
+  pub memory : A
 
--- what the lent memory holds afterwards: "every refusal returns the number alone", and leaves what was there before
-abbrev pub afterwards : {A : Type 0} → A → Answer A → A
-afterwards before (Accepted values) = values
-afterwards before (Refused k) = before
+abbrev pub handed : {A : Type 0} → ℕ → A → Handed A
+handed returned memory = record { returned = returned; memory = memory }
+
+-- 0 and the values where it is accepted; "every refusal returns the number alone", and leaves what was there before
+abbrev pub answered : {A : Type 0} → A → Answer A → Handed A
+answered before (Accepted values) = handed 0 values
+answered before (Refused k) = handed k before
 
 abbrev pub ofDate : DateAnswer → Answer (List ℕ)
 ofDate (DateAnswer.Date date) = Accepted (dateIn date)
@@ -68,10 +70,10 @@ abbrev pub ofFixed : FixedAnswer → Answer (List Float)
 ofFixed (FixedAnswer.Fixed f) = Accepted (fixedIn f)
 ofFixed (FixedAnswer.Refused k) = Refused k
 
--- a conic is written in two places: `part` is what goes to one of them
-abbrev pub ofConic : {A : Type 0} → (CentredConic → A) → ConicAnswer → Answer A
-ofConic part (ConicAnswer.Figures c) = Accepted (part c)
-ofConic part (ConicAnswer.Refused k) = Refused k
+-- a conic is written in two places
+abbrev pub ofConic : ConicAnswer → Answer Both
+ofConic (ConicAnswer.Figures c) = Accepted (bothIn (namesIn c) (figuresIn c))
+ofConic (ConicAnswer.Refused k) = Refused k
 
 -- what a run returns: 0 arrived, 100 going, else the refusal's number
 abbrev pub going : ℕ

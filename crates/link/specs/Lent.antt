@@ -86,3 +86,11 @@ figuresOf (Hyperbola a e p q v) = a ∷ e ∷ p ∷ q ∷ v ∷ []
 
 abbrev pub figuresIn : CentredConic → List Float
 figuresIn c = figuresOf (c .conic)
+
+-- both places of a conic, as one value
+pub record Both : Type 0 where
+  pub names : List ℕ
+  pub figures : List Float
+
+abbrev pub bothIn : List ℕ → List Float → Both
+bothIn names figures = record { names = names; figures = figures }

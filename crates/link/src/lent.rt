@@ -94,19 +94,19 @@ fn outcome_number(outcome: Outcome) -> u64
 // A refused run hands back too: the last state reached, and the steps done.
 pub fn hand_back(
     answer: RunAnswer,
-    moment: &mut u64,
-    coordinates: &mut [f64; 6],
-    guesses: &mut [u64; 5],
+    reached: &mut u64,
+    there: &mut [f64; 6],
+    entries: &mut [u64; 5],
     steps: &mut u32,
 ) -> u64
-    ensures { λ r. ⌜ handedBack r (now (moment .exit)) (now (coordinates .exit)) (now (guesses .exit)) (now (steps .exit))
+    ensures { λ r. ⌜ handedBack r (now (reached .exit)) (now (there .exit)) (now (entries .exit)) (now (steps .exit))
         ≡ ofRun answer ⌝ }
 {
     let state = answer.state;
-    *moment = state.moment;
-    *coordinates = [state.x, state.y, state.z, state.vx, state.vy, state.vz];
+    *reached = state.moment;
+    *there = [state.x, state.y, state.z, state.vx, state.vy, state.vz];
     let g = answer.guesses;
-    *guesses = [g.moon, g.sun, g.venus, g.mars, g.jupiter];
+    *entries = [g.moon, g.sun, g.venus, g.mars, g.jupiter];
     *steps = answer.steps;
     let outcome = answer.outcome;
     outcome_number(outcome)

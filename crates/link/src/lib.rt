@@ -26,13 +26,13 @@ ghost use Rattle.gravity.specs.Acceleration.{accelerationAnswer};
 ghost use Rattle.motion.specs.Run.{runAnswer, singleStepAnswer};
 ghost use Rattle.fixed.specs.Fixed.{fixedAnswer};
 ghost use Rattle.conic.specs.Conic.{conicAnswer};
-ghost use Rattle.link.specs.Lent.{settingOf, vectorOf, stateOf, guessesOf, namesIn, figuresIn};
-ghost use Rattle.link.specs.Answers.{number, afterwards, ofDate, ofDay, ofJulian, ofHour, ofRoot, ofSineCosine, ofPosition, ofAcceleration, ofFixed, ofConic, handedBack, ofRun};
+ghost use Rattle.link.specs.Lent.{settingOf, vectorOf, stateOf, guessesOf, bothIn};
+ghost use Rattle.link.specs.Answers.{handed, answered, ofDate, ofDay, ofJulian, ofHour, ofRoot, ofSineCosine, ofPosition, ofAcceleration, ofFixed, ofConic, handedBack, ofRun};
 
 #[no_mangle]
 pub extern "C" fn belfry_date(day: u64, date: &mut [u64; 3]) -> u64
-    ensures { λ r. ⌜ r ≡ number (ofDate (dateAnswer day)) ⌝ }
-    ensures { λ _. ⌜ now (date .exit) ≡ afterwards (now (date .entry)) (ofDate (dateAnswer day)) ⌝ }
+    ensures { λ r. ⌜ handed r (now (date .exit)) ≡ answered (now (date .entry))
+        (ofDate (dateAnswer day)) ⌝ }
 {
     match Calendar::from_day(day) {
         DateAnswer::Date(d) => {
@@ -45,8 +45,8 @@ pub extern "C" fn belfry_date(day: u64, date: &mut [u64; 3]) -> u64
 
 #[no_mangle]
 pub extern "C" fn belfry_day(year: u64, month: u64, day: u64, count: &mut u64) -> u64
-    ensures { λ r. ⌜ r ≡ number (ofDay (dayAnswer year month day)) ⌝ }
-    ensures { λ _. ⌜ now (count .exit) ≡ afterwards (now (count .entry)) (ofDay (dayAnswer year month day)) ⌝ }
+    ensures { λ r. ⌜ handed r (now (count .exit)) ≡ answered (now (count .entry))
+        (ofDay (dayAnswer year month day)) ⌝ }
 {
     match Calendar::from_date(year, month, day) {
         DayAnswer::Day(d) => {
@@ -59,8 +59,8 @@ pub extern "C" fn belfry_day(year: u64, month: u64, day: u64, count: &mut u64) -
 
 #[no_mangle]
 pub extern "C" fn belfry_twice_julian_date(day: u64, twice: &mut u64) -> u64
-    ensures { λ r. ⌜ r ≡ number (ofJulian (julianAnswer day)) ⌝ }
-    ensures { λ _. ⌜ now (twice .exit) ≡ afterwards (now (twice .entry)) (ofJulian (julianAnswer day)) ⌝ }
+    ensures { λ r. ⌜ handed r (now (twice .exit)) ≡ answered (now (twice .entry))
+        (ofJulian (julianAnswer day)) ⌝ }
 {
     match Calendar::twice_julian_date(day) {
         JulianAnswer::Twice(j) => {
@@ -73,8 +73,8 @@ pub extern "C" fn belfry_twice_julian_date(day: u64, twice: &mut u64) -> u64
 
 #[no_mangle]
 pub extern "C" fn belfry_hour_angle(moment: u64, dut: u32, parts: &mut u64) -> u64
-    ensures { λ r. ⌜ r ≡ number (ofHour (hourAnswer moment dut)) ⌝ }
-    ensures { λ _. ⌜ now (parts .exit) ≡ afterwards (now (parts .entry)) (ofHour (hourAnswer moment dut)) ⌝ }
+    ensures { λ r. ⌜ handed r (now (parts .exit)) ≡ answered (now (parts .entry))
+        (ofHour (hourAnswer moment dut)) ⌝ }
 {
     match hour::hour_angle(moment, dut) {
         HourAnswer::Parts(p) => {
@@ -87,8 +87,8 @@ pub extern "C" fn belfry_hour_angle(moment: u64, dut: u32, parts: &mut u64) -> u
 
 #[no_mangle]
 pub extern "C" fn belfry_root(x: f64, value: &mut f64) -> u64
-    ensures { λ r. ⌜ r ≡ number (ofRoot (rootAnswer x)) ⌝ }
-    ensures { λ _. ⌜ now (value .exit) ≡ afterwards (now (value .entry)) (ofRoot (rootAnswer x)) ⌝ }
+    ensures { λ r. ⌜ handed r (now (value .exit)) ≡ answered (now (value .entry))
+        (ofRoot (rootAnswer x)) ⌝ }
 {
     match root::root(x) {
         RootAnswer::Value(y) => {
@@ -101,8 +101,8 @@ pub extern "C" fn belfry_root(x: f64, value: &mut f64) -> u64
 
 #[no_mangle]
 pub extern "C" fn belfry_sine_cosine(parts: u64, both: &mut [f64; 2]) -> u64
-    ensures { λ r. ⌜ r ≡ number (ofSineCosine (sineCosineAnswer parts)) ⌝ }
-    ensures { λ _. ⌜ now (both .exit) ≡ afterwards (now (both .entry)) (ofSineCosine (sineCosineAnswer parts)) ⌝ }
+    ensures { λ r. ⌜ handed r (now (both .exit)) ≡ answered (now (both .entry))
+        (ofSineCosine (sineCosineAnswer parts)) ⌝ }
 {
     match sine::sine_cosine(parts) {
         SineCosineAnswer::Both(of) => {
@@ -130,8 +130,7 @@ pub extern "C" fn belfry_position(
     moment: u64,
     position: &mut [f64; 3],
 ) -> u64
-    ensures { λ r. ⌜ r ≡ number (ofPosition (positionAnswer (now (book .entry)) body moment)) ⌝ }
-    ensures { λ _. ⌜ now (position .exit) ≡ afterwards (now (position .entry))
+    ensures { λ r. ⌜ handed r (now (position .exit)) ≡ answered (now (position .entry))
         (ofPosition (positionAnswer (now (book .entry)) body moment)) ⌝ }
 {
     match book::position(book, body, moment) {
@@ -152,10 +151,7 @@ pub extern "C" fn belfry_acceleration(
     position: &[f64; 3],
     acceleration: &mut [f64; 3],
 ) -> u64
-    ensures { λ r. ⌜ r ≡ number
-        (ofAcceleration (accelerationAnswer (now (book .entry)) (settingOf (now (coefficients .entry)) dut) moment
-        (vectorOf (now (position .entry))))) ⌝ }
-    ensures { λ _. ⌜ now (acceleration .exit) ≡ afterwards (now (acceleration .entry))
+    ensures { λ r. ⌜ handed r (now (acceleration .exit)) ≡ answered (now (acceleration .entry))
         (ofAcceleration (accelerationAnswer (now (book .entry)) (settingOf (now (coefficients .entry)) dut) moment
         (vectorOf (now (position .entry))))) ⌝ }
 {
@@ -169,28 +165,32 @@ pub extern "C" fn belfry_acceleration(
     }
 }
 
+// What is read and what is written stand apart: the next call reads what this one wrote.
 #[no_mangle]
 pub extern "C" fn belfry_run(
     book: &[u8],
     coefficients: &[f64; 6],
     dut: u32,
+    moment: u64,
+    coordinates: &[f64; 6],
     h: u32,
     target: u64,
     budget: u32,
-    moment: &mut u64,
-    coordinates: &mut [f64; 6],
-    guesses: &mut [u64; 5],
+    guesses: &[u64; 5],
+    reached: &mut u64,
+    there: &mut [f64; 6],
+    entries: &mut [u64; 5],
     steps: &mut u32,
 ) -> u64
-    ensures { λ r. ⌜ handedBack r (now (moment .exit)) (now (coordinates .exit)) (now (guesses .exit)) (now (steps .exit)) ≡ ofRun
+    ensures { λ r. ⌜ handedBack r (now (reached .exit)) (now (there .exit)) (now (entries .exit)) (now (steps .exit)) ≡ ofRun
         (runAnswer (now (book .entry)) (settingOf (now (coefficients .entry)) dut)
-        (stateOf (now (moment .entry)) (now (coordinates .entry))) h target budget (guessesOf (now (guesses .entry)))) ⌝ }
+        (stateOf moment (now (coordinates .entry))) h target budget (guessesOf (now (guesses .entry)))) ⌝ }
 {
     let setting = lent::setting_of(*coefficients, dut);
-    let state = lent::state_of(*moment, *coordinates);
+    let state = lent::state_of(moment, *coordinates);
     let given = lent::guesses_of(*guesses);
     let answer = motion::run(book, setting, state, h, target, budget, given);
-    lent::hand_back(answer, moment, coordinates, guesses, steps)
+    lent::hand_back(answer, reached, there, entries, steps)
 }
 
 #[no_mangle]
@@ -198,21 +198,24 @@ pub extern "C" fn belfry_single_step(
     book: &[u8],
     coefficients: &[f64; 6],
     dut: u32,
+    moment: u64,
+    coordinates: &[f64; 6],
     h: u32,
-    moment: &mut u64,
-    coordinates: &mut [f64; 6],
-    guesses: &mut [u64; 5],
+    guesses: &[u64; 5],
+    reached: &mut u64,
+    there: &mut [f64; 6],
+    entries: &mut [u64; 5],
     steps: &mut u32,
 ) -> u64
-    ensures { λ r. ⌜ handedBack r (now (moment .exit)) (now (coordinates .exit)) (now (guesses .exit)) (now (steps .exit)) ≡ ofRun
+    ensures { λ r. ⌜ handedBack r (now (reached .exit)) (now (there .exit)) (now (entries .exit)) (now (steps .exit)) ≡ ofRun
         (singleStepAnswer (now (book .entry)) (settingOf (now (coefficients .entry)) dut)
-        (stateOf (now (moment .entry)) (now (coordinates .entry))) h (guessesOf (now (guesses .entry)))) ⌝ }
+        (stateOf moment (now (coordinates .entry))) h (guessesOf (now (guesses .entry)))) ⌝ }
 {
     let setting = lent::setting_of(*coefficients, dut);
-    let state = lent::state_of(*moment, *coordinates);
+    let state = lent::state_of(moment, *coordinates);
     let given = lent::guesses_of(*guesses);
     let answer = motion::single_step(book, setting, state, h, given);
-    lent::hand_back(answer, moment, coordinates, guesses, steps)
+    lent::hand_back(answer, reached, there, entries, steps)
 }
 
 #[no_mangle]
@@ -222,8 +225,7 @@ pub extern "C" fn belfry_earth_fixed(
     dut: u32,
     turned: &mut [f64; 6],
 ) -> u64
-    ensures { λ r. ⌜ r ≡ number (ofFixed (fixedAnswer (stateOf moment (now (coordinates .entry))) dut)) ⌝ }
-    ensures { λ _. ⌜ now (turned .exit) ≡ afterwards (now (turned .entry))
+    ensures { λ r. ⌜ handed r (now (turned .exit)) ≡ answered (now (turned .entry))
         (ofFixed (fixedAnswer (stateOf moment (now (coordinates .entry))) dut)) ⌝ }
 {
     match fixed::earth_fixed(lent::state_of(moment, *coordinates), dut) {
@@ -243,11 +245,8 @@ pub extern "C" fn belfry_conic(
     names: &mut [u64; 2],
     figures: &mut [f64; 5],
 ) -> u64
-    ensures { λ r. ⌜ r ≡ number (ofConic figuresIn (conicAnswer m (stateOf moment (now (coordinates .entry))))) ⌝ }
-    ensures { λ _. ⌜ now (names .exit) ≡ afterwards (now (names .entry))
-        (ofConic namesIn (conicAnswer m (stateOf moment (now (coordinates .entry))))) ⌝ }
-    ensures { λ _. ⌜ now (figures .exit) ≡ afterwards (now (figures .entry))
-        (ofConic figuresIn (conicAnswer m (stateOf moment (now (coordinates .entry))))) ⌝ }
+    ensures { λ r. ⌜ handed r (bothIn (now (names .exit)) (now (figures .exit))) ≡ answered (bothIn (now (names .entry)) (now (figures .entry)))
+        (ofConic (conicAnswer m (stateOf moment (now (coordinates .entry))))) ⌝ }
 {
     match conic::conic_figures(m, lent::state_of(moment, *coordinates)) {
         ConicAnswer::Figures(c) => {

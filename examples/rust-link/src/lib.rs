@@ -19,13 +19,14 @@ extern "C" {
         position: &[f64; 3], acceleration: &mut [f64; 3],
     ) -> u64;
     fn belfry_run(
-        book: *const u8, length: usize, coefficients: &[f64; 6], dut: u32, h: u32, target: u64,
-        budget: u32, moment: &mut u64, coordinates: &mut [f64; 6], guesses: &mut [u64; 5],
-        steps: &mut u32,
+        book: *const u8, length: usize, coefficients: &[f64; 6], dut: u32, moment: u64,
+        coordinates: &[f64; 6], h: u32, target: u64, budget: u32, guesses: &[u64; 5],
+        reached: &mut u64, there: &mut [f64; 6], entries: &mut [u64; 5], steps: &mut u32,
     ) -> u64;
     fn belfry_single_step(
-        book: *const u8, length: usize, coefficients: &[f64; 6], dut: u32, h: u32,
-        moment: &mut u64, coordinates: &mut [f64; 6], guesses: &mut [u64; 5], steps: &mut u32,
+        book: *const u8, length: usize, coefficients: &[f64; 6], dut: u32, moment: u64,
+        coordinates: &[f64; 6], h: u32, guesses: &[u64; 5], reached: &mut u64,
+        there: &mut [f64; 6], entries: &mut [u64; 5], steps: &mut u32,
     ) -> u64;
     fn belfry_earth_fixed(
         moment: u64, coordinates: &[f64; 6], dut: u32, turned: &mut [f64; 6],
@@ -60,6 +61,16 @@ pub enum Outcome {
     Arrived,
     Going,
     Refused(u64),
+}
+
+/// What a run hands back: how it ended, the steps done, the last state reached, and guesses for the
+/// next call.
+#[derive(Clone, Copy, Debug)]
+pub struct Ran {
+    pub outcome: Outcome,
+    pub steps: u32,
+    pub state: State,
+    pub guesses: [u64; 5],
 }
 
 /// The figures a, e, p, q, and the far distance of an ellipse or the root of c3 of a hyperbola.
@@ -144,33 +155,35 @@ pub fn acceleration(
     answer(number, acceleration)
 }
 
-/// Steps of h milliseconds to the target, at most `budget`, and how many were done. The state
-/// becomes the last one reached, whatever the outcome.
+fn ran(call: impl FnOnce(&mut u64, &mut [f64; 6], &mut [u64; 5], &mut u32) -> u64) -> Ran {
+    let (mut moment, mut coordinates, mut guesses, mut steps) = (0, [0.0; 6], [0; 5], 0);
+    let number = call(&mut moment, &mut coordinates, &mut guesses, &mut steps);
+    Ran { outcome: outcome(number), steps, state: State { moment, coordinates }, guesses }
+}
+
+/// Steps of h milliseconds to the target, at most `budget`. The next call goes on from the state and
+/// the guesses that it hands back, whatever the outcome.
 pub fn run(
-    book: &[u8], setting: &Setting, state: &mut State, h: u32, target: u64, budget: u32,
-    guesses: &mut [u64; 5],
-) -> (Outcome, u32) {
-    let mut steps = 0;
-    let number = unsafe {
+    book: &[u8], setting: &Setting, state: &State, h: u32, target: u64, budget: u32,
+    guesses: &[u64; 5],
+) -> Ran {
+    ran(|reached, there, entries, steps| unsafe {
         belfry_run(
-            book.as_ptr(), book.len(), &setting.coefficients, setting.dut, h, target, budget,
-            &mut state.moment, &mut state.coordinates, guesses, &mut steps,
+            book.as_ptr(), book.len(), &setting.coefficients, setting.dut, state.moment,
+            &state.coordinates, h, target, budget, guesses, reached, there, entries, steps,
         )
-    };
-    (outcome(number), steps)
+    })
 }
 
 pub fn single_step(
-    book: &[u8], setting: &Setting, state: &mut State, h: u32, guesses: &mut [u64; 5],
-) -> (Outcome, u32) {
-    let mut steps = 0;
-    let number = unsafe {
+    book: &[u8], setting: &Setting, state: &State, h: u32, guesses: &[u64; 5],
+) -> Ran {
+    ran(|reached, there, entries, steps| unsafe {
         belfry_single_step(
-            book.as_ptr(), book.len(), &setting.coefficients, setting.dut, h,
-            &mut state.moment, &mut state.coordinates, guesses, &mut steps,
+            book.as_ptr(), book.len(), &setting.coefficients, setting.dut, state.moment,
+            &state.coordinates, h, guesses, reached, there, entries, steps,
         )
-    };
-    (outcome(number), steps)
+    })
 }
 
 /// The state's coordinates in axes that turn with the Earth.

@@ -80,26 +80,25 @@ fn at(vx: f64, vy: f64) -> State {
 
 fn runs() {
     let (book, setting) = ([8, 0, 0, 0, 0, 0, 0, 0], earth(0));
-    let (mut state, mut guesses) = (at(0.0, 4.0), [0; 5]);
-    if let (Outcome::Refused(number), steps) =
-        run(&book, &setting, &mut state, 3, 0, 9, &mut guesses)
-    {
-        println!("h 3: refused {number}, steps {steps}");
+    let (start, none) = (at(0.0, 4.0), [0; 5]);
+    let ran = run(&book, &setting, &start, 3, 0, 9, &none);
+    if let Outcome::Refused(number) = ran.outcome {
+        println!("h 3: refused {number}, steps {}", ran.steps);
     }
-    let (_, steps) = run(&book, &setting, &mut state, 1000, 0, 9, &mut guesses);
-    println!("at the target: steps {steps},{}", bits(&state.coordinates));
+    let mut ran = run(&book, &setting, &start, 1000, 0, 9, &none);
+    println!("at the target: steps {},{}", ran.steps, bits(&ran.state.coordinates));
     loop {
-        let (outcome, steps) = run(&book, &setting, &mut state, 1000, 5000, 2, &mut guesses);
-        let going = outcome == Outcome::Going;
+        ran = run(&book, &setting, &ran.state, 1000, 5000, 2, &ran.guesses);
+        let going = ran.outcome == Outcome::Going;
         let word = if going { "going" } else { "arrived" };
-        println!("{word}: steps {steps}, moment {}", state.moment);
+        println!("{word}: steps {}, moment {}", ran.steps, ran.state.moment);
         if !going {
             break;
         }
     }
-    let (outcome, steps) = single_step(&book, &setting, &mut state, 86_400_000, &mut guesses);
-    let word = if outcome == Outcome::Going { "going" } else { "arrived" };
-    println!("a day's step, {word}: steps {steps}, moment {}", state.moment);
+    let ran = single_step(&book, &setting, &ran.state, 86_400_000, &ran.guesses);
+    let word = if ran.outcome == Outcome::Going { "going" } else { "arrived" };
+    println!("a day's step, {word}: steps {}, moment {}", ran.steps, ran.state.moment);
 }
 
 fn conic_told((centre, conic): (u64, Conic)) -> String {

@@ -13,7 +13,7 @@ returns c =
       ← at-call .acceleration .ensures,
       c .before .before .a .given .1,
     )
-    (refl, refl)
+    refl
 
 returns-2 : tie.Need-returns-2
 returns-2 c =
@@ -24,7 +24,7 @@ returns-2 c =
       ← at-call .acceleration .ensures,
       c .before .k .given .1,
     )
-    (refl, refl)
+    refl
 
 pub belfry-acceleration-spec : {M : Type 1} → statement M
 belfry-acceleration-spec =

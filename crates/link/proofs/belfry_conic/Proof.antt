@@ -14,7 +14,7 @@ returns c =
       c .figures-of .ensures,
       c .before .before .kind-of .ensures,
     )
-    (refl, (refl, refl))
+    refl
 
 returns-2 : tie.Need-returns-2
 returns-2 c =
@@ -24,7 +24,7 @@ returns-2 c =
       ← at-call .conic-figures .ensures,
       c .before .k .given .1,
     )
-    (refl, (refl, refl))
+    refl
 
 pub belfry-conic-spec : {M : Type 1} → statement M
 belfry-conic-spec =

@@ -12,7 +12,7 @@ returns c =
       ← at-call .earth-fixed .ensures,
       c .before .before .f .given .1,
     )
-    (refl, refl)
+    refl
 
 returns-2 : tie.Need-returns-2
 returns-2 c =
@@ -22,7 +22,7 @@ returns-2 c =
       ← at-call .earth-fixed .ensures,
       c .before .k .given .1,
     )
-    (refl, refl)
+    refl
 
 pub belfry-earth-fixed-spec : {M : Type 1} → statement M
 belfry-earth-fixed-spec =

@@ -5,10 +5,10 @@ use Rattle.link.proofs.belfry_hour_angle.Statement.{statement}
 use Rattle.link.proofs.belfry_hour_angle.Tie as tie
 
 returns : tie.Need-returns
-returns c = rw (← c .before .before .before .hour-angle .ensures, c .before .p .given .1) (refl, refl)
+returns c = rw (← c .before .before .before .hour-angle .ensures, c .before .p .given .1) refl
 
 returns-2 : tie.Need-returns-2
-returns-2 c = rw (← c .before .before .before .hour-angle .ensures, c .before .k .given .1) (refl, refl)
+returns-2 c = rw (← c .before .before .before .hour-angle .ensures, c .before .k .given .1) refl
 
 pub belfry-hour-angle-spec : {M : Type 1} → statement M
 belfry-hour-angle-spec = tie.close (tie.spec (λ c κs. tt) (λ c. search needs) (λ c. search needs) returns returns-2)

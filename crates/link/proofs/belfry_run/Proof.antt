@@ -9,7 +9,7 @@ returns c =
       at-run .run .ensures,
       at-run .before .guesses-of .ensures,
       at-run .before .before .before .state-of .ensures,
-      at-run .before .before .before .before .before .before .setting-of .ensures,
+      at-run .before .before .before .before .before .setting-of .ensures,
     ) at (c .hand-back .ensures)
 
 pub belfry-run-spec : {M : Type 1} → statement M

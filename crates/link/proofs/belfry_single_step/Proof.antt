@@ -9,7 +9,7 @@ returns c =
       at-run .single-step .ensures,
       at-run .before .guesses-of .ensures,
       at-run .before .before .before .state-of .ensures,
-      at-run .before .before .before .before .before .before .setting-of .ensures,
+      at-run .before .before .before .before .before .setting-of .ensures,
     ) at (c .hand-back .ensures)
 
 pub belfry-single-step-spec : {M : Type 1} → statement M

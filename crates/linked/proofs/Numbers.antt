@@ -1,0 +1,164 @@
+-- Every refusal of every call has a number of document 01's table, 1 to 12. So a call returns 0 only where it is accepted, and a
+-- run returns 100 only where it is going. Assumes nothing.
+use mathlib.Core.Bool.{Bool, true, false, not, _&&_, _||_}
+use mathlib.Core.List.{List}
+use mathlib.Core.Path.{_≡_, refl}
+use Prim.Native.Nat.{ℕ, _+_}
+use lib.Ieee.{Float, eq}
+use lib.Ieee.Scale.{finite}
+use Rattle.basis.specs.Choice.{if_then_else_, _<?_, _≤?_, _=?_}
+use Rattle.basis.specs.Limits.{isMoment, isDUT, lastDay, circle}
+use Rattle.basis.proofs.Cases.{by-if}
+use Rattle.basis.specs.Floats.{zero64, above0}
+use Rattle.state.specs.State.{finiteState}
+use Rattle.state.specs.declared.State.{State}
+use Rattle.state.specs.declared.Setting.{Setting}
+use Rattle.state.specs.declared.Vector.{Vector}
+use Rattle.calendar.specs.Gregorian.{ymd, isDate}
+use Rattle.calendar.specs.Answers.{dateAnswer, dayAnswer, julianAnswer}
+use Rattle.hour.specs.Hour.{hourAnswer}
+use Rattle.hour.specs.declared.HourAnswer.{HourAnswer}
+use Rattle.root.specs.Root.{negative, rootAnswer}
+use Rattle.sine.specs.Sine.{sineCosineAnswer}
+use Rattle.book.specs.Position.{positionAnswer}
+use Rattle.book.proofs.Refused as book
+use Rattle.book.specs.declared.PositionAnswer.{PositionAnswer}
+use Rattle.gravity.specs.Acceleration.{accelerationAnswer}
+use Rattle.gravity.proofs.Refused as gravity
+use Rattle.gravity.specs.declared.AccelerationAnswer.{AccelerationAnswer}
+use Rattle.gravity.specs.declared.Guesses.{Guesses}
+use Rattle.motion.specs.Run.{runAnswer, singleStepAnswer}
+use Rattle.motion.specs.declared.Outcome.{Outcome}
+use Rattle.journey.proofs.Refused as journey
+use Rattle.fixed.specs.declared.FixedAnswer.{FixedAnswer}
+use Rattle.fixed.specs.Fixed.{afterHour, finiteFixed, finiteAnswer, fixedAnswer, turned, rotation}
+use Rattle.conic.specs.Conic.{unfit, _before_, refusal, orbitAnswer, orbit, conicAnswer}
+use Rattle.conic.specs.declared.ConicAnswer.{ConicAnswer}
+use Rattle.link.specs.Answers.{ofDate, ofDay, ofJulian, ofHour, ofRoot, ofSineCosine, ofPosition, ofAcceleration, ofFixed, ofConic}
+use Rattle.linked.specs.Table.{tabled, told, outcomeTold}
+
+-- 0 for none, or a number of the table
+abbrev none-or-tabled : ℕ → Bool
+none-or-tabled k = k =? 0 || tabled k
+
+-- where 0 goes on, any other number is a refusal's
+by-number :
+    {A : Type 0} (p : A → Bool) (c ok : Bool) {a b : A}
+    → (c || ok) ≡ true
+    → p a ≡ true
+    → (ok ≡ true → p b ≡ true)
+    → p (if c then a else b) ≡ true
+by-number p true ok number holds-a holds-b = holds-a
+by-number p false ok number holds-a holds-b = holds-b number
+
+pub date-told : (day : ℕ) → told (ofDate (dateAnswer day)) ≡ true
+date-told day = by-if (λ a. told (ofDate a)) (day ≤? lastDay) refl refl
+
+pub day-told : (year month day : ℕ) → told (ofDay (dayAnswer year month day)) ≡ true
+day-told year month day = by-if (λ a. told (ofDay a)) (isDate (ymd year month day)) refl refl
+
+pub julian-told : (day : ℕ) → told (ofJulian (julianAnswer day)) ≡ true
+julian-told day = by-if (λ a. told (ofJulian a)) (day ≤? lastDay) refl refl
+
+pub hour-told : (moment dut : ℕ) → told (ofHour (hourAnswer moment dut)) ≡ true
+hour-told moment dut =
+    let p : HourAnswer → Bool = λ a. told (ofHour a) in
+    by-if p (not (isDUT dut)) refl (by-if p (not (isMoment moment)) refl (by-if p (moment <? dut) refl refl))
+
+pub root-told : (x : Float) → told (ofRoot (rootAnswer x)) ≡ true
+unfolding rootAnswer
+root-told x = by-if (λ a. told (ofRoot a)) (negative x || not (finite x)) refl refl
+
+pub sine-cosine-told : (parts : ℕ) → told (ofSineCosine (sineCosineAnswer parts)) ≡ true
+unfolding sineCosineAnswer
+sine-cosine-told parts = by-if (λ a. told (ofSineCosine a)) (parts <? circle) refl refl
+
+position-is-told : (a : PositionAnswer) → book.refusedBy tabled a ≡ true → told (ofPosition a) ≡ true
+position-is-told (PositionAnswer.At R) by = refl
+position-is-told (PositionAnswer.Refused k) by = by
+
+pub position-told : (b : List ℕ) (body t : ℕ) → told (ofPosition (positionAnswer b body t)) ≡ true
+position-told b body t = position-is-told (positionAnswer b body t) (book.position-refused tabled refl refl refl refl b body t)
+
+acceleration-is-told : (a : AccelerationAnswer) → gravity.refusedBy tabled a ≡ true → told (ofAcceleration a) ≡ true
+acceleration-is-told (AccelerationAnswer.Is v) by = refl
+acceleration-is-told (AccelerationAnswer.Refused k) by = by
+
+pub acceleration-told : (b : List ℕ) (s : Setting) (t : ℕ) (P : Vector) → told (ofAcceleration (accelerationAnswer b s t P)) ≡ true
+acceleration-told b s t P =
+    acceleration-is-told (accelerationAnswer b s t P) (gravity.acceleration-refused tabled refl refl refl refl refl b s t P)
+
+outcome-is-told : (o : Outcome) → journey.outcomeBy tabled o ≡ true → outcomeTold o ≡ true
+outcome-is-told Outcome.Arrived by = refl
+outcome-is-told Outcome.Going by = refl
+outcome-is-told (Outcome.Refused k) by = by
+
+pub run-told : (b : List ℕ) (setting : Setting) (s : State) (h target budget : ℕ) (given : Guesses)
+    → outcomeTold (runAnswer b setting s h target budget given .outcome) ≡ true
+run-told b setting s h target budget given =
+    outcome-is-told (runAnswer b setting s h target budget given .outcome)
+    (journey.run-refused tabled refl refl refl refl refl refl refl b setting s h target budget given)
+
+pub single-step-told : (b : List ℕ) (setting : Setting) (s : State) (h : ℕ) (given : Guesses)
+    → outcomeTold (singleStepAnswer b setting s h given .outcome) ≡ true
+single-step-told b setting s h given = run-told b setting s h (s .moment + h) 1 given
+
+finite-told : (state : State) (dut : ℕ) → told (ofFixed (finiteAnswer state dut)) ≡ true
+unfolding finiteAnswer
+finite-told state dut =
+    let p : FixedAnswer → Bool = λ a. told (ofFixed a) in
+    by-if p (not (finiteState state)) refl (by-if p (not (finiteFixed (turned (rotation (state .moment) dut) state))) refl refl)
+
+after-hour-told :
+    (hour : HourAnswer) (answer : FixedAnswer)
+    → told (ofHour hour) ≡ true
+    → told (ofFixed answer) ≡ true
+    → told (ofFixed (afterHour hour answer)) ≡ true
+after-hour-told (HourAnswer.Parts parts) answer first rest = rest
+after-hour-told (HourAnswer.Refused k) answer first rest = first
+
+pub fixed-told : (state : State) (dut : ℕ) → told (ofFixed (fixedAnswer state dut)) ≡ true
+unfolding fixedAnswer
+fixed-told state dut =
+    after-hour-told (hourAnswer (state .moment) dut) (finiteAnswer state dut) (hour-told (state .moment) dut) (finite-told state dut)
+
+unfit-told : (x : Float) (own : ℕ) → none-or-tabled own ≡ true → none-or-tabled (unfit x own) ≡ true
+unfolding unfit
+unfit-told x own number = by-if none-or-tabled (not (finite x)) refl (by-if none-or-tabled (eq x zero64) number refl)
+
+before-told : (k next : ℕ) → none-or-tabled k ≡ true → none-or-tabled next ≡ true → none-or-tabled (k before next) ≡ true
+unfolding _before_
+before-told k next first second = by-if none-or-tabled (k =? 0) second first
+
+refusal-told : (m : Float) (state : State) → none-or-tabled (refusal (orbit m state)) ≡ true
+unfolding refusal
+refusal-told m state =
+    before-told _ _
+    (before-told _ _
+    (before-told _ _
+    (before-told _ _
+    (before-told _ _
+    (before-told _ _
+    (before-told _ _
+    (before-told _ _
+    (before-told _ _ (unfit-told _ 7 refl) (unfit-told _ 0 refl))
+    (unfit-told _ 9 refl))
+    (unfit-told _ 10 refl))
+    (unfit-told _ 0 refl))
+    (unfit-told _ 0 refl))
+    (unfit-told _ 0 refl))
+    (unfit-told _ 0 refl))
+    (unfit-told _ 0 refl))
+    (unfit-told _ 0 refl)
+
+orbit-told : (m : Float) (state : State) → told (ofConic (orbitAnswer (orbit m state))) ≡ true
+unfolding orbitAnswer
+orbit-told m state =
+    by-number (λ a. told (ofConic a)) (refusal (orbit m state) =? 0) (tabled (refusal (orbit m state)))
+    (refusal-told m state) refl (λ number. number)
+
+pub conic-told : (m : Float) (state : State) → told (ofConic (conicAnswer m state)) ≡ true
+unfolding conicAnswer
+conic-told m state =
+    let p : ConicAnswer → Bool = λ a. told (ofConic a) in
+    by-if p (not (finite m && above0 m)) refl (by-if p (not (finiteState state)) refl (orbit-told m state))

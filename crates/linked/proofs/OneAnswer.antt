@@ -1,0 +1,159 @@
+-- Any two outcomes that the promise of an exported call allows are equal: the number that it returns and all the memory that it was
+-- lent to write, together. Assumes nothing.
+use mathlib.Core.Bool.{Bool}
+use mathlib.Core.List.{List}
+use mathlib.Core.Path.{refl}
+use Prim.Native.Nat.{ℕ}
+use lib.Ieee.{Float}
+use denote.Ref.{now}
+use Rattle.basis.specs.Choice.{if_then_else_}
+use Rattle.basis.proofs.OneAnswer.{Told, Tell, OneOutcome, OneAnswer, one-outcome, one-answer}
+use Rattle.calendar.specs.Answers.{dateAnswer, dayAnswer, julianAnswer}
+use Rattle.hour.specs.Hour.{hourAnswer}
+use Rattle.root.specs.Root.{rootAnswer}
+use Rattle.sine.specs.Sine.{sineCosineAnswer}
+use Rattle.book.specs.Passes.{passes}
+use Rattle.book.specs.Position.{positionAnswer}
+use Rattle.gravity.specs.Acceleration.{accelerationAnswer}
+use Rattle.motion.specs.Run.{runAnswer, singleStepAnswer}
+use Rattle.fixed.specs.Fixed.{fixedAnswer}
+use Rattle.conic.specs.Conic.{conicAnswer}
+use Rattle.link.specs.Lent.{settingOf, vectorOf, stateOf, guessesOf, Both, bothIn}
+use Rattle.link.specs.Answers.{Handed, handed, answered, ofDate, ofDay, ofJulian, ofHour, ofRoot, ofSineCosine, ofPosition, ofAcceleration, ofFixed, ofConic, RunMemory, handedBack, ofRun}
+use Rattle.link.proofs.belfry_date as date
+use Rattle.link.proofs.belfry_day as day
+use Rattle.link.proofs.belfry_twice_julian_date as twice-julian-date
+use Rattle.link.proofs.belfry_hour_angle as hour-angle
+use Rattle.link.proofs.belfry_root as root
+use Rattle.link.proofs.belfry_sine_cosine as sine-cosine
+use Rattle.link.proofs.belfry_position as position
+use Rattle.link.proofs.belfry_acceleration as acceleration
+use Rattle.link.proofs.belfry_earth_fixed as earth-fixed
+use Rattle.link.proofs.belfry_book_passes as book-passes
+use Rattle.link.proofs.belfry_run as run
+use Rattle.link.proofs.belfry_single_step as single-step
+use Rattle.link.proofs.belfry_conic as conic
+
+abbrev tell-date : Tell date.ended (λ κs. Handed (List ℕ))
+tell-date κs r after = handed r (now (after .1 .0))
+
+pub date-answers-once : OneOutcome date.ended (λ M. date.clauses) (λ κs. Handed (List ℕ)) tell-date
+date-answers-once =
+    one-outcome (λ κs. Handed (List ℕ)) tell-date
+    (λ κs inputs. answered (now (inputs .1 .0)) (ofDate (dateAnswer (inputs .0))))
+    (λ M 𝓤 H A mem run″ κs inputs g r after. refl)
+
+abbrev tell-day : Tell day.ended (λ κs. Handed (ℕ))
+tell-day κs r after = handed r (now (after .1 .1 .1 .0))
+
+pub day-answers-once : OneOutcome day.ended (λ M. day.clauses) (λ κs. Handed (ℕ)) tell-day
+day-answers-once =
+    one-outcome (λ κs. Handed (ℕ)) tell-day
+    (λ κs inputs. answered (now (inputs .1 .1 .1 .0)) (ofDay (dayAnswer (inputs .0) (inputs .1 .0) (inputs .1 .1 .0))))
+    (λ M 𝓤 H A mem run″ κs inputs g r after. refl)
+
+abbrev tell-twice-julian-date : Tell twice-julian-date.ended (λ κs. Handed (ℕ))
+tell-twice-julian-date κs r after = handed r (now (after .1 .0))
+
+pub twice-julian-date-answers-once : OneOutcome twice-julian-date.ended (λ M. twice-julian-date.clauses) (λ κs. Handed (ℕ)) tell-twice-julian-date
+twice-julian-date-answers-once =
+    one-outcome (λ κs. Handed (ℕ)) tell-twice-julian-date
+    (λ κs inputs. answered (now (inputs .1 .0)) (ofJulian (julianAnswer (inputs .0))))
+    (λ M 𝓤 H A mem run″ κs inputs g r after. refl)
+
+abbrev tell-hour-angle : Tell hour-angle.ended (λ κs. Handed (ℕ))
+tell-hour-angle κs r after = handed r (now (after .1 .1 .0))
+
+pub hour-angle-answers-once : OneOutcome hour-angle.ended (λ M. hour-angle.clauses) (λ κs. Handed (ℕ)) tell-hour-angle
+hour-angle-answers-once =
+    one-outcome (λ κs. Handed (ℕ)) tell-hour-angle
+    (λ κs inputs. answered (now (inputs .1 .1 .0)) (ofHour (hourAnswer (inputs .0) (inputs .1 .0))))
+    (λ M 𝓤 H A mem run″ κs inputs g r after. refl)
+
+abbrev tell-root : Tell root.ended (λ κs. Handed (Float))
+tell-root κs r after = handed r (now (after .1 .0))
+
+pub root-answers-once : OneOutcome root.ended (λ M. root.clauses) (λ κs. Handed (Float)) tell-root
+root-answers-once =
+    one-outcome (λ κs. Handed (Float)) tell-root
+    (λ κs inputs. answered (now (inputs .1 .0)) (ofRoot (rootAnswer (inputs .0))))
+    (λ M 𝓤 H A mem run″ κs inputs g r after. refl)
+
+abbrev tell-sine-cosine : Tell sine-cosine.ended (λ κs. Handed (List Float))
+tell-sine-cosine κs r after = handed r (now (after .1 .0))
+
+pub sine-cosine-answers-once : OneOutcome sine-cosine.ended (λ M. sine-cosine.clauses) (λ κs. Handed (List Float)) tell-sine-cosine
+sine-cosine-answers-once =
+    one-outcome (λ κs. Handed (List Float)) tell-sine-cosine
+    (λ κs inputs. answered (now (inputs .1 .0)) (ofSineCosine (sineCosineAnswer (inputs .0))))
+    (λ M 𝓤 H A mem run″ κs inputs g r after. refl)
+
+abbrev tell-position : Tell position.ended (λ κs. Handed (List Float))
+tell-position κs r after = handed r (now (after .1 .1 .1 .0))
+
+pub position-answers-once : OneOutcome position.ended (λ M. position.clauses) (λ κs. Handed (List Float)) tell-position
+position-answers-once =
+    one-outcome (λ κs. Handed (List Float)) tell-position
+    (λ κs inputs. answered (now (inputs .1 .1 .1 .0)) (ofPosition (positionAnswer (now (inputs .0)) (inputs .1 .0) (inputs .1 .1 .0))))
+    (λ M 𝓤 H A mem run″ κs inputs g r after. refl)
+
+abbrev tell-acceleration : Tell acceleration.ended (λ κs. Handed (List Float))
+tell-acceleration κs r after = handed r (now (after .1 .1 .1 .1 .1 .0))
+
+pub acceleration-answers-once : OneOutcome acceleration.ended (λ M. acceleration.clauses) (λ κs. Handed (List Float)) tell-acceleration
+acceleration-answers-once =
+    one-outcome (λ κs. Handed (List Float)) tell-acceleration
+    (λ κs inputs. answered (now (inputs .1 .1 .1 .1 .1 .0)) (ofAcceleration (accelerationAnswer (now (inputs .0)) (settingOf (now (inputs .1 .0)) (inputs .1 .1 .0)) (inputs .1 .1 .1 .0) (vectorOf (now (inputs .1 .1 .1 .1 .0))))))
+    (λ M 𝓤 H A mem run″ κs inputs g r after. refl)
+
+abbrev tell-earth-fixed : Tell earth-fixed.ended (λ κs. Handed (List Float))
+tell-earth-fixed κs r after = handed r (now (after .1 .1 .1 .0))
+
+pub earth-fixed-answers-once : OneOutcome earth-fixed.ended (λ M. earth-fixed.clauses) (λ κs. Handed (List Float)) tell-earth-fixed
+earth-fixed-answers-once =
+    one-outcome (λ κs. Handed (List Float)) tell-earth-fixed
+    (λ κs inputs. answered (now (inputs .1 .1 .1 .0)) (ofFixed (fixedAnswer (stateOf (inputs .0) (now (inputs .1 .0))) (inputs .1 .1 .0))))
+    (λ M 𝓤 H A mem run″ κs inputs g r after. refl)
+
+abbrev tell-conic : Tell conic.ended (λ κs. Handed Both)
+tell-conic κs r after = handed r (bothIn (now (after .1 .1 .1 .0)) (now (after .1 .1 .1 .1 .0)))
+
+pub conic-answers-once : OneOutcome conic.ended (λ M. conic.clauses) (λ κs. Handed Both) tell-conic
+conic-answers-once =
+    one-outcome (λ κs. Handed Both) tell-conic
+    (λ κs inputs.
+    answered (bothIn (now (inputs .1 .1 .1 .0)) (now (inputs .1 .1 .1 .1 .0))) (ofConic (conicAnswer (inputs .0) (stateOf (inputs .1 .0) (now (inputs .1 .1 .0))))))
+    (λ M 𝓤 H A mem run″ κs inputs g r after. refl)
+
+pub book-passes-answers-once : OneAnswer book-passes.ended (λ M. book-passes.clauses)
+book-passes-answers-once =
+    one-answer (λ κs inputs. if passes (now (inputs .0)) then 0 else 1) (λ M 𝓤 H A mem run″ κs inputs g r after. refl)
+
+-- what a run or a single step returns, and the four places that it writes
+abbrev tell-run : Tell run.ended (λ κs. RunMemory)
+tell-run κs r after =
+    let out = after .1 .1 .1 .1 .1 .1 .1 .1 .1 in handedBack r (now (out .0)) (now (out .1 .0)) (now (out .1 .1 .0)) (now (out .1 .1 .1 .0))
+
+pub run-answers-once : OneOutcome run.ended (λ M. run.clauses) (λ κs. RunMemory) tell-run
+run-answers-once =
+    one-outcome (λ κs. RunMemory) tell-run
+    (λ κs inputs.
+    let rest = inputs .1 .1 .1 .1 .1 in
+    ofRun
+    (runAnswer (now (inputs .0)) (settingOf (now (inputs .1 .0)) (inputs .1 .1 .0)) (stateOf (inputs .1 .1 .1 .0) (now (inputs .1 .1 .1 .1 .0))) (rest .0)
+    (rest .1 .0) (rest .1 .1 .0) (guessesOf (now (rest .1 .1 .1 .0)))))
+    (λ M 𝓤 H A mem run″ κs inputs g r after. refl)
+
+abbrev tell-single-step : Tell single-step.ended (λ κs. RunMemory)
+tell-single-step κs r after =
+    let out = after .1 .1 .1 .1 .1 .1 .1 in handedBack r (now (out .0)) (now (out .1 .0)) (now (out .1 .1 .0)) (now (out .1 .1 .1 .0))
+
+pub single-step-answers-once : OneOutcome single-step.ended (λ M. single-step.clauses) (λ κs. RunMemory) tell-single-step
+single-step-answers-once =
+    one-outcome (λ κs. RunMemory) tell-single-step
+    (λ κs inputs.
+    let rest = inputs .1 .1 .1 .1 .1 in
+    ofRun
+    (singleStepAnswer (now (inputs .0)) (settingOf (now (inputs .1 .0)) (inputs .1 .1 .0)) (stateOf (inputs .1 .1 .1 .0) (now (inputs .1 .1 .1 .1 .0))) (rest .0)
+    (guessesOf (now (rest .1 .0)))))
+    (λ M 𝓤 H A mem run″ κs inputs g r after. refl)
