@@ -5,12 +5,9 @@
 # The archive is for x86-64. On another machine, or with LINK_NATIVE=1, the module that it is made of is compiled for this
 # machine by the kit's own compiler: same module, same optimiser.
 cd "$(dirname "$0")/.." || exit 2
-machine=$(uname -m)
-rt_path=$(command -v rt) || { echo "the Rattle toolchain's command rt is not on PATH" >&2; exit 2; }
-kit=$(dirname "$(dirname "$(readlink -f "$rt_path")")")
-tools=$kit/on/$machine/toolchain/bin
 work=$PWD/target/link
 mkdir -p "$work"
+. tests/modules.sh
 failed=0
 
 check() { # NAME COMMAND..
@@ -24,27 +21,9 @@ check() { # NAME COMMAND..
     fi
 }
 
-# A kit like the kit, but its compiler keeps the module that it is given.
-keeping_kit() {
-    shadow=$work/kit
-    rm -rf "$shadow"
-    mkdir -p "$shadow/on/$machine/toolchain/bin"
-    for part in "$kit"/*; do [ "${part##*/}" = on ] || ln -s "$part" "$shadow/"; done
-    for part in "$kit/on/$machine"/*; do [ "${part##*/}" = toolchain ] || ln -s "$part" "$shadow/on/$machine/"; done
-    for part in "$kit/on/$machine/toolchain"/*; do [ "${part##*/}" = bin ] || ln -s "$part" "$shadow/on/$machine/toolchain/"; done
-    for part in "$tools"/*; do [ "${part##*/}" = clang ] || ln -s "$part" "$shadow/on/$machine/toolchain/bin/"; done
-    cat >"$shadow/on/$machine/toolchain/bin/clang" <<END
-#!/bin/sh
-for word; do case \$word in *.bc) cp "\$word" "$work/module.bc" ;; esac; done
-exec "$tools/clang" "\$@"
-END
-    chmod +x "$shadow/on/$machine/toolchain/bin/clang"
-}
-
 native_archive() {
-    rm -f "$work/module.bc" "$work/liblink.a"
-    keeping_kit && RATTLE_HOME=$shadow rt staticlib link && [ -f "$work/module.bc" ] || return 1
-    rm -rf "$shadow"
+    rm -f "$work/liblink.a"
+    module_of link || return 1
     "$tools/clang" "--target=$machine-unknown-linux-gnu" -O3 -fPIC -ffp-contract=off -x ir "$work/module.bc" -c -o "$work/link.o" &&
         "$tools/llvm-ar" rcs "$work/liblink.a" "$work/link.o"
 }

@@ -2,14 +2,23 @@
 
 use crate::digits;
 ghost use mathlib.Core.Path.{_≡_};
-ghost use Prim.Native.Nat.{_*_, _^_, _≤_, _<_};
+ghost use Prim.Native.Nat.{_+_, _*_, _^_, _≤_, _<_};
 ghost use Rattle.root.specs.Root.{nearestRoot, rootOf};
-ghost use Rattle.root.specs.Parts.{Split, Opened};
+ghost use Rattle.root.specs.Parts.{Split, Room, Raised, Opened};
 
 pub struct Parts {
     pub m: u64,
     pub half: u64,
 }
+
+// digits·2^exponent.
+struct Scaled {
+    digits: u64,
+    exponent: u64,
+}
+
+// 2^53, which 53 digits do not reach.
+const TOP: u64 = 0x20_0000_0000_0000;
 
 // digits·2^exponent with an even exponent.
 fn split(digits: u64, exponent: u64) -> Parts
@@ -29,13 +38,36 @@ fn split(digits: u64, exponent: u64) -> Parts
     }
 }
 
-// A subnormal's digits shifted up to 53 of them.
+// The same number with its digits s places higher, where they have room for it.
+fn raised(p: Scaled, s: u64) -> Scaled
+    requires { ⌜ (s ≤ 32) × Room (s + s) (p .digits) (p .exponent) ⌝ }
+    ensures { λ r. ⌜ Raised s (p .digits) (p .exponent) (r .digits) (r .exponent) ⌝ }
+{
+    if p.digits < TOP >> s {
+        return Scaled {
+            digits: p.digits << s,
+            exponent: p.exponent - s,
+        };
+    }
+    p
+}
+
+// A subnormal's digits shifted up to 53 of them: by 32 places or not, then by 16, by 8, by 4, by 2 and by 1.
 fn subnormal(bits: u64) -> Parts
     requires { ⌜ (0 < bits) × (bits < 2 ^ 52) ⌝ }
     ensures { λ r. ⌜ Split bits 1022 (r .m) (r .half) ⌝ }
 {
-    let up = u64::leading_zeros(bits) as u64 - 11;
-    split(bits << up, 1022 - up)
+    let given = Scaled {
+        digits: bits,
+        exponent: 1022,
+    };
+    let by_32 = raised(given, 32);
+    let by_16 = raised(by_32, 16);
+    let by_8 = raised(by_16, 8);
+    let by_4 = raised(by_8, 4);
+    let by_2 = raised(by_4, 2);
+    let by_1 = raised(by_2, 1);
+    split(by_1.digits, by_1.exponent)
 }
 
 // x as its digits and half its exponent; of no use where x is not finite and above zero.

@@ -1,66 +1,66 @@
--- `root::parts::subnormal` meets its contract: the highest digit of a subnormal, moved up to 2^52. Assumes nothing.
-use mathlib.Core.Path.{_≡_, sym, ap, _∙_, subst}
-use Prim.Native.Nat.{ℕ, suc, _+_, _-_, _*_, _%_, _^_, _≤_, _<_}
-use native.Mathlib.Nat.{le-trans, le-of-eq, lt-of-lt-of-le, lt-of-not-le, not-le-of-lt, mul-le-mul-right, mul-assoc}
+-- `root::parts::subnormal` meets its contract: six times half as many places, and the highest digit stands at 2^52. Assumes nothing.
+use mathlib.Core.Path.{_≡_, _∙_}
+use Prim.Native.Nat.{ℕ, _*_, _^_}
 use native.Mathlib.Omega.{arith}
-use lib.Pow.{pow-add, pow-mono, shl-lt}
-use lib.Count.{leadingZeros, leading-top}
 use Rattle.root.specs.Parts.{Split}
 use Rattle.root.proofs.parts.subnormal.Statement.{statement}
 use Rattle.root.proofs.parts.subnormal.Tie as tie
+use lib.Dec.{lit≤}
 
--- b with z zeros above its highest digit, shifted up by z - 11
-record Lifted (b z : ℕ) : Type 0 where
-  few : z ≤ 63
-  many : 12 ≤ z
-  least : 2 ^ 52 ≤ b * 2 ^ (z - 11)
-  most : b * 2 ^ (z - 11) < 2 ^ 53
+-- a subnormal has at least one digit, and none at 2^52
+raised-requires : tie.Need-raised-requires
+raised-requires c κs = (lit≤ tt, record { least = c .pre .0; most = omega arith; left = lit≤ tt })
 
-lifted-at : (b z j : ℕ) → b < 2 ^ 52 → z + suc j ≡ 64 → 2 ^ j ≤ b → b < 2 ^ suc j → Lifted b z
-lifted-at b z j B e lo hi =
-    let J : j < 52 = lt-of-not-le (λ (h : 52 ≤ j). not-le-of-lt (lt-of-lt-of-le B (pow-mono h)) lo) in
-    let s : j + (z - 11) ≡ 52 = omega arith in
-    let t : suc j + (z - 11) ≡ 53 = omega arith in
-    record {
-      few = omega arith;
-      many = omega arith;
-      least = subst (λ (x : ℕ). 2 ^ x ≤ b * 2 ^ (z - 11)) s (le-trans (le-of-eq (pow-add 2 j (z - 11))) (mul-le-mul-right (2 ^ (z - 11)) lo));
-      most = subst (λ (x : ℕ). b * 2 ^ (z - 11) < 2 ^ x) t (shl-lt {a = b} (suc j) (z - 11) hi);
-    }
+raised-requires-2 : tie.Need-raised-requires-2
+raised-requires-2 c κs = (lit≤ tt, c .raised .ensures .room)
 
-lifted : (b : ℕ) → 0 < b → b < 2 ^ 52 → Lifted b (leadingZeros 64 b)
-lifted b p h = let t = leading-top 64 b p (omega arith) in lifted-at b (leadingZeros 64 b) (t .0) h (t .1) (t .2) (t .3)
+raised-requires-3 : tie.Need-raised-requires-3
+raised-requires-3 c κs = (lit≤ tt, c .raised2 .ensures .room)
 
-unshifted : (b u m h : ℕ) → u ≤ 1022 → b * 2 ^ u < 2 ^ 53 → Split (b * 2 ^ u % 2 ^ 64) (1022 - u) m h → Split b 1022 m h
-unshifted b u m h U B s =
-    let e : b * 2 ^ u % 2 ^ 64 ≡ b * 2 ^ u = omega arith in
-    let f : u + (1022 - u) ≡ 1022 = omega arith in
-    record {
-      least = s .least;
-      most = s .most;
-      top = s .top;
-      same = s .same ∙ ap (λ (z : ℕ). z * 2 ^ (1022 - u)) e ∙ mul-assoc b (2 ^ u) (2 ^ (1022 - u)) ∙ ap (λ (z : ℕ). b * z) (sym (pow-add 2 u (1022 - u)) ∙ ap (λ (z : ℕ). 2 ^ z) f);
-    }
+raised-requires-4 : tie.Need-raised-requires-4
+raised-requires-4 c κs = (lit≤ tt, c .raised3 .ensures .room)
 
-cast-up : tie.Need-cast-up
-cast-up c = let l = lifted (c .args .bits) (c .pre .0) (c .pre .1) in omega arith
+raised-requires-5 : tie.Need-raised-requires-5
+raised-requires-5 c κs = (lit≤ tt, c .raised4 .ensures .room)
 
-sub-up : tie.Need-sub-up
-sub-up c = let l = lifted (c .args .bits) (c .pre .0) (c .pre .1) in omega arith
-
-shl-split : tie.Need-shl-split
-shl-split c = let l = lifted (c .args .bits) (c .pre .0) (c .pre .1) in omega arith
-
-sub-split : tie.Need-sub-split
-sub-split c = let l = lifted (c .args .bits) (c .pre .0) (c .pre .1) in omega arith
+raised-requires-6 : tie.Need-raised-requires-6
+raised-requires-6 c κs = (lit≤ tt, c .raised5 .ensures .room)
 
 split-requires : tie.Need-split-requires
-split-requires c κs = let l = lifted (c .args .bits) (c .pre .0) (c .pre .1) in omega arith
+split-requires c κs =
+    let r = c .raised6 .ensures in
+    (r .room .least, r .room .most, omega (arith, r .less, c .before .raised5 .ensures .less, c .before .before .raised4 .ensures .less, c .before .before .before .raised3 .ensures .less, c .before .before .before .before .raised2 .ensures .less, c .before .before .before .before .before .raised .ensures .less))
+
+-- what is split is the subnormal itself, written with other digits
+written : (d e d' e' m h : ℕ) → d' * 2 ^ e' ≡ d * 2 ^ e → Split d' e' m h → Split d e m h
+written d e d' e' m h p s = record { least = s .least; most = s .most; top = s .top; same = s .same ∙ p }
 
 returns : tie.Need-returns
 returns c =
-    let l = lifted (c .before .args .bits) (c .before .pre .0) (c .before .pre .1) in
-    unshifted (c .before .args .bits) (leadingZeros 64 (c .before .args .bits) - 11) _ _ (omega arith) (l .most) (c .split .ensures)
+    let c1 = c .before in
+    let c2 = c1 .before in
+    let c3 = c2 .before in
+    let c4 = c3 .before in
+    let c5 = c4 .before in
+    let c6 = c5 .before in
+    written (c6 .before .args .bits) 1022 _ _ _ _
+    (c1 .raised6 .ensures .same
+    ∙ c2 .raised5 .ensures .same
+    ∙ c3 .raised4 .ensures .same
+    ∙ c4 .raised3 .ensures .same
+    ∙ c5 .raised2 .ensures .same
+    ∙ c6 .raised .ensures .same)
+    (c .split .ensures)
 
 pub subnormal-spec : {M : Type 1} → statement M
-subnormal-spec = tie.close (tie.spec cast-up sub-up shl-split sub-split split-requires returns)
+subnormal-spec =
+    tie.close
+    (tie.spec
+    raised-requires
+    raised-requires-2
+    raised-requires-3
+    raised-requires-4
+    raised-requires-5
+    raised-requires-6
+    split-requires
+    returns)
