@@ -37,7 +37,7 @@ fn times_allowed(start: u64, span: u64) -> bool
     span <= END_OF_TIME - start
 }
 
-fn fields_allowed(book: &[u8], i: usize) -> bool
+pub fn fields_allowed(book: &[u8], i: usize) -> bool
     requires { ⌜ entryAt i + 24 ≤ length (now book) ⌝ }
     ensures { λ r. ⌜ r ≡ fieldsAllowed (now (book .entry)) i ⌝ }
 {
@@ -57,7 +57,7 @@ fn bits_finite(bits: u64) -> bool
     bits % 0x8000_0000_0000_0000 < 0x7ff0_0000_0000_0000
 }
 
-fn floats_finite(book: &[u8], at: usize, n: usize) -> bool
+pub fn floats_finite(book: &[u8], at: usize, n: usize) -> bool
     requires { ⌜ at + 8 * n ≤ length (now book) ⌝ }
     ensures { λ r. ⌜ r ≡ floatsFinite (now (book .entry)) at n ⌝ }
 {

@@ -7,6 +7,8 @@ use crate::PositionAnswer;
 use crate::bytes::u16_at;
 use crate::bytes::u32_at;
 use crate::bytes::u64_at;
+pub use crate::check::fields_allowed;
+pub use crate::check::floats_finite;
 use crate::search::Stand;
 use crate::search::search;
 use crate::search::stand_at;

@@ -1,9 +1,9 @@
-//! The reference as a program: `reference ask [BOOK]` and `reference strip`.
+//! The reference as a program: `reference ask [BOOK]`, `reference strip` and `reference repair`.
 
 use std::io::{self, BufWriter, Read, Write};
 use std::process::ExitCode;
 
-use reference::{ask, strip};
+use reference::{ask, book, repair, strip};
 
 fn standard_input() -> io::Result<Vec<u8>> {
     let mut input = Vec::new();
@@ -20,6 +20,11 @@ fn answer(words: &[String]) -> io::Result<bool> {
             out.write_all(&ask::answers(&book, &standard_input()?))?;
         }
         ["strip"] => strip::strip_into(&standard_input()?, &mut out)?,
+        ["repair"] => {
+            let answer = repair::repair(&standard_input()?, book::LIMIT);
+            eprint!("{}", repair::report(&answer));
+            out.write_all(&answer.map_or(Vec::new(), |a| a.book))?;
+        }
         _ => return Ok(false),
     }
     out.flush()?;
@@ -31,7 +36,7 @@ fn main() -> ExitCode {
     match answer(&words) {
         Ok(true) => ExitCode::SUCCESS,
         Ok(false) => {
-            eprintln!("reference ask [BOOK] | reference strip");
+            eprintln!("reference ask [BOOK] | reference strip | reference repair");
             ExitCode::from(2)
         }
         Err(error) => {

@@ -15,6 +15,7 @@ pub mod broken;
 pub mod cover;
 pub mod leaves;
 pub mod lookups;
+pub mod mends;
 pub mod runs;
 pub mod sizes;
 pub mod states;

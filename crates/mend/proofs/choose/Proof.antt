@@ -1,0 +1,84 @@
+-- `mend::choose` meets its contract: the entries in order, going forward. Assumes nothing.
+use native.Mathlib.Omega.{arith}
+use mathlib.Core.Path.{_≡_, refl, sym, ap, _∙_}
+use denote.Ref.{now}
+use Prim.Native.Nat.{_+_, _-_, _*_, _≤_, _<_}
+use lib.ListN.{length, take}
+use lib.Seq.{length-take-le}
+use Rattle.mend.proofs.Sounds.{ordered-length, ordered-sound}
+use Rattle.mend.proofs.Settled.{from-none}
+use borrow.Author.Needs.{needs}
+use Rattle.mend.proofs.choose.Statement.{statement}
+use Rattle.mend.proofs.choose.Tie as tie
+use Rattle.mend.proofs.choose.Reads as reads
+use Rattle.mend.proofs.choose.Lts as lts
+use Rattle.mend.proofs.forward.go_forward.Reads as go-forward-reads
+use Rattle.mend.proofs.look.looked_at.Reads as looked-at-reads
+use Rattle.mend.proofs.look.put_in_order.Reads as put-in-order-reads
+
+few : (c : tie.After-put-in-order) → c .put-in-order .result ≤ 2559
+few c =
+    omega (
+      arith,
+      c .put-in-order .ensures .0 .counted,
+      ordered-length (now (c .before .before .before .before .before .before .before .before .args .input)) (c .before .before .before .looked-at .result),
+      c .before .before .before .looked-at .ensures,
+    )
+
+looked-at-requires : tie.Need-looked-at-requires
+looked-at-requires c κs = search needs
+
+put-in-order-requires : tie.Need-put-in-order-requires
+put-in-order-requires c κs = search needs
+
+slice-reshare-prefix-go-forward : tie.Need-slice-reshare-prefix-go-forward
+slice-reshare-prefix-go-forward c = let f = few (c .before .before .before .before) in let l = c .before .before .before .before .put-in-order .kept .1 .1 .0 in omega arith
+
+slice-aggregate-go-forward : tie.Need-slice-aggregate-go-forward
+slice-aggregate-go-forward c =
+    let f = few (c .before .before .before .before .before) in
+    let l = c .before .before .before .before .before .put-in-order .kept .1 .1 .0 in
+    sym (length-take-le (c .before .before .before .before .before .put-in-order .result) (c .before .before .before .before .before .put-in-order .last .1 .1 .0) (omega arith))
+
+go-forward-requires : tie.Need-go-forward-requires
+go-forward-requires c κs =
+    let f = few (c .before .before .before .before .before .before .before) in
+    let l = c .before .before .before .before .before .before .before .put-in-order .kept .1 .1 .0 in
+    let m = c .before .before .before .before .before .before .before .put-in-order .kept .1 .1 .1 .0 in
+    let t = length-take-le (c .before .before .before .before .before .before .before .put-in-order .result) (c .before .before .before .before .before .before .before .put-in-order .last .1 .1 .0) (omega arith) in (
+      (omega arith, omega arith, omega arith, omega arith, omega arith),
+      (omega arith, rw (c .before .before .before .before .before .before .before .put-in-order .ensures .0 .entries) (ordered-sound (now (c .before .before .before .before .before .before .before .before .before .before .before .before .before .before .before .args .input)) (c .before .before .before .before .before .before .before .before .before .before .looked-at .result) (omega (arith, c .before .before .before .before .before .before .before .before .before .before .looked-at .ensures)))),
+    )
+
+same-length : tie.Need-same-length
+same-length c = search needs
+
+same-length-2 : tie.Need-same-length-2
+same-length-2 c = search needs
+
+same-length-3 : tie.Need-same-length-3
+same-length-3 c = search needs
+
+returns : tie.Need-returns
+returns c =
+    let n = c .before .before .before .before .before .before .before .before .before .before .before .before .before .before .before .looked-at .ensures in (
+      c .before .before .before .before .go-forward .ensures .0,
+      c .before .before .before .before .go-forward .ensures .1
+          ∙ from-none (now (c .before .before .before .before .before .before .before .before .before .before .before .before .before .before .before .before .before .before .before .before .args .input)) (c .before .before .before .before .before .before .before .before .before .before .before .before .before .before .before .before .before .before .before .before .args .room) (now (c .before .before .before .before .before .before .before .before .before .before .before .before .before .before .before .before .before .before .before .before .args .kept)) (now (c .before .before .before .before .before .before .before .before .before .before .before .before .before .before .before .before .before .before .before .before .args .fates)) _ _
+          (rw n at (c .before .before .before .before .before .before .before .before .before .before .before .before .put-in-order .ensures .1))
+          (rw n at (c .before .before .before .before .before .before .before .before .before .before .before .before .put-in-order .ensures .0 .entries)),
+    )
+
+pub choose-spec : {M : Type 1} → statement M
+choose-spec =
+    tie.close
+    (tie.spec
+    looked-at-requires
+    put-in-order-requires
+    slice-reshare-prefix-go-forward
+    slice-aggregate-go-forward
+    go-forward-requires
+    same-length
+    same-length-2
+    same-length-3
+    returns)

@@ -1,0 +1,129 @@
+// Saves what can be saved of a damaged book: writes one that passes, from the entries that can be kept, and reports.
+
+mod forward;
+mod look;
+mod marks;
+mod write;
+
+use book::LONGEST_BOOK;
+use forward::Kept;
+use forward::go_forward;
+use look::looked_at;
+use look::put_in_order;
+use marks::report;
+use write::write_book;
+ghost use mathlib.Core.Path.{_≡_};
+ghost use Prim.Native.Nat.{_≤_};
+ghost use lib.ListN.{length};
+ghost use Rattle.mend.specs.Held.{held, Sized};
+ghost use Rattle.mend.specs.Repaired.{repairRefusal, roomOf, repaired, Mended, repairAnswer, outputAfter, fatesAfter};
+
+// As many as the longest book can have in its contents.
+pub const MOST_ENTRIES: usize = 2559;
+
+// Fates: an entry that is kept has its new number, which is below MOST_ENTRIES.
+pub const FIELDS: u16 = 3_001;
+
+pub const BLOCK: u16 = 3_002;
+
+pub const COEFFICIENT: u16 = 3_003;
+
+pub const OVERLAP: u16 = 3_004;
+
+pub const ROOM: u16 = 3_005;
+
+pub struct Changed {
+    pub total: bool,
+    pub count: bool,
+    pub order: bool,
+    pub offsets: bool,
+}
+
+pub struct Report {
+    // Entries looked at: so many fates are told.
+    pub looked: usize,
+    pub kept: usize,
+    // Bytes of the book written.
+    pub written: usize,
+    pub changed: Changed,
+}
+
+pub enum RepairAnswer {
+    Written(Report),
+    Refused(u64),
+}
+
+fn refusal_of(input: usize, output: usize) -> u64
+    ensures { λ r. ⌜ r ≡ repairRefusal input output ⌝ }
+{
+    if input < 8 {
+        return 16;
+    }
+    if output < 8 {
+        return 16;
+    }
+    if LONGEST_BOOK < input {
+        return 1;
+    }
+    0
+}
+
+fn room_of(output: usize) -> usize
+    ensures { λ r. ⌜ r ≡ roomOf output ⌝ }
+{
+    if output < LONGEST_BOOK {
+        output
+    } else {
+        LONGEST_BOOK
+    }
+}
+
+// Which entries are kept, and the fates of all; `order` and `kept` are room for entry numbers.
+fn choose(input: &[u8], room: usize, fates: &mut [u16], order: &mut [u16], kept: &mut [u16]) -> Kept
+    requires { ⌜ (8 ≤ length (now input)) × (length (now input) ≤ 61_440) × (8 ≤ room) × (room ≤ 61_440) ⌝ }
+    requires { ⌜ (2559 ≤ length (now fates)) × (2559 ≤ length (now order)) × (2559 ≤ length (now kept)) ⌝ }
+    ensures { λ r. ⌜ Sized (now (input .entry)) room (now (kept .exit)) (r .count) (r .length) ⌝ }
+    ensures { λ r. ⌜ held (now (kept .exit)) (r .count) (now (fates .exit)) ≡ repaired (now (input .entry)) room (now (fates .entry)) ⌝ }
+{
+    let going = put_in_order(input, looked_at(input), order, fates);
+    go_forward(input, room, &order[..going], kept, fates)
+}
+
+fn mend_by(
+    input: &[u8],
+    output: &mut [u8],
+    fates: &mut [u16],
+    order: &mut [u16],
+    kept: &mut [u16],
+) -> Report
+    requires { ⌜ (8 ≤ length (now input)) × (length (now input) ≤ 61_440) × (8 ≤ length (now output)) ⌝ }
+    requires { ⌜ (2559 ≤ length (now fates)) × (2559 ≤ length (now order)) × (2559 ≤ length (now kept)) ⌝ }
+    ensures { λ r. ⌜ Mended (now (input .entry)) (now (output .entry)) (now (fates .entry)) r (now (output .exit)) (now (fates .exit)) ⌝ }
+{
+    let chosen = choose(input, room_of(output.len()), fates, order, kept);
+    let count = chosen.count;
+    write_book(input, &kept[..count], chosen.length, output);
+    report(input, &kept[..count], chosen.length)
+}
+
+fn mend(input: &[u8], output: &mut [u8], fates: &mut [u16]) -> Report
+    requires { ⌜ (8 ≤ length (now input)) × (length (now input) ≤ 61_440) × (8 ≤ length (now output)) ⌝ }
+    requires { ⌜ 2559 ≤ length (now fates) ⌝ }
+    ensures { λ r. ⌜ Mended (now (input .entry)) (now (output .entry)) (now (fates .entry)) r (now (output .exit)) (now (fates .exit)) ⌝ }
+{
+    let mut order = [0u16; MOST_ENTRIES];
+    let mut kept = [0u16; MOST_ENTRIES];
+    mend_by(input, output, fates, &mut order, &mut kept)
+}
+
+pub fn repair(input: &[u8], output: &mut [u8], fates: &mut [u16; MOST_ENTRIES]) -> RepairAnswer
+    ensures { λ r. ⌜ r ≡ repairAnswer (now (input .entry)) (length (now (output .entry))) ⌝ }
+    ensures { λ r. ⌜ now (output .exit) ≡ outputAfter (now (input .entry)) (now (output .entry)) ⌝ }
+    ensures { λ r. ⌜ now (fates .exit) ≡ fatesAfter (now (input .entry)) (length (now (output .entry))) (now (fates .entry)) ⌝ }
+{
+    let refusal = refusal_of(input.len(), output.len());
+    if refusal == 0 {
+        return RepairAnswer::Written(mend(input, output, fates));
+    }
+    RepairAnswer::Refused(refusal)
+}

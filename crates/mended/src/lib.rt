@@ -1,0 +1,1 @@
+// Nothing to run: this crate holds the laws of a repaired book, over mend's definitions.
