@@ -1,0 +1,4 @@
+pub mod Puts
+pub mod Turning
+pub mod Alike
+pub mod Counting

@@ -1,0 +1,52 @@
+-- `parting::same::line_length` meets its contract: before i there is no line feed. Assumes nothing.
+use Prim.Native.Nat.{_+_, _-_, _≤_}
+use mathlib.Core.Path.{_≡_, refl}
+use native.Mathlib.Omega.{arith}
+use lib.ListN.{length, drop}
+use denote.Ref.{now}
+use Rattle.parting.specs.Report.{untilFeed}
+use Rattle.parting.proofs.Alike.{feed-end, feed-here, feed-on}
+use borrow.Author.Needs.{needs}
+use Rattle.parting.proofs.same.line_length.Statement.{statement}
+use Rattle.parting.proofs.same.line_length.Tie as tie
+
+abbrev Inv-loop : tie.InvT-loop
+Inv-loop block i₀ i = (i ≤ length block) × (i + length (untilFeed (drop i block)) ≡ length (untilFeed block))
+
+abbrev μ-loop : tie.MeasureT-loop
+μ-loop block i₀ i = length block - i
+
+loop-holds : tie.Need-loop-holds Inv-loop μ-loop
+loop-holds c = (omega arith, omega arith)
+
+shared-slice-read-if1 : tie.Need-shared-slice-read-if1 Inv-loop μ-loop
+shared-slice-read-if1 c = search needs
+
+returns : tie.Need-returns Inv-loop μ-loop
+returns c = omega (arith, c .before .before .before .loop .inv .1, feed-here (now (c .before .before .before .before .args .block)) (c .before .before .before .loop .i) (omega arith) (c .if1 .taken))
+
+add-i : tie.Need-add-i Inv-loop μ-loop
+add-i c = search needs
+
+loop-less : tie.Need-loop-less Inv-loop μ-loop
+loop-less c = search needs
+
+loop-again : tie.Need-loop-again Inv-loop μ-loop
+loop-again c = let e = feed-on (now (c .before .before .before .before .args .block)) (c .before .before .before .loop .i) (omega arith) (c .if1 .left) in let k = c .before .before .before .loop .inv .1 in (omega arith, omega arith)
+
+returns-2 : tie.Need-returns-2 Inv-loop μ-loop
+returns-2 c = omega (arith, c .before .loop .inv .1, feed-end (now (c .before .before .args .block)) (c .before .loop .i) (c .loop-test .left))
+
+pub line-length-spec : {M : Type 1} → statement M
+line-length-spec =
+    tie.close
+    (tie.spec
+    Inv-loop
+    μ-loop
+    loop-holds
+    shared-slice-read-if1
+    returns
+    add-i
+    loop-less
+    loop-again
+    returns-2)

@@ -1,0 +1,164 @@
+-- Document 02, R-1, "Say where two strips part": the report on two listings, as one definition over their texts.
+use Prim.Native.Nat.{ℕ}
+use mathlib.Core.Bool.{Bool, true, false}
+use mathlib.Core.List.{List, [], _∷_, _++_}
+use lib.ListN.{length}
+use Rattle.basis.specs.Choice.{if_then_else_, _<?_, _=?_}
+use Rattle.text.specs.Numerals.{decimalOf}
+use Rattle.reader.specs.declared.Row.{Row}
+use Rattle.reader.specs.Form.{linesOf, formRefusal, rowsIn}
+use Rattle.parting.specs.declared.Component.{Component}
+use Rattle.parting.specs.declared.Component.the-variants.{X, Y, Z, VX, VY, VZ}
+use Rattle.parting.specs.Steps.{steps}
+
+-- one difference: a moment found in one listing only, or a component whose bits differ, with its float steps
+pub data Difference : Type 0 where
+  only : (listing moment : ℕ) → Difference
+  differs : (moment : ℕ) → Component → (count : ℕ) → Difference
+
+-- "every component whose bits differ"
+abbrev pub component : ℕ → Component → ℕ → ℕ → List Difference
+component t k a b = if a =? b then [] else differs t k (steps a b) ∷ []
+
+-- "for each moment in both": x, y, z, vx, vy, vz in this order
+unfoldable pub atOne : Row → Row → List Difference
+atOne r s =
+    component (r .moment) X (r .x) (s .x)
+    ++ component (r .moment) Y (r .y) (s .y)
+    ++ component (r .moment) Z (r .z) (s .z)
+    ++ component (r .moment) VX (r .vx) (s .vx)
+    ++ component (r .moment) VY (r .vy) (s .vy)
+    ++ component (r .moment) VZ (r .vz) (s .vz)
+
+-- "in moment order, each moment found in one only, and for each moment in both ..": the states of both listings side by side
+unfoldable pub parted : List Row → List Row → List Difference
+parted [] [] = []
+parted (r ∷ rs) [] = only 1 (r .moment) ∷ parted rs []
+parted [] (s ∷ ss) = only 2 (s .moment) ∷ parted [] ss
+parted (r ∷ rs) (s ∷ ss) =
+    if r .moment <? s .moment then only 1 (r .moment) ∷ parted rs (s ∷ ss) else
+    if s .moment <? r .moment then only 2 (s .moment) ∷ parted (r ∷ rs) ss else
+    atOne r s ++ parted rs ss
+
+-- ---- the lines
+
+abbrev pub space : List ℕ
+space = 32 ∷ []
+
+abbrev pub lineFeed : List ℕ
+lineFeed = 10 ∷ []
+
+-- "ONLY ", "DIFF ", "SAME " and "REFUSED 13 "
+abbrev pub onlyWord : List ℕ
+onlyWord = 79 ∷ 78 ∷ 76 ∷ 89 ∷ 32 ∷ []
+
+abbrev pub diffWord : List ℕ
+diffWord = 68 ∷ 73 ∷ 70 ∷ 70 ∷ 32 ∷ []
+
+abbrev pub sameWord : List ℕ
+sameWord = 83 ∷ 65 ∷ 77 ∷ 69 ∷ 32 ∷ []
+
+abbrev pub refusedWord : List ℕ
+refusedWord = 82 ∷ 69 ∷ 70 ∷ 85 ∷ 83 ∷ 69 ∷ 68 ∷ 32 ∷ 49 ∷ 51 ∷ 32 ∷ []
+
+-- a word and a number; a word and two numbers as a line
+abbrev pub numbered : List ℕ → ℕ → List ℕ
+numbered word n = word ++ decimalOf n
+
+unfoldable pub twoNumbers : List ℕ → ℕ → ℕ → List ℕ
+twoNumbers word m n = numbered word m ++ numbered space n ++ lineFeed
+
+-- a component's name with the spaces around it
+abbrev pub name : Component → List ℕ
+name X = 32 ∷ 120 ∷ 32 ∷ []
+name Y = 32 ∷ 121 ∷ 32 ∷ []
+name Z = 32 ∷ 122 ∷ 32 ∷ []
+name VX = 32 ∷ 118 ∷ 120 ∷ 32 ∷ []
+name VY = 32 ∷ 118 ∷ 121 ∷ 32 ∷ []
+name VZ = 32 ∷ 118 ∷ 122 ∷ 32 ∷ []
+
+-- ONLY LISTING MOMENT, and DIFF MOMENT COMPONENT STEPS
+unfoldable pub diffLine : ℕ → Component → ℕ → List ℕ
+diffLine t k n = numbered diffWord t ++ numbered (name k) n ++ lineFeed
+
+abbrev pub lineOf : Difference → List ℕ
+lineOf (only k t) = twoNumbers onlyWord k t
+lineOf (differs t k n) = diffLine t k n
+
+unfoldable pub textOf : List Difference → List ℕ
+textOf [] = []
+textOf (d ∷ ds) = lineOf d ++ textOf ds
+
+-- "Header and outcome lines (a lone REFUSED line is an outcome) are compared whole": the first line and the last. A listing without
+-- states is a lone refusal and has no header, for which - stands
+abbrev pub firstOf : List (List ℕ) → List ℕ
+firstOf [] = []
+firstOf (l ∷ ls) = l
+
+unfoldable pub lastOf : List (List ℕ) → List ℕ
+lastOf [] = []
+lastOf (l ∷ []) = l
+lastOf (l ∷ m ∷ ls) = lastOf (m ∷ ls)
+
+unfoldable pub headerOf : ℕ → List ℕ → List ℕ
+headerOf states text = if states =? 0 then 45 ∷ [] else firstOf (linesOf text)
+
+unfoldable pub outcomeOf : List ℕ → List ℕ
+outcomeOf text = lastOf (linesOf text)
+
+-- a line as it stands at the front of a text
+unfoldable pub untilFeed : List ℕ → List ℕ
+untilFeed [] = []
+untilFeed (b ∷ bs) = if b =? 10 then [] else b ∷ untilFeed bs
+
+unfoldable pub same : List ℕ → List ℕ → Bool
+same [] [] = true
+same (a ∷ rest) [] = false
+same [] (b ∷ more) = false
+same (a ∷ rest) (b ∷ more) = if a =? b then same rest more else false
+
+abbrev pub bar : List ℕ
+bar = 32 ∷ 124 ∷ 32 ∷ []
+
+-- WORD FIRST-LINE | SECOND-LINE, where the lines differ
+unfoldable pub linesText : List ℕ → List ℕ → List ℕ → List ℕ
+linesText word a b = if same a b then [] else word ++ a ++ bar ++ b ++ lineFeed
+
+abbrev pub headerWord : List ℕ
+headerWord = 72 ∷ 69 ∷ 65 ∷ 68 ∷ 69 ∷ 82 ∷ 32 ∷ []
+
+abbrev pub outcomeWord : List ℕ
+outcomeWord = 79 ∷ 85 ∷ 84 ∷ 67 ∷ 79 ∷ 77 ∷ 69 ∷ 32 ∷ []
+
+-- "reported first and last"
+unfoldable pub differencesText : List ℕ → List ℕ → List ℕ
+differencesText a b =
+    linesText headerWord (headerOf (length (rowsIn a)) a) (headerOf (length (rowsIn b)) b)
+    ++ textOf (parted (rowsIn a) (rowsIn b))
+    ++ linesText outcomeWord (outcomeOf a) (outcomeOf b)
+
+-- "Equal listings give one line, SAME and the number of states"
+unfoldable pub sameLine : ℕ → List ℕ
+sameLine n = numbered sameWord n ++ lineFeed
+
+-- the end of the report, which has a line of its own where nothing was reported
+abbrev pub endText : Bool → ℕ → List ℕ
+endText true n = []
+endText false n = sameLine n
+
+abbrev pub some : List ℕ → Bool
+some [] = false
+some (b ∷ bs) = true
+
+-- "13 with its line number, first listing first": REFUSED 13 LISTING LINE; nothing where both are of the form
+unfoldable pub refusalText : ℕ → ℕ → List ℕ
+refusalText first second =
+    if 0 <? first then twoNumbers refusedWord 1 first else
+    if 0 <? second then twoNumbers refusedWord 2 second else []
+
+-- the report on two texts
+unfoldable pub report : List ℕ → List ℕ → List ℕ
+report a b =
+    let refused = refusalText (formRefusal a) (formRefusal b) in
+    let d = differencesText a b in
+    if some refused then refused else d ++ endText (some d) (length (rowsIn a))

@@ -1,0 +1,62 @@
+-- How the states of two listings are compared as they are read: the next state of each side, if there is one.
+use Prim.Native.Nat.{ℕ, _+_, _≤_}
+use mathlib.Core.Bool.{Bool, true, false}
+use mathlib.Core.List.{List, [], _∷_, _++_}
+use mathlib.Core.Path.{_≡_}
+use Rattle.basis.specs.Choice.{if_then_else_, _<?_}
+use Rattle.text.specs.Written.{Wrote}
+use Rattle.reader.specs.declared.Row.{Row}
+use Rattle.reader.specs.declared.Found.{Found}
+use Rattle.reader.specs.declared.Found.the-variants.{Is, None}
+use Rattle.reader.specs.Bytes.{foundRows}
+use Rattle.parting.specs.declared.Side.{Side}
+use Rattle.parting.specs.declared.Side.the-variants.{First, Second, Both, Neither}
+use Rattle.parting.specs.Report.{Difference, only, atOne, textOf}
+
+-- a text is written that takes no more than some room
+pub record Put (before : List ℕ) (at : ℕ) (text after : List ℕ) (r room : ℕ) : Type 0 where
+  pub wrote : Wrote before at text after r
+  pub short : r ≤ at + room
+
+abbrev pub onlyText : ℕ → ℕ → List ℕ
+onlyText listing moment = textOf (only listing moment ∷ [])
+
+-- whose state is the next in moment order
+abbrev pub sideOf : Found → Found → Side
+sideOf None None = Neither
+sideOf (Is r) None = First
+sideOf None (Is s) = Second
+sideOf (Is r) (Is s) =
+    if r .moment <? s .moment then First else
+    if s .moment <? r .moment then Second else Both
+
+-- what is reported of it
+abbrev pub differencesAt : Found → Found → List Difference
+differencesAt None None = []
+differencesAt (Is r) None = only 1 (r .moment) ∷ []
+differencesAt None (Is s) = only 2 (s .moment) ∷ []
+differencesAt (Is r) (Is s) =
+    if r .moment <? s .moment then only 1 (r .moment) ∷ [] else
+    if s .moment <? r .moment then only 2 (s .moment) ∷ [] else atOne r s
+
+-- whether the next state of the first listing is reported with this, and of the second
+abbrev pub takesFirst : Side → Bool
+takesFirst First = true
+takesFirst Second = false
+takesFirst Both = true
+takesFirst Neither = false
+
+abbrev pub takesSecond : Side → Bool
+takesSecond First = false
+takesSecond Second = true
+takesSecond Both = true
+takesSecond Neither = false
+
+-- the rows of a side after it was taken or not
+abbrev pub left : Bool → Found → List Row → List Row
+left true f rest = rest
+left false f rest = foundRows f ++ rest
+
+-- a side without a state has none behind it either
+abbrev pub Ended : Found → List Row → Type 0
+Ended f rest = f ≡ None → rest ≡ []

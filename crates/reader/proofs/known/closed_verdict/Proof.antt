@@ -1,0 +1,13 @@
+-- `reader::known::closed_verdict` meets its contract. Assumes nothing.
+use borrow.Author.Needs.{needs}
+use Rattle.reader.proofs.known.closed_verdict.Statement.{statement}
+use Rattle.reader.proofs.known.closed_verdict.Tie as tie
+
+missing-line-requires : tie.Need-missing-line-requires
+missing-line-requires c κs = search needs
+
+returns : tie.Need-returns
+returns c = rw (c .missing-line .ensures)
+
+pub closed-verdict-spec : {M : Type 1} → statement M
+closed-verdict-spec = tie.close (tie.spec missing-line-requires returns)

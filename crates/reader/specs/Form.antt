@@ -1,0 +1,99 @@
+-- The form of a listing as a whole (document 02, R-1): a lone refusal, or a header, states whose moments rise, and an outcome.
+-- "Form is judged line by line, not by h or the step count; a missing line is the one after the last."
+use Prim.Native.Nat.{ℕ, _+_}
+use mathlib.Core.Bool.{Bool, true, false}
+use mathlib.Core.List.{List, [], _∷_, _++_, map}
+use Rattle.basis.specs.Choice.{if_then_else_, _<?_, _=?_}
+use Rattle.reader.specs.declared.Row.{Row}
+use Rattle.reader.specs.declared.Line.{Line}
+use Rattle.reader.specs.declared.Line.the-variants as line
+use Rattle.reader.specs.declared.Place.{Place}
+use Rattle.reader.specs.declared.Place.the-variants.{Top, First, After, Done, Off}
+use Rattle.reader.specs.Line.{kindOf}
+
+-- the lines of a text: each ends at a line feed, which the last may lack
+abbrev pub inFirst : ℕ → List (List ℕ) → List (List ℕ)
+inFirst b [] = (b ∷ []) ∷ []
+inFirst b (l ∷ ls) = (b ∷ l) ∷ ls
+
+unfoldable pub linesOf : List ℕ → List (List ℕ)
+linesOf [] = []
+linesOf (b ∷ bs) = if b =? 10 then [] ∷ linesOf bs else inFirst b (linesOf bs)
+
+unfoldable pub kindsOf : List ℕ → List Line
+kindsOf text = map kindOf (linesOf text)
+
+-- "whose moments do not rise" is not of the form
+abbrev pub later : ℕ → ℕ → Place
+later t moment = if t <? moment then After moment else Off
+
+-- at the top stands a header or a lone refusal
+abbrev pub afterTop : Line → Place
+afterTop line.Header = First
+afterTop line.Lone = Done
+afterTop (line.State r) = Off
+afterTop line.Outcome = Off
+afterTop line.Bad = Off
+
+-- behind the header a state
+abbrev pub afterHeader : Line → Place
+afterHeader (line.State r) = After (r .moment)
+afterHeader line.Header = Off
+afterHeader line.Lone = Off
+afterHeader line.Outcome = Off
+afterHeader line.Bad = Off
+
+-- behind a state one of a later moment, or the outcome
+abbrev pub afterState : ℕ → Line → Place
+afterState t (line.State r) = later t (r .moment)
+afterState t line.Outcome = Done
+afterState t line.Header = Off
+afterState t line.Lone = Off
+afterState t line.Bad = Off
+
+-- where the reading stands after one line more; behind the outcome no line is of the form
+abbrev pub placed : Place → Line → Place
+placed Top l = afterTop l
+placed First l = afterHeader l
+placed (After t) l = afterState t l
+placed Done l = Off
+placed Off l = Off
+
+abbrev pub isOff : Place → Bool
+isOff Off = true
+isOff Top = false
+isOff First = false
+isOff (After t) = false
+isOff Done = false
+
+-- at the end of the text: behind the outcome all is there, else line n is missing
+abbrev pub missing : Place → ℕ → ℕ
+missing Done n = 0
+missing Top n = n
+missing First n = n
+missing (After t) n = n
+missing Off n = n
+
+-- the number of the line that is not of the form, the reading standing at a place before line n; 0 where all are of the form
+unfoldable pub refusedFrom : Place → ℕ → List Line → ℕ
+refusedFrom p n [] = missing p n
+refusedFrom p n (l ∷ ls) = if isOff (placed p l) then n else refusedFrom (placed p l) (n + 1) ls
+
+-- "13 with its line number"; 0 for a text that is a listing
+unfoldable pub formRefusal : List ℕ → ℕ
+formRefusal text = refusedFrom Top 1 (kindsOf text)
+
+-- the states of a listing, in order
+abbrev pub orRow : Line → List Row → List Row
+orRow (line.State r) rows = r ∷ rows
+orRow line.Header rows = rows
+orRow line.Outcome rows = rows
+orRow line.Lone rows = rows
+orRow line.Bad rows = rows
+
+unfoldable pub rowsOf : List Line → List Row
+rowsOf [] = []
+rowsOf (l ∷ ls) = orRow l (rowsOf ls)
+
+abbrev pub rowsIn : List ℕ → List Row
+rowsIn text = rowsOf (kindsOf text)

@@ -1,0 +1,143 @@
+// A listing in blocks, whose bytes are few enough to be counted: inner functions of the programs.
+
+use crate::Judge;
+use crate::Line;
+use crate::Place;
+use crate::Scan;
+use crate::Verdict;
+use crate::place_after;
+use crate::scanning::has_begun;
+use crate::scanning::line_end;
+use crate::scanning::take_byte;
+ghost use mathlib.Core.Path.{_≡_};
+ghost use mathlib.Core.List.{[], _∷_};
+ghost use Prim.Native.Nat.{_+_, _<_};
+ghost use lib.ListN.{length};
+ghost use Rattle.reader.specs.Form.{isOff, missing};
+ghost use Rattle.reader.specs.Bytes.{lineAfter, rowsAfter, lineEnded, Counted, Goes, closed, verdictOf};
+
+fn is_off(place: Place) -> bool
+    ensures { λ r. ⌜ r ≡ isOff place ⌝ }
+{
+    match place {
+        Place::Off => true,
+        Place::Top => false,
+        Place::First => false,
+        Place::After(_) => false,
+        Place::Done => false,
+    }
+}
+
+// One more for a place that is still of the form.
+fn line_after(place: Place, line: u64) -> u64
+    requires { ⌜ line + 1 < 0x1_0000_0000_0000_0000 ⌝ }
+    ensures { λ r. ⌜ r ≡ lineAfter place line ⌝ }
+{
+    if is_off(place) { line } else { line + 1 }
+}
+
+fn rows_after(line: Line, rows: u64) -> u64
+    requires { ⌜ rows + 1 < 0x1_0000_0000_0000_0000 ⌝ }
+    ensures { λ r. ⌜ r ≡ rowsAfter line rows ⌝ }
+{
+    match line {
+        Line::State(_) => rows + 1,
+        Line::Header => rows,
+        Line::Outcome => rows,
+        Line::Lone => rows,
+        Line::Bad => rows,
+    }
+}
+
+// The line that is being read ends, and the next starts at a place.
+fn end_line(j: Judge, next: u64) -> Judge
+    requires { ⌜ (j .line + 1 < 0x1_0000_0000_0000_0000) × (j .rows + 1 < 0x1_0000_0000_0000_0000) ⌝ }
+    ensures { λ r. ⌜ r ≡ lineEnded j next ⌝ }
+{
+    let scan = j.scan;
+    let line = line_end(scan);
+    let before = j.place;
+    let place = place_after(before, line);
+    Judge {
+        place,
+        scan: Scan::Start,
+        line: line_after(place, j.line),
+        rows: rows_after(line, j.rows),
+        read: next,
+        from: next,
+        last: j.from,
+    }
+}
+
+fn judge_byte(j: Judge, b: u8) -> Judge
+    requires { ⌜ Counted j ⌝ }
+    requires { ⌜ j .read + 2 < 0x1_0000_0000_0000_0000 ⌝ }
+    ensures { λ r. ⌜ Goes j (b ∷ []) r ⌝ }
+{
+    let read = j.read + 1;
+    if b == 10 {
+        return end_line(j, read);
+    }
+    let scan = j.scan;
+    let place = j.place;
+    Judge {
+        place,
+        scan: take_byte(scan, b),
+        line: j.line,
+        rows: j.rows,
+        read,
+        from: j.from,
+        last: j.last,
+    }
+}
+
+// A block more.
+pub fn judge_block(from: Judge, block: &[u8]) -> Judge
+    requires { ⌜ Counted from ⌝ }
+    requires { ⌜ from .read + length (now block) + 2 < 0x1_0000_0000_0000_0000 ⌝ }
+    ensures { λ r. ⌜ Goes from (now (block .entry)) r ⌝ }
+{
+    let mut j = from;
+    let mut i = 0;
+    while i < block.len() {
+        j = judge_byte(j, block[i]);
+        i += 1;
+    }
+    j
+}
+
+fn missing_line(place: Place, line: u64) -> u64
+    ensures { λ r. ⌜ r ≡ missing place line ⌝ }
+{
+    match place {
+        Place::Done => 0,
+        Place::Top => line,
+        Place::First => line,
+        Place::After(_) => line,
+        Place::Off => line,
+    }
+}
+
+fn closed_verdict(j: Judge) -> Verdict
+    ensures { λ r. ⌜ r ≡ closed j ⌝ }
+{
+    let place = j.place;
+    Verdict {
+        refusal: missing_line(place, j.line),
+        rows: j.rows,
+        outcome: j.last,
+    }
+}
+
+// The verdict at the end of the text, whose last line may lack its line feed.
+pub fn verdict(j: Judge) -> Verdict
+    requires { ⌜ Counted j ⌝ }
+    requires { ⌜ j .read + 2 < 0x1_0000_0000_0000_0000 ⌝ }
+    ensures { λ r. ⌜ r ≡ verdictOf j [] ⌝ }
+{
+    let scan = j.scan;
+    if has_begun(scan) {
+        return closed_verdict(end_line(j, j.read));
+    }
+    closed_verdict(j)
+}

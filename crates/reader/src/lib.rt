@@ -1,0 +1,229 @@
+// The reader of listings. A line is never kept: what is known of it is a value that each byte takes on, so that a line of any
+// length costs no memory.
+
+pub mod known;
+mod letters;
+mod scanning;
+
+ghost use mathlib.Core.Path.{_≡_};
+ghost use Rattle.reader.specs.Form.{later, afterTop, afterHeader, afterState, placed};
+ghost use Rattle.reader.specs.Bytes.{atTop, rowOf, rowHere, Passes, Finds};
+use scanning::line_end;
+use scanning::take_byte;
+
+// A state as it stands in a line: its moment, and the bits of its six components.
+pub struct Row {
+    pub moment: u64,
+    pub x: u64,
+    pub y: u64,
+    pub z: u64,
+    pub vx: u64,
+    pub vy: u64,
+    pub vz: u64,
+}
+
+// What a line is.
+pub enum Line {
+    Header,
+    State(Row),
+    Outcome,
+    Lone,
+    Bad,
+}
+
+// Where the reading of a listing stands: before its first line, behind the header, behind a state of that moment, behind the
+// outcome, or off the form.
+pub enum Place {
+    Top,
+    First,
+    After(u64),
+    Done,
+    Off,
+}
+
+// The words before numbers. Steps stands for the number behind a refusal, which has none.
+pub enum Word {
+    Strip,
+    Arrived,
+    Refused,
+    Steps,
+}
+
+// What is known of a line of which some bytes are read.
+pub enum Scan {
+    // no byte yet
+    Start,
+    // so many letters of a word, or all of it
+    Letters(Word, usize),
+    // a digit of the number behind a word; whether more may follow
+    Digits(Word, bool),
+    // digits of a moment
+    Moment(u64),
+    // inside a component: components behind it, digits behind the next, the bits so far, and the row before it
+    Component(u64, u64, u64, Row),
+    // behind the moment or a component: components to come
+    Behind(u64, Row),
+    Bad,
+}
+
+// A listing of which some bytes are read: the place and the scan, the number of the line being read, the states and the bytes
+// so far, and where the line being read and the last one before it start.
+pub struct Judge {
+    pub place: Place,
+    pub scan: Scan,
+    pub line: u64,
+    pub rows: u64,
+    pub read: u64,
+    pub from: u64,
+    pub last: u64,
+}
+
+// The line that is not of the form, or 0; the states; and where the last line starts.
+pub struct Verdict {
+    pub refusal: u64,
+    pub rows: u64,
+    pub outcome: u64,
+}
+
+pub enum Found {
+    Is(Row),
+    None,
+}
+
+// What was found in a block, and where to go on.
+pub struct Next {
+    pub found: Found,
+    pub scan: Scan,
+    pub at: usize,
+}
+
+// The place behind one line more.
+pub fn place_after(place: Place, line: Line) -> Place
+    ensures { λ r. ⌜ r ≡ placed place line ⌝ }
+{
+    match place {
+        Place::Top => after_top(line),
+        Place::First => after_header(line),
+        Place::After(t) => after_state(t, line),
+        Place::Done => Place::Off,
+        Place::Off => Place::Off,
+    }
+}
+
+fn after_top(line: Line) -> Place
+    ensures { λ r. ⌜ r ≡ afterTop line ⌝ }
+{
+    match line {
+        Line::Header => Place::First,
+        Line::Lone => Place::Done,
+        Line::State(_) => Place::Off,
+        Line::Outcome => Place::Off,
+        Line::Bad => Place::Off,
+    }
+}
+
+fn after_header(line: Line) -> Place
+    ensures { λ r. ⌜ r ≡ afterHeader line ⌝ }
+{
+    match line {
+        Line::State(row) => Place::After(row.moment),
+        Line::Header => Place::Off,
+        Line::Outcome => Place::Off,
+        Line::Lone => Place::Off,
+        Line::Bad => Place::Off,
+    }
+}
+
+fn after_state(t: u64, line: Line) -> Place
+    ensures { λ r. ⌜ r ≡ afterState t line ⌝ }
+{
+    match line {
+        Line::State(row) => place_later(t, row.moment),
+        Line::Outcome => Place::Done,
+        Line::Header => Place::Off,
+        Line::Lone => Place::Off,
+        Line::Bad => Place::Off,
+    }
+}
+
+// "whose moments do not rise" is off the form.
+fn place_later(t: u64, moment: u64) -> Place
+    ensures { λ r. ⌜ r ≡ later t moment ⌝ }
+{
+    if t < moment {
+        return Place::After(moment);
+    }
+    Place::Off
+}
+
+pub fn top() -> Judge
+    ensures { λ r. ⌜ r ≡ atTop ⌝ }
+{
+    Judge {
+        place: Place::Top,
+        scan: Scan::Start,
+        line: 1,
+        rows: 0,
+        read: 0,
+        from: 0,
+        last: 0,
+    }
+}
+
+// The state whose line a byte ends, if it is a line feed.
+fn row_here(scan: Scan, b: u8) -> Found
+    ensures { λ r. ⌜ r ≡ rowHere scan b ⌝ }
+{
+    if b == 10 {
+        return row_of(line_end(scan));
+    }
+    Found::None
+}
+
+fn row_of(line: Line) -> Found
+    ensures { λ r. ⌜ r ≡ rowOf line ⌝ }
+{
+    match line {
+        Line::State(row) => Found::Is(row),
+        Line::Header => Found::None,
+        Line::Outcome => Found::None,
+        Line::Lone => Found::None,
+        Line::Bad => Found::None,
+    }
+}
+
+// One byte on: behind a line feed a new line starts.
+fn after_byte(scan: Scan, b: u8) -> Scan
+    ensures { λ r. ⌜ Passes scan b r ⌝ }
+{
+    if b == 10 {
+        return Scan::Start;
+    }
+    take_byte(scan, b)
+}
+
+// The next state in the block from a place on.
+pub fn next_row(block: &[u8], at: usize, scan: Scan) -> Next
+    ensures { λ r. ⌜ Finds (now (block .entry)) at scan r ⌝ }
+{
+    let mut s = scan;
+    let mut i = at;
+    while i < block.len() {
+        let b = block[i];
+        let found = row_here(s, b);
+        s = after_byte(s, b);
+        i += 1;
+        if let Found::Is(row) = found {
+            return Next {
+                found: Found::Is(row),
+                scan: s,
+                at: i,
+            };
+        }
+    }
+    Next {
+        found: Found::None,
+        scan: s,
+        at: i,
+    }
+}
