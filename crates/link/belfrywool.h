@@ -62,8 +62,8 @@ uint64_t belfry_sine_cosine(uint64_t parts, double both[2]);
 /* A book is `length` bytes at `book`. This tells whether it passes. */
 uint64_t belfry_book_passes(const uint8_t *book, size_t length);
 
-/* position: where a body stands at a moment, in km from the Earth. */
-uint64_t belfry_position(const uint8_t *book, size_t length, uint64_t body, uint64_t moment, double position[3]);
+/* motion: where a body stands at a moment, in km from the Earth, and then how fast it goes, in km/s. */
+uint64_t belfry_position(const uint8_t *book, size_t length, uint64_t body, uint64_t moment, double motion[6]);
 
 /* acceleration: in km/s^2, at a position in km. */
 uint64_t belfry_acceleration(const uint8_t *book, size_t length, const double coefficients[6], uint32_t dut,

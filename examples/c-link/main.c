@@ -72,16 +72,16 @@ static void moon_book(uint8_t book[BOOK], const double coefficients[9]) {
 
 static void positions(void) {
     uint8_t book[BOOK];
-    double position[3];
+    double motion[6];
     const double series[9] = {1, 2, 3, 1, 2, 3, 1, 2, 3};
     const uint64_t moments[] = {0, 1000, 1999, 2000};
     moon_book(book, series);
     printf("book: %" PRIu64 ", cut short: %" PRIu64 "\n", belfry_book_passes(book, BOOK), belfry_book_passes(book, BOOK - 1));
     for (int i = 0; i < 4; i++) {
-        uint64_t number = belfry_position(book, BOOK, 2, moments[i], position);
+        uint64_t number = belfry_position(book, BOOK, 2, moments[i], motion);
         printf("Moon at %" PRIu64 ":", moments[i]);
         if (number) refused(number);
-        else if (i < 2) floats(position, 3);
+        else if (i < 2) floats(motion, 6);
         else printf(" covered\n");
     }
 }

@@ -138,7 +138,7 @@ pub fn ask_conic(f: &[&[u8]]) -> Option<String> {
 
 pub fn ask_body(book: &[u8], f: &[&[u8]]) -> Option<String> {
     let [number, moment] = decimals(f)?;
-    Some(told(book::body(book, number, moment).map(|r| all_shown(&r))))
+    Some(told(book::body(book, number, moment).map(|m| all_shown(&m.six()))))
 }
 
 /// The first seven fields: six coefficients and DUT.

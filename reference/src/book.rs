@@ -1,4 +1,4 @@
-//! The ephemeris book: its check, the search for cover, the position.
+//! The ephemeris book: its check, the search for cover, position and velocity.
 
 use crate::hour::END;
 use crate::vector::{finite, Vector};
@@ -109,40 +109,61 @@ pub fn find(book: &[u8], body: u64, t: u64) -> Option<usize> {
         .map(|(i, _)| i)
 }
 
-/// Chebyshev series by Clenshaw over n floats at a place.
-pub fn series(book: &[u8], at: usize, n: usize, w: f64) -> Option<f64> {
-    let (mut b1, mut b2) = (0.0, 0.0);
-    for k in (1..n).rev() {
-        let b = ((2.0 * w) * b1 - b2) + float_at(book, at + 8 * k)?;
-        b2 = b1;
-        b1 = b;
-    }
-    Some((w * b1 - b2) + float_at(book, at)?)
+/// Where a body stands, in km, and how fast it goes, in km/s.
+#[derive(Clone, Copy, Debug, PartialEq)]
+pub struct Motion {
+    pub place: Vector,
+    pub speed: Vector,
 }
 
-/// Position at t by a covering entry; 7 when it is not finite.
-pub fn position(book: &[u8], i: usize, t: u64) -> Result<Vector, u64> {
+impl Motion {
+    /// Place and then speed, as they are told.
+    pub fn six(&self) -> [f64; 6] {
+        let (p, v) = (self.place, self.speed);
+        [p[0], p[1], p[2], v[0], v[1], v[2]]
+    }
+}
+
+/// Value and slope of a Chebyshev series by Clenshaw over n floats at a place. With b as in
+/// document 01, d(k) = ((2 b(k+1) + (2w) d(k+1)) - d(k+2)).
+pub fn series(book: &[u8], at: usize, n: usize, w: f64) -> Option<(f64, f64)> {
+    let (mut b1, mut b2) = (0.0, 0.0);
+    let (mut d1, mut d2) = (0.0, 0.0);
+    for k in (1..n).rev() {
+        let b = ((2.0 * w) * b1 - b2) + float_at(book, at + 8 * k)?;
+        let d = (2.0 * b1 + (2.0 * w) * d1) - d2;
+        (b2, b1) = (b1, b);
+        (d2, d1) = (d1, d);
+    }
+    let value = (w * b1 - b2) + float_at(book, at)?;
+    let slope = (b1 + w * d1) - d2;
+    Some((value, slope))
+}
+
+/// Position and velocity at t by a covering entry; 7 when one of them is not finite.
+pub fn motion(book: &[u8], i: usize, t: u64) -> Result<Motion, u64> {
     let e = entry(book, i).ok_or(6u64)?;
     let twice = 2 * (i128::from(t) - i128::from(e.start)) - i128::from(e.span);
     let w = twice as f64 / e.span as f64;
     let (at, n) = (e.offset as usize, usize::from(e.n));
-    let mut r = [0.0; 3];
-    for (axis, value) in r.iter_mut().enumerate() {
-        *value = series(book, at + 8 * n * axis, n, w).ok_or(1u64)?;
+    let (mut place, mut speed) = ([0.0; 3], [0.0; 3]);
+    for axis in 0..3 {
+        let (value, slope) = series(book, at + 8 * n * axis, n, w).ok_or(1u64)?;
+        place[axis] = value;
+        speed[axis] = slope * 2000.0 / e.span as f64;
     }
-    if finite(r) {
-        Ok(r)
-    } else {
-        Err(7)
+    if !finite(place) || !finite(speed) {
+        return Err(7);
     }
+    Ok(Motion { place, speed })
 }
 
-/// The body position call: 1, 3, 6, 7.
-pub fn body(book: &[u8], number: u64, t: u64) -> Result<Vector, u64> {
+/// The body position call: 1, 3, 6, 7 (position), 7 (velocity).
+pub fn body(book: &[u8], number: u64, t: u64) -> Result<Motion, u64> {
     check(book)?;
     if t >= END {
         return Err(3);
     }
     let i = find(book, number, t).ok_or(6u64)?;
-    position(book, i, t)
+    motion(book, i, t)
 }

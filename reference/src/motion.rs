@@ -70,7 +70,7 @@ pub fn lookups(book: &[u8], setting: &Setting, t: u64) -> Result<[Vector; 7], u6
     let mut places = [[0.0; 3]; 7];
     for (body, _) in used(setting) {
         let i = book::find(book, body as u64, t).ok_or(6u64)?;
-        places[body] = book::position(book, i, t)?;
+        places[body] = book::motion(book, i, t)?.place;
     }
     Ok(places)
 }

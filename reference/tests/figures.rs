@@ -1,7 +1,7 @@
 //! Document 01's own figures, and the published square roots.
 
 use reference::ask::answers;
-use reference::book;
+use reference::book::{self, Motion};
 use reference::calendar::{date_of, day_of};
 use reference::conic::{conic, Kind};
 use reference::hour::{angle_at, hour_angle, DAY, END};
@@ -9,7 +9,9 @@ use reference::motion::{acceleration, start_checks, run, Outcome, Setting, State
 use reference::root::root;
 use reference::sine::{sine_cosine, OCTANT};
 use reference::strip::strip;
+use reference::trial::books::entries;
 use reference::trial::times::WHOLE_OCTANTS;
+use reference::vector::n;
 
 /// A book of one body with one entry, the same coefficients on each axis.
 fn one(body: u16, start: u64, span: u64, coefficients: &[f64]) -> Vec<u8> {
@@ -49,6 +51,41 @@ fn calendar() {
     }
 }
 
+/// In the books from DE405 a body's velocity is the difference of its places half a second before and
+/// after, within the rounding of that difference.
+#[test]
+fn speeds_of_real_books() {
+    let mut compared = 0;
+    for name in ["book30.bin", "book31all.bin"] {
+        let bytes = std::fs::read(format!("../data/books/{name}")).unwrap();
+        for e in entries(&bytes) {
+            for part in 1..8 {
+                let (body, t) = (u64::from(e.body), e.start + e.span / 8 * part);
+                let at = |t| book::body(&bytes, body, t).unwrap();
+                let (before, after) = (at(t - 500).place, at(t + 500).place);
+                for axis in 0..3 {
+                    let Motion { place, speed } = at(t);
+                    let off = (after[axis] - before[axis] - speed[axis]).abs();
+                    assert!(off < 1e-9 + 4e-15 * n(place).sqrt(), "{body} {t} {speed:?} {off}");
+                    compared += 1;
+                }
+            }
+        }
+    }
+    assert!(compared > 500, "{compared}");
+}
+
+/// "divided by L as two operations": 2000 comes first, and overflows first.
+#[test]
+fn speeds() {
+    let motion = |c: [f64; 2], t| book::body(&one(2, 0, 2, &c), 2, t).map(|m| (m.place[0], m.speed[0]));
+    assert_eq!(motion([1.0, 2.0], 1), Ok((1.0, 2000.0)));
+    assert_eq!(motion([1.0, 8e304], 1), Ok((1.0, 8e304 * 2000.0 / 2.0)));
+    assert_eq!(motion([1.0, 1e306], 1), Err(7));
+    let three = book::body(&one(2, 0, 2000, &[1.0, 2.0, 3.0]), 2, 500).unwrap();
+    assert_eq!(three.six(), [-1.5, -1.5, -1.5, -4.0, -4.0, -4.0]);
+}
+
 #[test]
 fn hours() {
     assert_eq!(angle_at(0), Ok(1_000_755_426_000));
@@ -78,8 +115,8 @@ fn sines_near_the_library() {
 #[test]
 fn series() {
     let book = one(2, 1000, 100, &[1.0, 2.0, 3.0]);
-    assert_eq!(book::body(&book, 2, 1000), Ok([2.0; 3]));
-    assert_eq!(book::body(&book, 2, 1050), Ok([-2.0; 3]));
+    assert_eq!(book::body(&book, 2, 1000).map(|m| m.place), Ok([2.0; 3]));
+    assert_eq!(book::body(&book, 2, 1050).map(|m| m.place), Ok([-2.0; 3]));
     assert!(book::body(&book, 2, 1099).is_ok());
     assert_eq!(book::body(&book, 2, 1100), Err(6));
     assert_eq!(book::body(&book, 1, 1000), Err(6));

@@ -153,7 +153,11 @@ fn body_answer(book: &[u8], v: &Numbers, out: &mut Out, at: usize) -> usize
     ensures { λ r. ⌜ Between at 1 512 r ⌝ }
 {
     match book::position(book, v[0], v[1]) {
-        PositionAnswer::At(place) => put_floats(out, at, &[place.x, place.y, place.z]),
+        PositionAnswer::At(motion) => {
+            let p = motion.place;
+            let v = motion.velocity;
+            put_floats(out, at, &[p.x, p.y, p.z, v.x, v.y, v.z])
+        }
         PositionAnswer::Refused(number) => put_refused(out, at, number),
     }
 }

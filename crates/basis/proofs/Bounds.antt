@@ -3,14 +3,15 @@
 use mathlib.Core.Path.{_≡_, refl, sym, ap, _∙_, subst}
 use mathlib.Core.Bool.{Bool, true, false, _&&_, _||_, Bool·beq, cond, true≢false}
 use Prim.Native.Nat.{ℕ, zero, suc, _+_, _-_, _*_, _^_, _≤_, _<_}
-use native.Mathlib.Nat.{le-trans, le-of-eq, le-of-mul-le-mul-right, add-le-add, zero-lt-suc, mul-comm, mul-assoc, mul-right-comm, mul-mul-mul-comm, mul-le-mul, mul-le-mul-right, mul-pos, add-mul}
+use native.Mathlib.Nat.{le-trans, le-of-eq, le-of-mul-le-mul-right, add-le-add, zero-lt-suc, mul-comm, mul-assoc, mul-one, one-mul, mul-right-comm, mul-mul-mul-comm, mul-le-mul, mul-le-mul-right, mul-pos, add-mul}
 use native.Mathlib.Omega.{arith}
-use lib.Dec.{T, ltb, eqb, ltb→lt, eqb→eq}
+use lib.Dec.{T, ltb, eqb, ltb→lt, eqb→eq, lit≤}
+use lib.Pow.{pow-pos, pow-add, pow-lt, shl-lt}
 use borrow.Author.Tests.{ne-eqb}
 use lib.Ieee.{Float, nan, inf, fin, binary64, low, up, down, unlike, odd, units, round, sum, neg, add, mul, div, le}
 use lib.Ieee.Fits.{down-pos, up-pos, round-is}
 use lib.Ieee.Scale.{finite, overflow}
-use lib.Ieee.Exact.{HasValue}
+use lib.Ieee.Exact.{HasValue, round-exact}
 use lib.Ieee.Order.{round-mono, transfer, drop, kept}
 use Rattle.basis.proofs.Clear.{clear, round-clear}
 
@@ -29,6 +30,46 @@ pub within-finite : (n d : ℕ) (x : Float) → Within n d x → finite x ≡ tr
 within-finite n d nan h = absurd h
 within-finite n d (inf s) h = absurd h
 within-finite n d (fin s m e) h = refl
+
+-- ---- floats to bound by: 2^i / 2^k, and the whole numbers below 2^53
+
+units-of : (l i k : ℕ) → k ≤ l → 2 ^ i * 2 ^ l ≡ 1 * 2 ^ (l - k + i) * 2 ^ k
+units-of l i k h =
+    let e : i + l ≡ l - k + i + k = omega arith in
+    sym (pow-add 2 i l) ∙ ap (λ (z : ℕ). 2 ^ z) e ∙ pow-add 2 (l - k + i) k ∙ ap (λ (z : ℕ). z * 2 ^ k) (sym (one-mul (2 ^ (l - k + i))))
+
+below-top : (l e i k : ℕ) → i ≤ e → 1 * 2 ^ (l - k + i) < 2 ^ (l + suc e)
+below-top l e i k h =
+    let g : l - k + i < l + suc e = omega arith in
+    le-trans (le-of-eq (ap suc (one-mul (2 ^ (l - k + i))))) (pow-lt g)
+
+pub power-held : (i k : ℕ) → i ≤ 1023 → k ≤ 1074 → Held (2 ^ i) (2 ^ k)
+power-held i k h g =
+    record {
+      divides = pow-pos k;
+      exact = round-exact binary64 false (2 ^ i) (2 ^ k) 1 (1074 - k + i) (pow-pos k) (lit≤ tt) (below-top 1074 1023 i k h) (units-of 1074 i k g);
+    }
+
+pub whole-is : (n : ℕ) → n < 2 ^ 53 → HasValue (round binary64 false n 1) false n 1
+whole-is n h = round-exact binary64 false n 1 n 1074 (lit≤ tt) h (le-trans (shl-lt 53 1074 h) (lit≤ tt)) (sym (mul-one (n * 2 ^ 1074)))
+
+pub whole-held : (n : ℕ) → n < 2 ^ 53 → Held n 1
+whole-held n h = record { divides = lit≤ tt; exact = whole-is n h }
+
+-- a greater bound
+pub wider : (n k d : ℕ) (x : Float) → n ≤ k → Within n d x → Within k d x
+wider n k d nan l h = absurd h
+wider n k d (inf s) l h = absurd h
+wider n k d (fin s m e) l h = le-trans h (mul-le-mul-right (down e) l)
+
+-- a float of known size
+pub value-within : (s : Bool) (a c n : ℕ) (x : Float) → 0 < c → HasValue x s a c → a ≤ n * c → Within n 1 x
+value-within s a c n nan C v h = absurd v
+value-within s a c n (inf t) C v h = absurd v
+value-within s a c n (fin t m e) C v h =
+    le-of-mul-le-mul-right
+    (le-trans (le-of-eq (ap (λ (z : ℕ). z * c) (mul-one (m * up e)) ∙ v .1)) (le-trans (mul-le-mul-right (down e) h) (le-of-eq (mul-right-comm n c (down e)))))
+    C
 
 -- ---- one rounding
 

@@ -39,6 +39,11 @@ pub every-back : (n : ℕ) (test : ℕ → Bool) → ((k : ℕ) → k < n → te
 every-back zero test h = refl
 every-back (suc n) test h = both (every-back n test (λ k l. h k (omega arith))) (h n (omega arith))
 
+-- the same test, written in two ways
+pub alike : (n : ℕ) (f g : ℕ → Bool) → ((k : ℕ) → f k ≡ g k) → allBelow n f ≡ allBelow n g
+alike zero f g h = refl
+alike (suc n) f g h = rw (alike n f g h, h n)
+
 pub every-pair : (n : ℕ) (test : ℕ → ℕ → Bool) → pairsBelow n test ≡ true → (i j : ℕ) → i < j → j < n → test i j ≡ true
 every-pair n test h i j l m = every j (λ i. test i j) (every n (λ j. allBelow j (λ i. test i j)) h j m) i l
 

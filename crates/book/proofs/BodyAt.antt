@@ -4,8 +4,8 @@ use mathlib.Core.Bool.{true, false}
 use mathlib.Core.List.{List}
 use mathlib.Core.Path.{_≡_, sym, ap, _∙_}
 use Rattle.book.specs.Lookup.{lookup}
-use Rattle.book.specs.Series.{Content, placeIn, contentOf, place}
-use Rattle.book.specs.Position.{bodyAt, finitePlace, finiteOr7}
+use Rattle.book.specs.Series.{Content, placeIn, velocityIn, contentOf, place, velocity}
+use Rattle.book.specs.Position.{bodyAt, finitePlace, finiteVelocity, finiteOr7}
 use Rattle.book.specs.declared.Lookup.the-variants.{Entry, Nothing}
 use Rattle.book.specs.declared.PositionAnswer.the-variants.{At, Refused}
 
@@ -19,16 +19,21 @@ module _ (b : List ℕ) (body t : ℕ) where
     unfolding bodyAt
     not-finite f = rw (h, f)
 
-    pub at-place : finitePlace (place b i t) ≡ true → bodyAt b body t ≡ At (place b i t)
+    pub too-fast : finitePlace (place b i t) ≡ true → finiteVelocity (velocity b i t) ≡ false → bodyAt b body t ≡ Refused 7
     unfolding bodyAt
-    at-place f = rw (h, f)
+    too-fast f v = rw (h, f, v)
 
-    pub by-content : bodyAt b body t ≡ finiteOr7 (placeIn (contentOf b i) t)
-    unfolding bodyAt place
+    pub at-place : finitePlace (place b i t) ≡ true → finiteVelocity (velocity b i t) ≡ true
+        → bodyAt b body t ≡ At (record { place = place b i t; velocity = velocity b i t })
+    unfolding bodyAt
+    at-place f v = rw (h, f, v)
+
+    pub by-content : bodyAt b body t ≡ finiteOr7 (placeIn (contentOf b i) t) (velocityIn (contentOf b i) t)
+    unfolding bodyAt place velocity
     by-content = rw h
 
 -- two books whose covering entries say the same, wherever they stand, give the same
 pub same-content : (b c : List ℕ) (body t i j : ℕ) → lookup b body t ≡ Entry i → lookup c body t ≡ Entry j → contentOf b i ≡ contentOf c j →
     bodyAt b body t ≡ bodyAt c body t
 same-content b c body t i j h h' e =
-    by-content b body t i h ∙ ap (λ (e : Content). finiteOr7 (placeIn e t)) e ∙ sym (by-content c body t j h')
+    by-content b body t i h ∙ ap (λ (e : Content). finiteOr7 (placeIn e t) (velocityIn e t)) e ∙ sym (by-content c body t j h')

@@ -5,7 +5,9 @@ pub mod Checked
 pub mod Found
 pub mod Numerator
 pub mod Turns
+pub mod Slopes
 pub mod Figures
 pub mod BodyAt
+pub mod Slow
 pub mod OneAnswer
 pub mod Refused

@@ -1,5 +1,5 @@
 -- The signed number 2(t - s) - L, as document 01 writes it and as the machine works it out. Assumes nothing.
-use Prim.Native.Nat.{ℕ, zero, suc, _-_, _*_, _^_, _<_, _≤_, zero-le}
+use Prim.Native.Nat.{ℕ, zero, suc, _+_, _-_, _*_, _^_, _<_, _≤_, zero-le}
 use mathlib.Core.Bool.{Bool, true, false, cond}
 use mathlib.Core.Path.{_≡_, refl, sym, ap, _∙_}
 use lib.Dec.{T, ltb, leb, lt→ltb, le→leb}
@@ -25,6 +25,18 @@ small-minus : (a b : ℕ) → a < 2 ^ 44 → b < 2 ^ 44 → mag (pos a -ℤ pos 
 small-minus a b p q = rw minus (by (ltb a b))
   where
     by : (x : Bool) → mag (cond x (negsuc (b - suc a)) (pos (a - b))) < 2 ^ 44
+    by true = omega arith
+    by false = omega arith
+
+-- a number without its sign
+abbrev pub size : ℤ → ℕ
+size (pos n) = n
+size (negsuc n) = suc n
+
+minus-size : (a b L : ℕ) → 1 ≤ L → a ≤ b + L → b ≤ a + L → size (pos a -ℤ pos b) ≤ L
+minus-size a b L one p q = rw minus (by (ltb a b))
+  where
+    by : (x : Bool) → size (cond x (negsuc (b - suc a)) (pos (a - b))) ≤ L
     by true = omega arith
     by false = omega arith
 
@@ -71,3 +83,7 @@ module _ {start span t : ℕ} (v : InSpan start span t) where
 
   pub as-written : pos 2 *ℤ (pos t -ℤ pos start) -ℤ pos span ≡ numerator
   as-written = rw (minus-up t start (v .from))
+
+  -- it is at most L in size
+  pub span-size : 1 ≤ span → size (pos 2 *ℤ (pos t -ℤ pos start) -ℤ pos span) ≤ span
+  span-size one = rw as-written (minus-size (2 * (t - start)) span span one (omega arith) (omega arith))

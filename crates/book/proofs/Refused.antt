@@ -8,8 +8,8 @@ use Rattle.basis.specs.Limits.{isMoment}
 use Rattle.basis.proofs.Cases.{by-if}
 use Rattle.book.specs.Passes.{passes}
 use Rattle.book.specs.Lookup.{lookup}
-use Rattle.book.specs.Series.{place}
-use Rattle.book.specs.Position.{finitePlace, placeOr6, bodyAt, positionAnswer}
+use Rattle.book.specs.Series.{place, velocity}
+use Rattle.book.specs.Position.{finitePlace, finiteVelocity, placeOr6, bodyAt, positionAnswer}
 use Rattle.book.specs.declared.Lookup.{Lookup}
 use Rattle.book.specs.declared.Lookup.the-variants.{Entry, Nothing}
 use Rattle.book.specs.declared.PositionAnswer.{PositionAnswer}
@@ -22,7 +22,7 @@ refusedBy ok (Refused k) = ok k
 
 module _ (ok : ℕ → Bool) (six : ok 6 ≡ true) (seven : ok 7 ≡ true) where
   by-place : (b : List ℕ) (t : ℕ) (found : Lookup) → refusedBy ok (placeOr6 b t found) ≡ true
-  by-place b t (Entry i) = by-if (refusedBy ok) (finitePlace (place b i t)) refl seven
+  by-place b t (Entry i) = by-if (refusedBy ok) (finitePlace (place b i t)) (by-if (refusedBy ok) (finiteVelocity (velocity b i t)) refl seven) seven
   by-place b t Nothing = six
 
   -- a lookup is refused by 6 or 7 alone

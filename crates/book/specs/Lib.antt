@@ -5,4 +5,7 @@ pub mod Check
 pub mod Lookup
 pub mod Stands
 pub mod Series
+pub mod Axis
+pub mod Reading
+pub mod Calm
 pub mod Position

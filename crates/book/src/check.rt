@@ -8,13 +8,11 @@ ghost use mathlib.Core.Bool.{true, _&&_};
 ghost use mathlib.Core.Path.{_≡_};
 ghost use Prim.Native.Nat.{_+_, _*_, _<_, _≤_};
 ghost use lib.ListN.{length};
-ghost use lib.Ieee.{binary64, ofBits};
-ghost use lib.Ieee.Scale.{finite};
 ghost use Rattle.basis.specs.Choice.{_≤?_};
 ghost use Rattle.basis.specs.Limits.{endOfTime};
 ghost use Rattle.book.specs.Contents.{statedTotal, entryCount, entryAt};
 ghost use Rattle.book.specs.Passes.{passes, fieldsAllowed, longestBook};
-ghost use Rattle.book.specs.Check.{floatsFinite, entryHolds, inOrder, nextInOrder};
+ghost use Rattle.book.specs.Check.{bitsBelow, floatsBelow, floatsFinite, entryHolds, inOrder, nextInOrder};
 
 fn within(x: u16, low: u16, high: u16) -> bool
     ensures { λ r. ⌜ r ≡ ((low ≤? x) && (x ≤? high)) ⌝ }
@@ -50,25 +48,33 @@ pub fn fields_allowed(book: &[u8], i: usize) -> bool
     false
 }
 
-// An infinity's bits, and a NaN's, are the greatest once the sign is off.
-fn bits_finite(bits: u64) -> bool
-    ensures { λ r. ⌜ r ≡ finite (ofBits binary64 bits) ⌝ }
+// With the sign off, the bits of floats are in the order of their sizes.
+fn bits_below(bits: u64, limit: u64) -> bool
+    ensures { λ r. ⌜ r ≡ bitsBelow limit bits ⌝ }
 {
-    bits % 0x8000_0000_0000_0000 < 0x7ff0_0000_0000_0000
+    bits % 0x8000_0000_0000_0000 < limit
 }
 
-pub fn floats_finite(book: &[u8], at: usize, n: usize) -> bool
+pub fn floats_below(book: &[u8], at: usize, n: usize, limit: u64) -> bool
     requires { ⌜ at + 8 * n ≤ length (now book) ⌝ }
-    ensures { λ r. ⌜ r ≡ floatsFinite (now (book .entry)) at n ⌝ }
+    ensures { λ r. ⌜ r ≡ floatsBelow limit (now (book .entry)) at n ⌝ }
 {
     let mut k = 0;
     while k < n {
-        if !bits_finite(u64_at(book, at + 8 * k)) {
+        if !bits_below(u64_at(book, at + 8 * k), limit) {
             return false;
         }
         k += 1;
     }
     true
+}
+
+// An infinity's bits, and a NaN's, are the greatest.
+pub fn floats_finite(book: &[u8], at: usize, n: usize) -> bool
+    requires { ⌜ at + 8 * n ≤ length (now book) ⌝ }
+    ensures { λ r. ⌜ r ≡ floatsFinite (now (book .entry)) at n ⌝ }
+{
+    floats_below(book, at, n, 0x7ff0_0000_0000_0000)
 }
 
 fn entry_holds(book: &[u8], i: usize, place: usize) -> bool

@@ -2,27 +2,35 @@
 // public calls of the product: those that take a book require that it passes.
 
 use crate::Lookup;
+use crate::Motion;
 use crate::Place;
 use crate::PositionAnswer;
+use crate::Velocity;
 use crate::bytes::u16_at;
 use crate::bytes::u32_at;
 use crate::bytes::u64_at;
+pub use crate::calm::book_calm;
 pub use crate::check::fields_allowed;
 pub use crate::check::floats_finite;
 use crate::search::Stand;
 use crate::search::search;
 use crate::search::stand_at;
+use crate::series::Reading;
 use crate::series::argument_at;
 use crate::series::series_at;
+use crate::series::slopes_at;
 use basis::is_finite;
-ghost use mathlib.Core.Bool.{true};
+ghost use mathlib.Core.Bool.{true, _&&_};
 ghost use mathlib.Core.Path.{_≡_};
 ghost use Prim.Native.Nat.{_<_};
+ghost use lib.Ieee.Scale.{finite};
 ghost use Rattle.book.specs.Contents.{entryCount};
 ghost use Rattle.book.specs.Passes.{passes};
 ghost use Rattle.book.specs.Lookup.{covers, lookup};
-ghost use Rattle.book.specs.Series.{place};
-ghost use Rattle.book.specs.Position.{finitePlace, bodyAt};
+ghost use Rattle.book.specs.Series.{place, velocity};
+ghost use Rattle.book.specs.Position.{finitePlace, finiteVelocity, bodyAt};
+ghost use Rattle.book.specs.Reading.{Reads};
+ghost use Rattle.book.specs.Calm.{Ready};
 
 // The guess says where to look first, and nothing else: it may be another body's, or beyond the contents.
 pub fn lookup_guessed(book: &[u8], body: u64, moment: u64, guess: usize) -> Lookup
@@ -47,27 +55,77 @@ pub fn lookup_guessed(book: &[u8], body: u64, moment: u64, guess: usize) -> Look
     }
 }
 
+fn reading_at(book: &[u8], entry: usize, moment: u64) -> Reading
+    requires { ⌜ passes (now book) ≡ true ⌝ }
+    requires { ⌜ (entry < entryCount (now book)) × (covers (now book) entry moment ≡ true) ⌝ }
+    ensures { λ r. ⌜ Reads (now (book .entry)) entry moment r ⌝ }
+{
+    let at = 8 + 24 * entry;
+    let n = u16_at(book, at + 2) as usize;
+    let offset = u32_at(book, at + 4) as usize;
+    let start = u64_at(book, at + 8);
+    let span = u64_at(book, at + 16);
+    let w = argument_at(start, span, moment);
+    let long = span as f64;
+    Reading {
+        offset,
+        n,
+        w,
+        span: long,
+    }
+}
+
 pub fn place_at(book: &[u8], entry: usize, moment: u64) -> Place
     requires { ⌜ passes (now book) ≡ true ⌝ }
     requires { ⌜ (entry < entryCount (now book)) × (covers (now book) entry moment ≡ true) ⌝ }
     ensures { λ r. ⌜ r ≡ place (now (book .entry)) entry moment ⌝ }
 {
-    let at = 8 + 24 * entry;
-    let n = u16_at(book, at + 2) as usize;
-    let offset = u32_at(book, at + 4) as usize;
-    let w = argument_at(u64_at(book, at + 8), u64_at(book, at + 16), moment);
-    series_at(book, offset, n, w)
+    let r = reading_at(book, entry, moment);
+    series_at(book, r.offset, r.n, r.w)
+}
+
+pub fn velocity_at(book: &[u8], entry: usize, moment: u64) -> Velocity
+    requires { ⌜ passes (now book) ≡ true ⌝ }
+    requires { ⌜ (entry < entryCount (now book)) × (covers (now book) entry moment ≡ true) ⌝ }
+    ensures { λ r. ⌜ r ≡ velocity (now (book .entry)) entry moment ⌝ }
+{
+    let r = reading_at(book, entry, moment);
+    slopes_at(book, r.offset, r.n, r.w, r.span)
+}
+
+fn all_finite(x: f64, y: f64, z: f64) -> bool
+    ensures { λ r. ⌜ r ≡ (finite x && finite y && finite z) ⌝ }
+{
+    if is_finite(x) {
+        if is_finite(y) {
+            return is_finite(z);
+        }
+    }
+    false
 }
 
 pub fn place_finite(place: Place) -> bool
     ensures { λ r. ⌜ r ≡ finitePlace place ⌝ }
 {
-    if is_finite(place.x) {
-        if is_finite(place.y) {
-            return is_finite(place.z);
-        }
+    all_finite(place.x, place.y, place.z)
+}
+
+fn velocity_finite(velocity: Velocity) -> bool
+    ensures { λ r. ⌜ r ≡ finiteVelocity velocity ⌝ }
+{
+    all_finite(velocity.x, velocity.y, velocity.z)
+}
+
+// Whether the velocity at the moment is finite: in a calm book it is, and is not worked out.
+pub fn slow_at(book: &[u8], entry: usize, moment: u64, calm: bool) -> bool
+    requires { ⌜ Ready (now book) calm ⌝ }
+    requires { ⌜ (entry < entryCount (now book)) × (covers (now book) entry moment ≡ true) ⌝ }
+    ensures { λ r. ⌜ r ≡ finiteVelocity (velocity (now (book .entry)) entry moment) ⌝ }
+{
+    if calm {
+        return true;
     }
-    false
+    velocity_finite(velocity_at(book, entry, moment))
 }
 
 pub fn body_at(book: &[u8], body: u64, moment: u64, guess: usize) -> PositionAnswer
@@ -78,9 +136,12 @@ pub fn body_at(book: &[u8], body: u64, moment: u64, guess: usize) -> PositionAns
         return PositionAnswer::Refused(6);
     };
     let place = place_at(book, i, moment);
+    let velocity = velocity_at(book, i, moment);
     if place_finite(place) {
-        PositionAnswer::At(place)
-    } else {
-        PositionAnswer::Refused(7)
+        if velocity_finite(velocity) {
+            return PositionAnswer::At(Motion { place, velocity });
+        }
+        return PositionAnswer::Refused(7);
     }
+    PositionAnswer::Refused(7)
 }

@@ -1,6 +1,7 @@
-// The ephemeris book: its check, the lookup of a body's entry, and the position of a body.
+// The ephemeris book: its check, the lookup of a body's entry, and the position and velocity of a body.
 
 pub mod bytes;
+mod calm;
 mod check;
 pub mod known;
 mod search;
@@ -20,6 +21,18 @@ pub struct Place {
     pub z: f64,
 }
 
+pub struct Velocity {
+    pub x: f64,
+    pub y: f64,
+    pub z: f64,
+}
+
+// Where a body stands, in km from the Earth, and (02, R-5) how fast it goes, in km/s.
+pub struct Motion {
+    pub place: Place,
+    pub velocity: Velocity,
+}
+
 // The entry that covers a moment, counted from 0.
 pub enum Lookup {
     Entry(usize),
@@ -27,7 +40,7 @@ pub enum Lookup {
 }
 
 pub enum PositionAnswer {
-    At(Place),
+    At(Motion),
     Refused(u64),
 }
 

@@ -6,9 +6,10 @@ use Prim.Native.Nat.{ℕ}
 use lib.Ieee.{Float}
 use Rattle.basis.specs.Choice.{if_then_else_}
 use Rattle.state.specs.State.{finiteVector, used}
-use Rattle.state.specs.declared.Vector.{Vector}
 use Rattle.book.specs.Lookup.{lookup}
-use Rattle.book.specs.Series.{place}
+use Rattle.book.specs.Series.{place, velocity}
+use Rattle.book.specs.Position.{finiteVelocity}
+use Rattle.book.specs.declared.Place.{Place}
 use Rattle.book.specs.declared.Lookup.{Lookup}
 use Rattle.book.specs.declared.Lookup.the-variants.{Entry, Nothing}
 use Rattle.gravity.specs.Acceleration.{standing}
@@ -17,16 +18,17 @@ use Rattle.gravity.specs.declared.Sight.{Sight}
 
 module _ (b : List ℕ) (number : ℕ) (m : Float) (t : ℕ) where
   -- a body that is used
-  drawnAt : used m ≡ true → (R : Vector) (i : ℕ) → withPull (foundAt R i m) (pullOf (foundAt R i m .place) m) ≡ sightAt R i m
-  drawnAt u R i = go (finiteVector R) refl
+  drawnAt : used m ≡ true → (p : Place) (slow : Bool) (i : ℕ) → withPull (foundAt p slow i m) (pullOf (foundAt p slow i m .place) m) ≡ sightAt p slow i m
+  drawnAt u p slow i = go (finiteVector (standing p)) slow refl
     where
-      go : (ok : Bool) → finiteVector R ≡ ok → withPull (foundAt R i m) (pullOf (foundAt R i m .place) m) ≡ sightAt R i m
-      go true e = rw (e, u)
-      go false e = rw (e, u)
+      go : (ok slow : Bool) → finiteVector (standing p) ≡ ok → withPull (foundAt p slow i m) (pullOf (foundAt p slow i m .place) m) ≡ sightAt p slow i m
+      go true true e = rw (e, u)
+      go true false e = rw (e, u)
+      go false slow e = rw (e, u)
 
   drawnBy : used m ≡ true → (l : Lookup) → withPull (foundBy b m t l) (pullOf (foundBy b m t l .place) m) ≡ sightBy b m t l
   drawnBy u Nothing = rw u
-  drawnBy u (Entry i) = drawnAt u (standing (place b i t)) i
+  drawnBy u (Entry i) = drawnAt u (place b i t) (finiteVelocity (velocity b i t)) i
 
   pub drawn : withPull (foundOf b number m t) (pullOf (foundOf b number m t .place) m) ≡ sightOf b number m t
   unfolding foundOf sightOf

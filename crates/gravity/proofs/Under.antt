@@ -12,10 +12,10 @@ use Rattle.state.specs.State.{finiteVector, used}
 use Rattle.state.specs.declared.Vector.{Vector}
 use Rattle.state.specs.declared.Setting.{Setting}
 use Rattle.book.specs.Lookup.{lookup}
-use Rattle.book.specs.Series.{place}
-use Rattle.book.specs.Position.{bodyAt}
-use Rattle.book.proofs.BodyAt.{no-cover, not-finite, at-place}
-use Rattle.book.specs.declared.Place.{Place}
+use Rattle.book.specs.Series.{place, velocity}
+use Rattle.book.specs.Position.{finiteVelocity, bodyAt}
+use Rattle.book.proofs.BodyAt.{no-cover, not-finite, too-fast, at-place}
+use Rattle.book.specs.declared.Motion.{Motion}
 use Rattle.book.specs.declared.Lookup.{Lookup}
 use Rattle.book.specs.declared.Lookup.the-variants.{Entry, Nothing}
 use Rattle.book.specs.declared.PositionAnswer.{PositionAnswer}
@@ -42,21 +42,22 @@ refused P sum ss h = rw (ne-eqb (refusalOf ss) 0 h)
 data Looked (b : List ℕ) (number : ℕ) (m : Float) (t : ℕ) : Sight → Type 0 where
   unused : used m ≡ false → Looked b number m t (blank m 0)
   hidden : (k : ℕ) → used m ≡ true → bodyAt b number t ≡ position.Refused (suc k) → Looked b number m t (blank m (suc k))
-  there : (R : Place) (i : ℕ) → used m ≡ true → bodyAt b number t ≡ position.At R → lookup b number t ≡ Entry i
-      → Looked b number m t (record { refusal = 0; entry = i; m = m; place = standing R; pull = pullOf (standing R) m })
+  there : (R : Motion) (i : ℕ) → used m ≡ true → bodyAt b number t ≡ position.At R → lookup b number t ≡ Entry i
+      → Looked b number m t (record { refusal = 0; entry = i; m = m; place = standing (R .place); pull = pullOf (standing (R .place)) m })
 
 looked : (b : List ℕ) (number : ℕ) (m : Float) (t : ℕ) → Looked b number m t (sightOf b number m t)
 unfolding sightOf
 looked b number m t = go (used m) refl
   where
-    at : used m ≡ true → (i : ℕ) (ok : Bool) → lookup b number t ≡ Entry i → finiteVector (standing (place b i t)) ≡ ok
-        → Looked b number m t (sightAt (standing (place b i t)) i m)
-    at u i true l e = rw e (there (place b i t) i u (at-place b number t i l e) l)
-    at u i false l e = rw e (hidden 6 u (not-finite b number t i l e))
+    at : used m ≡ true → (i : ℕ) (ok slow : Bool) → lookup b number t ≡ Entry i → finiteVector (standing (place b i t)) ≡ ok → finiteVelocity (velocity b i t) ≡ slow
+        → Looked b number m t (sightAt (place b i t) (finiteVelocity (velocity b i t)) i m)
+    at u i true true l e v = rw (e, v) (there (record { place = place b i t; velocity = velocity b i t }) i u (at-place b number t i l e v) l)
+    at u i true false l e v = rw (e, v) (hidden 6 u (too-fast b number t i l e v))
+    at u i false slow l e v = rw e (hidden 6 u (not-finite b number t i l e))
 
     by : used m ≡ true → (l : Lookup) → lookup b number t ≡ l → Looked b number m t (sightBy b m t l)
     by u Nothing e = hidden 5 u (no-cover b number t e)
-    by u (Entry i) e = at u i (finiteVector (standing (place b i t))) e refl
+    by u (Entry i) e = at u i (finiteVector (standing (place b i t))) (finiteVelocity (velocity b i t)) e refl refl
 
     go : (u : Bool) → used m ≡ u → Looked b number m t (if u then sightBy b m t (lookup b number t) else blank m 0)
     go true u = by u (lookup b number t) refl
@@ -73,15 +74,16 @@ unfolding lessBy
 lessUnused P sum s u = rw u
 
 -- a body that is there: the rest goes on from the sum with this body taken off
-onward : (P : Vector) (ok : Bool) (a : Vector) (m : Float) (R : Place) (later : Sky)
-    → finished P ok a (seen m (position.At R) later)
-    ≡ finished P ((ok && sound (minus P (standing R))) && sound (standing R)) (minus a (plus (g (minus P (standing R)) m) (g (standing R) m))) later
-onward P ok a m R (Bodies bs) =
-    let A = sound (minus P (standing R)) in
-    let B = sound (standing R) in
-    ap (λ (t : Bool). settled t (less P (minus a (plus (g (minus P (standing R)) m) (g (standing R) m))) bs))
+onward : (P : Vector) (ok : Bool) (a : Vector) (m : Float) (M : Motion) (later : Sky)
+    → finished P ok a (seen m (position.At M) later)
+    ≡ finished P ((ok && sound (minus P (standing (M .place)))) && sound (standing (M .place))) (minus a (plus (g (minus P (standing (M .place))) m) (g (standing (M .place)) m))) later
+onward P ok a m M (Bodies bs) =
+    let R = standing (M .place) in
+    let A = sound (minus P R) in
+    let B = sound R in
+    ap (λ (t : Bool). settled t (less P (minus a (plus (g (minus P R) m) (g R m))) bs))
     (sym (and-assoc ok (A && B) (allSound P bs)) ∙ ap (λ (t : Bool). t && allSound P bs) (sym (and-assoc ok A B)))
-onward P ok a m R (Hidden k) = refl
+onward P ok a m M (Hidden k) = refl
 
 sightsOf : List ℕ → ℕ → List Listed → List Sight
 sightsOf b t [] = []

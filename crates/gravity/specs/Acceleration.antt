@@ -11,6 +11,7 @@ use Rattle.state.specs.declared.Setting.{Setting}
 use Rattle.book.specs.Passes.{passes}
 use Rattle.book.specs.Position.{bodyAt}
 use Rattle.book.specs.declared.Place.{Place}
+use Rattle.book.specs.declared.Motion.{Motion}
 use Rattle.book.specs.declared.PositionAnswer.{PositionAnswer}
 use Rattle.book.specs.declared.PositionAnswer.the-variants.{At, Refused}
 use Rattle.gravity.specs.Pull.{plus, minus, negated, g, sound}
@@ -32,7 +33,7 @@ standing p = record { x = p .x; y = p .y; z = p .z }
 
 -- one body's answer before the bodies after it: the first refusal counts
 abbrev pub seen : Float → PositionAnswer → Sky → Sky
-seen m (At R) (Bodies later) = Bodies (record { m = m; R = standing R } ∷ later)
+seen m (At R) (Bodies later) = Bodies (record { m = m; R = standing (R .place) } ∷ later)
 seen m (At R) (Hidden k) = Hidden k
 seen m (Refused k) later = Hidden k
 
@@ -41,7 +42,7 @@ pub record Listed : Type 0 where
   pub number : ℕ
   pub m : Float
 
--- "looked up in rising number first, each for cover (6), then for a finite position (7)"
+-- "looked up in rising number first, each for cover (6), then for a finite position (7)"; and, document 02, R-5, for a finite velocity (7)
 abbrev pub skyOf : List ℕ → ℕ → List Listed → Sky
 skyOf b t [] = Bodies []
 skyOf b t (body ∷ rest) = if used (body .m) then seen (body .m) (bodyAt b (body .number) t) (skyOf b t rest) else skyOf b t rest

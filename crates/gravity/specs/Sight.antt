@@ -9,7 +9,8 @@ use Rattle.state.specs.State.{finiteVector, used}
 use Rattle.state.specs.declared.Vector.{Vector}
 use Rattle.state.specs.declared.Setting.{Setting}
 use Rattle.book.specs.Lookup.{lookup}
-use Rattle.book.specs.Series.{place}
+use Rattle.book.specs.Series.{place, velocity}
+use Rattle.book.specs.Position.{finiteVelocity}
 use Rattle.book.specs.declared.Place.{Place}
 use Rattle.book.specs.declared.Lookup.{Lookup}
 use Rattle.book.specs.declared.Lookup.the-variants.{Entry, Nothing}
@@ -42,24 +43,28 @@ noPull = record { x = zero64; y = zero64; z = zero64; sound = true }
 abbrev pub blank : Float → ℕ → Sight
 blank m k = record { refusal = k; entry = 0; m = m; place = nowhere; pull = noPull }
 
--- a body that entry i puts at R
-abbrev pub sightAt : Vector → ℕ → Float → Sight
-sightAt R i m = if finiteVector R then record { refusal = 0; entry = i; m = m; place = R; pull = pullOf R m } else blank m 7
+-- a body that an entry puts at p: what is seen of it, unless its position is not finite, or it is not `slow`, its velocity finite
+abbrev pub finiteSight : Place → Bool → Sight → Float → Sight
+finiteSight p slow seen m = if finiteVector (standing p) then (if slow then seen else blank m 7) else blank m 7
+
+-- a body that entry i puts at p
+abbrev pub sightAt : Place → Bool → ℕ → Float → Sight
+sightAt p slow i m = finiteSight p slow (record { refusal = 0; entry = i; m = m; place = standing p; pull = pullOf (standing p) m }) m
 
 abbrev pub sightBy : List ℕ → Float → ℕ → Lookup → Sight
 sightBy b m t Nothing = blank m 6
-sightBy b m t (Entry i) = sightAt (standing (place b i t)) i m
+sightBy b m t (Entry i) = sightAt (place b i t) (finiteVelocity (velocity b i t)) i m
 
 unfoldable pub sightOf : List ℕ → ℕ → Float → ℕ → Sight
 sightOf b number m t = if used m then sightBy b m t (lookup b number t) else blank m 0
 
--- a body that entry i puts at R, its pull on the Earth not worked out yet
-abbrev pub foundAt : Vector → ℕ → Float → Sight
-foundAt R i m = if finiteVector R then record { refusal = 0; entry = i; m = m; place = R; pull = noPull } else blank m 7
+-- a body that entry i puts at p, its pull on the Earth not worked out yet
+abbrev pub foundAt : Place → Bool → ℕ → Float → Sight
+foundAt p slow i m = finiteSight p slow (record { refusal = 0; entry = i; m = m; place = standing p; pull = noPull }) m
 
 abbrev pub foundBy : List ℕ → Float → ℕ → Lookup → Sight
 foundBy b m t Nothing = blank m 6
-foundBy b m t (Entry i) = foundAt (standing (place b i t)) i m
+foundBy b m t (Entry i) = foundAt (place b i t) (finiteVelocity (velocity b i t)) i m
 
 unfoldable pub foundOf : List ℕ → ℕ → Float → ℕ → Sight
 foundOf b number m t = if used m then foundBy b m t (lookup b number t) else blank m 0

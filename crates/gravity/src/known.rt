@@ -14,10 +14,8 @@ use book::Lookup;
 use book::Place;
 use state::Setting;
 use state::Vector;
-ghost use mathlib.Core.Bool.{true};
 ghost use mathlib.Core.Path.{_≡_};
-ghost use Rattle.book.specs.Passes.{passes};
-ghost use Rattle.gravity.specs.Acceleration.{standing};
+ghost use Rattle.book.specs.Calm.{Ready};
 ghost use Rattle.gravity.specs.Sight.{blank, foundAt, foundOf, withPull, sightOf, sights, orLater, refusalOf, settledBy, listed, accelerationBy};
 
 fn blank_sight(m: f64, refusal: u64) -> Sight
@@ -43,8 +41,9 @@ fn blank_sight(m: f64, refusal: u64) -> Sight
     }
 }
 
-fn found_at(p: Place, entry: usize, m: f64) -> Sight
-    ensures { λ r. ⌜ r ≡ foundAt (standing p) entry m ⌝ }
+// A body that an entry puts at p; `slow` where its velocity is finite.
+fn found_at(p: Place, slow: bool, entry: usize, m: f64) -> Sight
+    ensures { λ r. ⌜ r ≡ foundAt p slow entry m ⌝ }
 {
     let place = Vector {
         x: p.x,
@@ -52,22 +51,25 @@ fn found_at(p: Place, entry: usize, m: f64) -> Sight
         z: p.z,
     };
     if state::vector_is_finite(place) {
-        let blank = blank_sight(m, 0);
-        let pull = blank.pull;
-        return Sight {
-            refusal: 0,
-            entry,
-            m,
-            place,
-            pull,
-        };
+        if slow {
+            let blank = blank_sight(m, 0);
+            let pull = blank.pull;
+            return Sight {
+                refusal: 0,
+                entry,
+                m,
+                place,
+                pull,
+            };
+        }
+        return blank_sight(m, 7);
     }
     blank_sight(m, 7)
 }
 
-// A body as it is looked up.
-fn found(book: &[u8], number: u64, m: f64, moment: u64, guess: u64) -> Sight
-    requires { ⌜ passes (now book) ≡ true ⌝ }
+// A body as it is looked up. `calm` is told only of a book in which no velocity can overflow.
+fn found(book: &[u8], number: u64, m: f64, moment: u64, guess: u64, calm: bool) -> Sight
+    requires { ⌜ Ready (now book) calm ⌝ }
     ensures { λ r. ⌜ r ≡ foundOf (now (book .entry)) number m moment ⌝ }
 {
     if 0.0 < m {
@@ -75,7 +77,9 @@ fn found(book: &[u8], number: u64, m: f64, moment: u64, guess: u64) -> Sight
         else {
             return blank_sight(m, 6);
         };
-        return found_at(book::known::place_at(book, entry, moment), entry, m);
+        let place = book::known::place_at(book, entry, moment);
+        let slow = book::known::slow_at(book, entry, moment, calm);
+        return found_at(place, slow, entry, m);
     }
     blank_sight(m, 0)
 }
@@ -98,11 +102,11 @@ fn with_pull(s: Sight, pull: Pull) -> Sight
     s
 }
 
-fn sight(book: &[u8], number: u64, coefficient: f64, moment: u64, guess: u64) -> Sight
-    requires { ⌜ passes (now book) ≡ true ⌝ }
+fn sight(book: &[u8], number: u64, coefficient: f64, moment: u64, guess: u64, calm: bool) -> Sight
+    requires { ⌜ Ready (now book) calm ⌝ }
     ensures { λ r. ⌜ r ≡ sightOf (now (book .entry)) number coefficient moment ⌝ }
 {
-    let there = found(book, number, coefficient, moment, guess);
+    let there = found(book, number, coefficient, moment, guess, calm);
     if 0.0 < coefficient {
         let place = there.place;
         return with_pull(there, pull(place, coefficient));
@@ -112,12 +116,12 @@ fn sight(book: &[u8], number: u64, coefficient: f64, moment: u64, guess: u64) ->
 
 // The bodies' own pulls on the Earth are worked out here, once for the moment: those of the first two, which are almost always
 // used, side by side.
-pub fn sights_at(book: &[u8], setting: Setting, moment: u64, guesses: Guesses) -> Sights
-    requires { ⌜ passes (now book) ≡ true ⌝ }
+pub fn sights_at(book: &[u8], setting: Setting, moment: u64, guesses: Guesses, calm: bool) -> Sights
+    requires { ⌜ Ready (now book) calm ⌝ }
     ensures { λ r. ⌜ r ≡ sights (now (book .entry)) setting moment ⌝ }
 {
-    let found_moon = found(book, 2, setting.moon, moment, guesses.moon);
-    let found_sun = found(book, 3, setting.sun, moment, guesses.sun);
+    let found_moon = found(book, 2, setting.moon, moment, guesses.moon, calm);
+    let found_sun = found(book, 3, setting.sun, moment, guesses.sun, calm);
     let moon_place = found_moon.place;
     let sun_place = found_sun.place;
     let pulls = two_pulls(moon_place, setting.moon, sun_place, setting.sun);
@@ -125,9 +129,9 @@ pub fn sights_at(book: &[u8], setting: Setting, moment: u64, guesses: Guesses) -
     let by_sun = pulls.second;
     let moon = with_pull(found_moon, by_moon);
     let sun = with_pull(found_sun, by_sun);
-    let venus = sight(book, 4, setting.venus, moment, guesses.venus);
-    let mars = sight(book, 5, setting.mars, moment, guesses.mars);
-    let jupiter = sight(book, 6, setting.jupiter, moment, guesses.jupiter);
+    let venus = sight(book, 4, setting.venus, moment, guesses.venus, calm);
+    let mars = sight(book, 5, setting.mars, moment, guesses.mars, calm);
+    let jupiter = sight(book, 6, setting.jupiter, moment, guesses.jupiter, calm);
     Sights {
         moon,
         sun,

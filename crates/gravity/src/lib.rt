@@ -96,6 +96,6 @@ fn rule(book: &[u8], setting: Setting, moment: u64, position: Vector) -> Acceler
         mars: 0,
         jupiter: 0,
     };
-    let bodies = known::sights_at(book, setting, moment, g);
+    let bodies = known::sights_at(book, setting, moment, g, false);
     known::acceleration_under(bodies, setting.earth, position)
 }

@@ -14,7 +14,7 @@ use Rattle.motion.specs.declared.Outcome.{Outcome}
 use Rattle.motion.specs.declared.RunAnswer.{RunAnswer}
 use Rattle.fixed.specs.declared.FixedAnswer.{FixedAnswer}
 use Rattle.conic.specs.declared.ConicAnswer.{ConicAnswer}
-use Rattle.link.specs.Lent.{dateIn, sineCosineIn, placeIn, vectorIn, coordinatesIn, guessesIn, fixedIn, Both, bothIn, namesIn, figuresIn}
+use Rattle.link.specs.Lent.{dateIn, sineCosineIn, motionIn, vectorIn, coordinatesIn, guessesIn, fixedIn, Both, bothIn, namesIn, figuresIn}
 
 -- values as they lie in memory, or document 01's number of the refusal
 pub data Answer (A : Type 0) : Type 0 where
@@ -59,7 +59,7 @@ ofSineCosine (SineCosineAnswer.Both both) = Accepted (sineCosineIn both)
 ofSineCosine (SineCosineAnswer.Refused k) = Refused k
 
 abbrev pub ofPosition : PositionAnswer → Answer (List Float)
-ofPosition (PositionAnswer.At p) = Accepted (placeIn p)
+ofPosition (PositionAnswer.At m) = Accepted (motionIn m)
 ofPosition (PositionAnswer.Refused k) = Refused k
 
 abbrev pub ofAcceleration : AccelerationAnswer → Answer (List Float)

@@ -9,7 +9,7 @@ use Rattle.sine.specs.declared.SineCosine.{SineCosine}
 use Rattle.state.specs.declared.Vector.{Vector}
 use Rattle.state.specs.declared.State.{State}
 use Rattle.state.specs.declared.Setting.{Setting}
-use Rattle.book.specs.declared.Place.{Place}
+use Rattle.book.specs.declared.Motion.{Motion}
 use Rattle.gravity.specs.declared.Guesses.{Guesses}
 use Rattle.fixed.specs.declared.EarthFixed.{EarthFixed}
 use Rattle.conic.specs.declared.Conic.{Conic}
@@ -56,8 +56,8 @@ dateIn date = date .year ∷ date .month ∷ date .day ∷ []
 abbrev pub sineCosineIn : SineCosine → List Float
 sineCosineIn both = both .sine ∷ both .cosine ∷ []
 
-abbrev pub placeIn : Place → List Float
-placeIn p = p .x ∷ p .y ∷ p .z ∷ []
+abbrev pub motionIn : Motion → List Float
+motionIn m = m .place .x ∷ m .place .y ∷ m .place .z ∷ m .velocity .x ∷ m .velocity .y ∷ m .velocity .z ∷ []
 
 abbrev pub vectorIn : Vector → List Float
 vectorIn v = v .x ∷ v .y ∷ v .z ∷ []

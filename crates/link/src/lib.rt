@@ -124,18 +124,15 @@ pub extern "C" fn belfry_book_passes(book: &[u8]) -> u64
 }
 
 #[no_mangle]
-pub extern "C" fn belfry_position(
-    book: &[u8],
-    body: u64,
-    moment: u64,
-    position: &mut [f64; 3],
-) -> u64
-    ensures { λ r. ⌜ handed r (now (position .exit)) ≡ answered (now (position .entry))
+pub extern "C" fn belfry_position(book: &[u8], body: u64, moment: u64, motion: &mut [f64; 6]) -> u64
+    ensures { λ r. ⌜ handed r (now (motion .exit)) ≡ answered (now (motion .entry))
         (ofPosition (positionAnswer (now (book .entry)) body moment)) ⌝ }
 {
     match book::position(book, body, moment) {
-        PositionAnswer::At(p) => {
-            *position = [p.x, p.y, p.z];
+        PositionAnswer::At(at) => {
+            let place = at.place;
+            let speed = at.velocity;
+            *motion = [place.x, place.y, place.z, speed.x, speed.y, speed.z];
             0
         }
         PositionAnswer::Refused(k) => k,

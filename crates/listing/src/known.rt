@@ -50,7 +50,7 @@ pub fn start(book: &[u8], order: Order) -> Course
     let moment = state.moment;
     Course {
         state,
-        sights: sights_at(book, setting, moment, g),
+        sights: sights_at(book, setting, moment, g, false),
         left: (order.target - moment) / (order.h as u64),
         done: 0,
     }
@@ -84,6 +84,7 @@ pub fn portion(book: &[u8], setting: Setting, h: u32, from: Course, out: &mut [u
     requires { ⌜ OnCourse (now book) setting h from ⌝ }
     ensures { λ r. ⌜ Advanced (now (book .entry)) setting h from (now (out .entry)) (now (out .exit)) r ⌝ }
 {
+    let calm = book::known::book_calm(book);
     let mut now = from.state;
     let mut sighted = from.sights;
     let mut left = from.left;
@@ -93,7 +94,7 @@ pub fn portion(book: &[u8], setting: Setting, h: u32, from: Course, out: &mut [u
         if left == 0 {
             return portion_of(Outcome::Arrived, now, sighted, left, done, at);
         }
-        let stepped = step_under(book, setting, now, h, guesses_of(sighted), sighted);
+        let stepped = step_under(book, setting, now, h, guesses_of(sighted), calm, sighted);
         match stepped {
             Stepped::On(next, seen) => {
                 at = put_state(out, at, next);

@@ -9,10 +9,9 @@ use gravity::known::sights_at;
 use state::Setting;
 use state::State;
 use state::Vector;
-ghost use mathlib.Core.Bool.{true};
 ghost use mathlib.Core.Path.{_≡_};
 ghost use Prim.Native.Nat.{_+_, _/_, _<_};
-ghost use Rattle.book.specs.Passes.{passes};
+ghost use Rattle.book.specs.Calm.{Ready};
 ghost use Rattle.basis.specs.Limits.{endOfTime};
 ghost use Rattle.gravity.specs.Acceleration.{accelerationAt};
 ghost use Rattle.gravity.specs.Sight.{sights};
@@ -107,16 +106,17 @@ fn fourth_stage(
     s: State,
     h: u32,
     g: Guesses,
+    calm: bool,
     a1: Vector,
     a2: Vector,
     a3: Vector,
 ) -> Stepped
-    requires { ⌜ (passes (now book) ≡ true) × (s .moment < endOfTime) ⌝ }
+    requires { ⌜ (Ready (now book) calm) × (s .moment < endOfTime) ⌝ }
     ensures { λ r. ⌜ r ≡ kept (bodiesAfter (now (book .entry)) setting h s) (stage4 (accelerationAt (now (book .entry)) setting) h s a1 a2 a3) ⌝ }
 {
     let v3 = toward(state::velocity_of(s), half_of(h), a2);
     let p4 = toward(state::position_of(s), seconds(h), v3);
-    let bodies = sights_at(book, setting, s.moment + h as u64, g);
+    let bodies = sights_at(book, setting, s.moment + h as u64, g, calm);
     let answer = acceleration_under(bodies, setting.earth, p4);
     match answer {
         AccelerationAnswer::Is(a4) => finish(s, h, bodies, a1, a2, a3, a4),
@@ -130,11 +130,12 @@ fn third_stage(
     s: State,
     h: u32,
     g: Guesses,
+    calm: bool,
     bodies: Sights,
     a1: Vector,
     a2: Vector,
 ) -> Stepped
-    requires { ⌜ (passes (now book) ≡ true) × (s .moment < endOfTime) ⌝ }
+    requires { ⌜ (Ready (now book) calm) × (s .moment < endOfTime) ⌝ }
     requires { ⌜ bodies ≡ sights (now book) setting (s .moment + h / 2) ⌝ }
     ensures { λ r. ⌜ r ≡ kept (bodiesAfter (now (book .entry)) setting h s) (stage3 (accelerationAt (now (book .entry)) setting) h s a1 a2) ⌝ }
 {
@@ -143,7 +144,7 @@ fn third_stage(
     let p3 = toward(state::position_of(s), half, v2);
     let answer = acceleration_under(bodies, setting.earth, p3);
     match answer {
-        AccelerationAnswer::Is(a3) => fourth_stage(book, setting, s, h, g, a1, a2, a3),
+        AccelerationAnswer::Is(a3) => fourth_stage(book, setting, s, h, g, calm, a1, a2, a3),
         AccelerationAnswer::Refused(k) => Stepped::Off(k),
     }
 }
@@ -155,16 +156,17 @@ pub fn second_stage(
     s: State,
     h: u32,
     g: Guesses,
+    calm: bool,
     a1: Vector,
 ) -> Stepped
-    requires { ⌜ (passes (now book) ≡ true) × (s .moment < endOfTime) ⌝ }
+    requires { ⌜ (Ready (now book) calm) × (s .moment < endOfTime) ⌝ }
     ensures { λ r. ⌜ r ≡ kept (bodiesAfter (now (book .entry)) setting h s) (stage2 (accelerationAt (now (book .entry)) setting) h s a1) ⌝ }
 {
     let p2 = toward(state::position_of(s), half_of(h), state::velocity_of(s));
-    let bodies = sights_at(book, setting, s.moment + (h / 2) as u64, g);
+    let bodies = sights_at(book, setting, s.moment + (h / 2) as u64, g, calm);
     let answer = acceleration_under(bodies, setting.earth, p2);
     match answer {
-        AccelerationAnswer::Is(a2) => third_stage(book, setting, s, h, g, bodies, a1, a2),
+        AccelerationAnswer::Is(a2) => third_stage(book, setting, s, h, g, calm, bodies, a1, a2),
         AccelerationAnswer::Refused(k) => Stepped::Off(k),
     }
 }

@@ -62,7 +62,8 @@ pub fn walk_on(
     requires { ⌜ MayWalk (now book) start h target ⌝ }
     ensures { λ r. ⌜ r ≡ withGuesses (now (book .entry)) setting given (runTo (step (now (book .entry)) setting h) target budget start) ⌝ }
 {
-    let mut bodies = sights_at(book, setting, start.moment, given);
+    let calm = book::known::book_calm(book);
+    let mut bodies = sights_at(book, setting, start.moment, given, calm);
     let mut now = start;
     let mut guesses = given;
     let mut n: u32 = 0;
@@ -70,7 +71,7 @@ pub fn walk_on(
         if now.moment == target {
             return handed_back(Outcome::Arrived, n, now, guesses);
         }
-        let stepped = step_under(book, setting, now, h, guesses, bodies);
+        let stepped = step_under(book, setting, now, h, guesses, calm, bodies);
         match stepped {
             Stepped::On(next, seen) => {
                 now = next;

@@ -7,21 +7,21 @@ use native.Mathlib.Nat.{le-trans, le-of-eq, mul-one, one-mul, mul-le-mul-right, 
 use native.Mathlib.Omega.{arith}
 use lib.Dec.{lit≤}
 use lib.ListN.{length}
-use lib.Pow.{pow-pos, pow-add, pow-lt}
+use lib.Pow.{pow-pos}
 use lib.Ieee.{Float, nan, inf, fin, binary64, down, div, ofInt, round}
 use lib.Ieee.Scale.{finite}
-use lib.Ieee.Exact.{HasValue, round-exact}
+use lib.Ieee.Exact.{HasValue}
 use Rattle.basis.specs.Limits.{circle}
 use Rattle.basis.specs.Choice.{if_then_else_, _<?_}
 use Rattle.basis.specs.Floats.{_⊗_, _⊘_, whole}
-use Rattle.basis.proofs.Bounds.{Within, Held, within-finite, round-within, neg-within, mul-within, add-within, div-within}
+use Rattle.basis.proofs.Bounds.{Within, Held, power-held, within-finite, round-within, neg-within, mul-within, add-within, div-within}
 use Rattle.sine.specs.declared.SineCosine.{SineCosine}
 use Rattle.sine.specs.declared.SineCosineAnswer.{SineCosineAnswer}
 use Rattle.sine.specs.declared.SineCosineAnswer.the-variants.{Both, Refused}
 use Rattle.sine.specs.Sine.{octant, within, c, angle, horner, sineCoefficients, cosineCoefficients, column, S, C, sineCosine, sineCosineAnswer}
 use Rattle.sine.proofs.Octants.{within-le}
 
--- ---- floats to bound by: some whole numbers, and 2^i / 2^k
+-- ---- whole numbers to bound by
 
 octant-held : Held octant 1
 unfolding round
@@ -30,23 +30,6 @@ octant-held = record { divides = lit≤ tt; exact = (refl, refl) }
 forty-five-held : Held 45 1
 unfolding round
 forty-five-held = record { divides = lit≤ tt; exact = (refl, refl) }
-
-units-of : (l i k : ℕ) → k ≤ l → 2 ^ i * 2 ^ l ≡ 1 * 2 ^ (l - k + i) * 2 ^ k
-units-of l i k h =
-    let e : i + l ≡ l - k + i + k = omega arith in
-    sym (pow-add 2 i l) ∙ ap (λ (z : ℕ). 2 ^ z) e ∙ pow-add 2 (l - k + i) k ∙ ap (λ (z : ℕ). z * 2 ^ k) (sym (one-mul (2 ^ (l - k + i))))
-
-below-top : (l e i k : ℕ) → i ≤ e → 1 * 2 ^ (l - k + i) < 2 ^ (l + suc e)
-below-top l e i k h =
-    let g : l - k + i < l + suc e = omega arith in
-    le-trans (le-of-eq (ap suc (one-mul (2 ^ (l - k + i))))) (pow-lt g)
-
-power-held : (i k : ℕ) → i ≤ 1023 → k ≤ 1074 → Held (2 ^ i) (2 ^ k)
-power-held i k h g =
-    record {
-      divides = pow-pos k;
-      exact = round-exact binary64 false (2 ^ i) (2 ^ k) 1 (1074 - k + i) (pow-pos k) (lit≤ tt) (below-top 1074 1023 i k h) (units-of 1074 i k g);
-    }
 
 -- ---- the angle: x / 10^10 is at most 45, and c at most 1 / 45
 

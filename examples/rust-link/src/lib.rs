@@ -12,7 +12,7 @@ extern "C" {
     fn belfry_sine_cosine(parts: u64, both: &mut [f64; 2]) -> u64;
     fn belfry_book_passes(book: *const u8, length: usize) -> u64;
     fn belfry_position(
-        book: *const u8, length: usize, body: u64, moment: u64, position: &mut [f64; 3],
+        book: *const u8, length: usize, body: u64, moment: u64, motion: &mut [f64; 6],
     ) -> u64;
     fn belfry_acceleration(
         book: *const u8, length: usize, coefficients: &[f64; 6], dut: u32, moment: u64,
@@ -133,12 +133,12 @@ pub fn book_passes(book: &[u8]) -> Result<(), u64> {
     answer(unsafe { belfry_book_passes(book.as_ptr(), book.len()) }, ())
 }
 
-/// In km from the Earth.
-pub fn position(book: &[u8], body: u64, moment: u64) -> Result<[f64; 3], u64> {
-    let mut position = [0.0; 3];
+/// In km from the Earth, and then the velocity in km/s.
+pub fn position(book: &[u8], body: u64, moment: u64) -> Result<[f64; 6], u64> {
+    let mut motion = [0.0; 6];
     let number =
-        unsafe { belfry_position(book.as_ptr(), book.len(), body, moment, &mut position) };
-    answer(number, position)
+        unsafe { belfry_position(book.as_ptr(), book.len(), body, moment, &mut motion) };
+    answer(number, motion)
 }
 
 /// In km/s², at a position in km.

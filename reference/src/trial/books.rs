@@ -151,6 +151,18 @@ pub fn zeros(c: &mut Chance) -> Vec<Piece> {
     (0..30).map(|i| piece(c, i)).collect()
 }
 
+/// A body by entries of two milliseconds. At the middle of each it stands still where it should, and in
+/// every third its velocity overflows there; the last of those is not above the floats by a little.
+pub fn fast(body: u16) -> Vec<Piece> {
+    let slope = |i: u64| match i % 6 {
+        2 => 1e306,
+        5 => -8e304,
+        _ => 1.0,
+    };
+    let axes = |i| vec![4e5, slope(i), 2e5, 0.5, 1e5, if i == 8 { -slope(i) } else { -1.0 }];
+    (0..30).map(|i| Piece { body, start: 2 * i, span: 2, coefficients: axes(i) }).collect()
+}
+
 /// Books that pass and are of a kind of their own.
 pub fn special(c: &mut Chance) -> Vec<(&'static str, Vec<u8>)> {
     let whole = Piece { body: 6, start: 0, span: END, coefficients: coefficients(c, 16, 1000) };
@@ -163,6 +175,8 @@ pub fn special(c: &mut Chance) -> Vec<(&'static str, Vec<u8>)> {
     vec![
         ("no entries", build(&[])),
         ("Mars, then beyond the floats", build(&[near, gone])),
+        ("Moon too fast", build(&fast(2))),
+        ("Jupiter too fast", build(&fast(6))),
         ("one entry over all time", build(&[whole])),
         ("one entry, the last millisecond", build(&[last])),
         ("zeros of either sign", build(&zeros(c))),

@@ -27,12 +27,13 @@ pub fn crossing(c: &mut Chance, w: &World) -> Vec<(String, Trip)> {
     noted("", trip)
 }
 
-/// A stage within a millisecond of the start or the end of an entry.
+/// A stage within a millisecond of the start, the middle or the end of an entry.
 pub fn edge(c: &mut Chance, w: &World) -> Vec<(String, Trip)> {
     let e = some_entry(c, w);
-    let h = (e.span / c.between(1, 4) / 2 * 2).clamp(2, 86_400_000);
-    let at_start = c.one_in(2);
-    let place = if at_start { e.start } else { e.start + e.span };
+    let least = c.pick(&[2, 4, 10]);
+    let h = (e.span / c.between(1, 4) / 2 * 2).clamp(least, 86_400_000);
+    let places = [("start", e.start), ("middle", e.start + e.span / 2), ("end", e.start + e.span)];
+    let (side, place) = c.pick(&places);
     let (stage, back) = c.pick(&[("1", 0), ("2", h / 2), ("4", h)]);
     let off = c.below(3);
     let t = (place + off).saturating_sub(1 + back).min(END - 1);
@@ -42,7 +43,6 @@ pub fn edge(c: &mut Chance, w: &World) -> Vec<(String, Trip)> {
     trip.h = h as u32;
     trip.aim(c.between(1, 3));
     trip.budget = c.pick(&[1, 2, 1000]);
-    let side = if at_start { "start" } else { "end" };
     noted(&format!("stage {stage} at {side} {}", ["-1", "+0", "+1"][off as usize]), trip)
 }
 

@@ -80,8 +80,8 @@ pub fn on_body(c: &mut Chance, w: &World) -> Vec<(String, Trip)> {
     let mut t = trip(c, w);
     let now = t.state.moment;
     if let Some(i) = w.entries.iter().position(|e| covers(*e, now)) {
-        if let Ok(r) = crate::book::position(w.bytes(), i, now) {
-            t.state.position = r;
+        if let Ok(m) = crate::book::motion(w.bytes(), i, now) {
+            t.state.position = m.place;
             let body = usize::from(w.entries[i].body);
             t.setting.coefficients[body - 1] = 4900.0;
         }

@@ -1,11 +1,12 @@
 -- `gravity::rule` meets its contract. Assumes nothing.
 use Rattle.gravity.proofs.Under.{underIs}
+use Rattle.book.proofs.Slow.{untold}
 use borrow.Author.Needs.{needs}
 use Rattle.gravity.proofs.rule.Statement.{statement}
 use Rattle.gravity.proofs.rule.Tie as tie
 
 sights-at-requires : tie.Need-sights-at-requires
-sights-at-requires c κs = search needs
+sights-at-requires c κs = untold _ (c .before .pre)
 
 acceleration-under-requires : tie.Need-acceleration-under-requires
 acceleration-under-requires c κs = search needs

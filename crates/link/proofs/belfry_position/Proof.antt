@@ -5,7 +5,7 @@ use Rattle.link.proofs.belfry_position.Statement.{statement}
 use Rattle.link.proofs.belfry_position.Tie as tie
 
 returns : tie.Need-returns
-returns c = rw (← c .before .before .before .before .position .ensures, c .before .before .p .given .1) refl
+returns c = rw (← c .before .before .before .before .before .before .position .ensures, c .before .before .before .before .at .given .1) refl
 
 returns-2 : tie.Need-returns-2
 returns-2 c = rw (← c .before .before .before .position .ensures, c .before .k .given .1) refl

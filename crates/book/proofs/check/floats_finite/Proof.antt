@@ -1,73 +1,16 @@
--- `book::check::floats_finite` meets its contract. The invariant: the floats before k are finite. Assumes nothing.
-use native.Mathlib.Omega.{arith}
+-- `book::check::floats_finite` meets its contract: a float is finite where its bits are below an infinity's. Assumes nothing.
 use borrow.Author.Needs.{needs}
-use borrow.Author.Tests.{not-true, not-false}
-use Prim.Native.Nat.{_≤_, _-_}
-use mathlib.Core.Bool.{true}
-use mathlib.Core.Path.{_≡_, refl, sym}
-use Rattle.book.specs.Check.{floatsFinite}
-use native.Mathlib.Numerals.{add-one}
-use native.Mathlib.Nat.{le-antisymm}
-use Rattle.book.proofs.Below.{both, every, is-false, clash}
+use mathlib.Core.Path.{_∙_}
+use denote.Ref.{now}
+use Rattle.book.proofs.FiniteBits.{finite-below}
 use Rattle.book.proofs.check.floats_finite.Statement.{statement}
 use Rattle.book.proofs.check.floats_finite.Tie as tie
 
-abbrev Inv-loop : tie.InvT-loop
-Inv-loop book at n k₀ k = (k ≤ n) × (floatsFinite book at k ≡ true)
+floats-below-requires : tie.Need-floats-below-requires
+floats-below-requires c κs = search needs
 
-abbrev μ-loop : tie.MeasureT-loop
-μ-loop book at n k₀ k = n - k
-
-loop-holds : tie.Need-loop-holds Inv-loop μ-loop
-loop-holds c = (omega arith, refl)
-
-mul-u64-at : tie.Need-mul-u64-at Inv-loop μ-loop
-mul-u64-at c = omega arith
-
-add-u64-at : tie.Need-add-u64-at Inv-loop μ-loop
-add-u64-at c = omega arith
-
-u64-at-requires : tie.Need-u64-at-requires Inv-loop μ-loop
-u64-at-requires c κs = omega arith
-
-bits-finite-requires : tie.Need-bits-finite-requires Inv-loop μ-loop
-bits-finite-requires c κs = search needs
-
-returns : tie.Need-returns Inv-loop μ-loop
-returns c =
-    sym (is-false _ (λ h. clash (every _ _ h (c .before .before .before .before .loop .k) (c .before .before .before .loop-test .taken)) (rw (
-      ← c .before .before .u64-at .ensures,
-      ← c .before .bits-finite .ensures,
-    ) (not-true _ (c .if1 .taken)))))
-
-add-k : tie.Need-add-k Inv-loop μ-loop
-add-k c = omega arith
-
-loop-less : tie.Need-loop-less Inv-loop μ-loop
-loop-less c = omega arith
-
-loop-again : tie.Need-loop-again Inv-loop μ-loop
-loop-again c = (
-  omega arith,
-  rw add-one (both (c .before .before .before .before .loop .inv .1) (rw (← c .before .before .u64-at .ensures, ← c .before .bits-finite .ensures) (not-false _ (c .if1 .left)))),
-)
-
-returns-2 : tie.Need-returns-2 Inv-loop μ-loop
-returns-2 c = rw (le-antisymm (c .loop-test .left) (c .before .loop .inv .0)) (sym (c .before .loop .inv .1))
+returns : tie.Need-returns
+returns c = c .floats-below .ensures ∙ finite-below (now (c .before .before .args .book)) (c .before .before .args .at) (c .before .before .args .n)
 
 pub floats-finite-spec : {M : Type 1} → statement M
-floats-finite-spec =
-    tie.close
-    (tie.spec
-    Inv-loop
-    μ-loop
-    loop-holds
-    mul-u64-at
-    add-u64-at
-    u64-at-requires
-    bits-finite-requires
-    returns
-    add-k
-    loop-less
-    loop-again
-    returns-2)
+floats-finite-spec = tie.close (tie.spec floats-below-requires returns)

@@ -2,7 +2,7 @@
 use borrow.Author.Needs.{needs}
 use mathlib.Core.Path.{sym, _∙_}
 use Rattle.book.proofs.Found.{covered}
-use Rattle.book.proofs.BodyAt.{no-cover, not-finite, at-place}
+use Rattle.book.proofs.BodyAt.{no-cover, not-finite, too-fast, at-place}
 use Rattle.book.proofs.known.body_at.Statement.{statement}
 use Rattle.book.proofs.known.body_at.Tie as tie
 
@@ -21,14 +21,32 @@ returns c = sym (no-cover _ _ _ (sym (c .before .before .lookup-guessed .ensures
 place-at-requires : tie.Need-place-at-requires
 place-at-requires c κs = (c .before .before .before .before .before .pre, covered _ _ _ _ (sym (c .before .before .before .lookup-guessed .ensures) ∙ c .before .i .given .1))
 
+velocity-at-requires : tie.Need-velocity-at-requires
+velocity-at-requires c κs = (c .before .before .before .before .before .before .pre, covered _ _ _ _ (sym (c .before .before .before .before .lookup-guessed .ensures) ∙ c .before .before .i .given .1))
+
 place-finite-requires : tie.Need-place-finite-requires
 place-finite-requires c κs = search needs
 
+velocity-finite-requires : tie.Need-velocity-finite-requires
+velocity-finite-requires c κs = search needs
+
 returns-2 : tie.Need-returns-2
-returns-2 c = rw (c .before .before .place-at .ensures) (sym (at-place _ _ _ _ (sym (c .before .before .before .before .before .before .lookup-guessed .ensures) ∙ c .before .before .before .before .i .given .1) (rw (← c .before .before .place-at .ensures) (sym (c .before .place-finite .ensures) ∙ c .if1 .taken))))
+returns-2 c =
+    rw (c .before .before .before .before .before .place-at .ensures, c .before .before .before .before .velocity-at .ensures)
+    (sym
+    (at-place _ _ _ _ (sym (c .before .before .before .before .before .before .before .before .before .lookup-guessed .ensures) ∙ c .before .before .before .before .before .before .before .i .given .1)
+    (rw (← c .before .before .before .before .before .place-at .ensures) (sym (c .before .before .before .place-finite .ensures) ∙ c .before .before .if1 .taken))
+    (rw (← c .before .before .before .before .velocity-at .ensures) (sym (c .before .velocity-finite .ensures) ∙ c .if2 .taken))))
 
 returns-3 : tie.Need-returns-3
-returns-3 c = sym (not-finite _ _ _ _ (sym (c .before .before .before .before .before .before .lookup-guessed .ensures) ∙ c .before .before .before .before .i .given .1) (rw (← c .before .before .place-at .ensures) (sym (c .before .place-finite .ensures) ∙ c .if1 .left)))
+returns-3 c =
+    sym
+    (too-fast _ _ _ _ (sym (c .before .before .before .before .before .before .before .before .before .lookup-guessed .ensures) ∙ c .before .before .before .before .before .before .before .i .given .1)
+    (rw (← c .before .before .before .before .before .place-at .ensures) (sym (c .before .before .before .place-finite .ensures) ∙ c .before .before .if1 .taken))
+    (rw (← c .before .before .before .before .velocity-at .ensures) (sym (c .before .velocity-finite .ensures) ∙ c .if2 .left)))
+
+returns-4 : tie.Need-returns-4
+returns-4 c = sym (not-finite _ _ _ _ (sym (c .before .before .before .before .before .before .before .lookup-guessed .ensures) ∙ c .before .before .before .before .before .i .given .1) (rw (← c .before .before .before .place-at .ensures) (sym (c .before .place-finite .ensures) ∙ c .if1 .left)))
 
 pub body-at-spec : {M : Type 1} → statement M
 body-at-spec =
@@ -39,6 +57,9 @@ body-at-spec =
     enum-told
     returns
     place-at-requires
+    velocity-at-requires
     place-finite-requires
+    velocity-finite-requires
     returns-2
-    returns-3)
+    returns-3
+    returns-4)

@@ -1,95 +1,17 @@
--- `book::known::place_at` meets its contract: the entry's numbers and its block lie inside a book that passes. Assumes nothing.
-use native.Mathlib.Omega.{arith}
-use borrow.Author.Needs.{needs}
-use Prim.Native.Nat.{_+_, _≤_}
+-- `book::known::place_at` meets its contract: the entry's block lies inside a book that passes. Assumes nothing.
 use mathlib.Core.Path.{_∙_}
-use denote.Ref.{now}
-use lib.ListN.{length}
-use Rattle.book.specs.Contents.{entryAt}
-use Rattle.book.proofs.Passing.{passing, contents-inside, block-inside}
-use Rattle.book.proofs.Found.{covering}
 use Rattle.book.proofs.Turns.{place-by}
 use Rattle.book.proofs.known.place_at.Statement.{statement}
 use Rattle.book.proofs.known.place_at.Tie as tie
 
-inside : (c : tie.Start) → entryAt (c .args .entry) + 24 ≤ length (now (c .args .book))
-inside c = let q = contents-inside _ (passing _ (c .pre .0)) in omega arith
-
-mul-at : tie.Need-mul-at
-mul-at c = omega (arith, inside (c .before))
-
-add-at : tie.Need-add-at
-add-at c = omega (arith, inside (c .before))
-
-add-u16-at : tie.Need-add-u16-at
-add-u16-at c = omega (arith, inside (c .before))
-
-u16-at-requires : tie.Need-u16-at-requires
-u16-at-requires c κs = omega (arith, inside (c .before))
-
-cast-n : tie.Need-cast-n
-cast-n c = search needs
-
-add-u32-at : tie.Need-add-u32-at
-add-u32-at c = omega (arith, inside (c .before .before))
-
-u32-at-requires : tie.Need-u32-at-requires
-u32-at-requires c κs = omega (arith, inside (c .before .before))
-
-cast-offset : tie.Need-cast-offset
-cast-offset c = search needs
-
-add-u64-at : tie.Need-add-u64-at
-add-u64-at c = omega (arith, inside (c .before .before .before))
-
-u64-at-requires : tie.Need-u64-at-requires
-u64-at-requires c κs = omega (arith, inside (c .before .before .before))
-
-add-u64-at-2 : tie.Need-add-u64-at-2
-add-u64-at-2 c = omega (arith, inside (c .before .before .before .before))
-
-u64-at-requires-2 : tie.Need-u64-at-requires-2
-u64-at-requires-2 c κs = omega (arith, inside (c .before .before .before .before))
-
-argument-at-requires : tie.Need-argument-at-requires
-argument-at-requires c κs = let a = passing _ (c .before .before .before .before .before .pre .0) .allowed _ (c .before .before .before .before .before .pre .1 .0) in let v = covering _ _ _ (c .before .before .before .before .before .pre .1 .1) in omega arith
+reading-at-requires : tie.Need-reading-at-requires
+reading-at-requires c κs = c .before .pre
 
 series-at-requires : tie.Need-series-at-requires
-series-at-requires c κs =
-    let p = passing _ (c .before .before .before .before .before .before .pre .0) in
-    let a = p .allowed _ (c .before .before .before .before .before .before .pre .1 .0) in
-    let inside = block-inside _ p _ (c .before .before .before .before .before .before .pre .1 .0) in
-    let placed = p .placed _ (c .before .before .before .before .before .before .pre .1 .0) in (
-      omega arith,
-      rw (
-        c .before .before .before .u32-at .ensures,
-        c .before .before .before .before .u16-at .ensures,
-      ) (p .finites _ (c .before .before .before .before .before .before .pre .1 .0)),
-    )
+series-at-requires c κs = let r = c .reading-at .ensures in (r .inside, r .finites)
 
 returns : tie.Need-returns
-returns c =
-    c .series-at .ensures ∙ place-by _ _ _ _ _ _ (c .before .before .before .before .u32-at .ensures) (c .before .before .before .before .before .u16-at .ensures) (rw (
-      ← c .before .before .before .u64-at .ensures,
-      ← c .before .before .u64-at2 .ensures,
-    ) (c .before .argument-at .ensures))
+returns c = let r = c .before .reading-at .ensures in c .series-at .ensures ∙ place-by _ _ _ _ _ _ (r .offset) (r .size) (r .by)
 
 pub place-at-spec : {M : Type 1} → statement M
-place-at-spec =
-    tie.close
-    (tie.spec
-    mul-at
-    add-at
-    add-u16-at
-    u16-at-requires
-    cast-n
-    add-u32-at
-    u32-at-requires
-    cast-offset
-    add-u64-at
-    u64-at-requires
-    add-u64-at-2
-    u64-at-requires-2
-    argument-at-requires
-    series-at-requires
-    returns)
+place-at-spec = tie.close (tie.spec reading-at-requires series-at-requires returns)

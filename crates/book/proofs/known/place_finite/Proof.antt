@@ -1,31 +1,13 @@
--- `book::known::place_finite` meets its contract, by the tests in its order. Assumes nothing.
+-- `book::known::place_finite` meets its contract. Assumes nothing.
 use borrow.Author.Needs.{needs}
 use Rattle.book.proofs.known.place_finite.Statement.{statement}
 use Rattle.book.proofs.known.place_finite.Tie as tie
 
-is-finite-requires : tie.Need-is-finite-requires
-is-finite-requires c κs = search needs
-
-is-finite-requires-2 : tie.Need-is-finite-requires-2
-is-finite-requires-2 c κs = search needs
-
-is-finite-requires-3 : tie.Need-is-finite-requires-3
-is-finite-requires-3 c κs = search needs
+all-finite-requires : tie.Need-all-finite-requires
+all-finite-requires c κs = search needs
 
 returns : tie.Need-returns
-returns c =
-    rw (
-      ← c .before .before .before .before .is-finite .ensures,
-      c .before .before .before .if1 .taken,
-      ← c .before .before .is-finite2 .ensures,
-      c .before .if2 .taken,
-    ) (c .is-finite3 .ensures)
-
-returns-2 : tie.Need-returns-2
-returns-2 c = rw (← c .before .before .before .is-finite .ensures, c .before .before .if1 .taken, ← c .before .is-finite2 .ensures, c .if2 .left)
-
-returns-3 : tie.Need-returns-3
-returns-3 c = rw (← c .before .is-finite .ensures, c .if1 .left)
+returns c = c .all-finite .ensures
 
 pub place-finite-spec : {M : Type 1} → statement M
-place-finite-spec = tie.close (tie.spec is-finite-requires is-finite-requires-2 is-finite-requires-3 returns returns-2 returns-3)
+place-finite-spec = tie.close (tie.spec all-finite-requires returns)

@@ -7,7 +7,7 @@ use Rattle.gravity.proofs.known.found.Statement.{statement}
 use Rattle.gravity.proofs.known.found.Tie as tie
 
 lookup-guessed-requires : tie.Need-lookup-guessed-requires
-lookup-guessed-requires c κs = search needs
+lookup-guessed-requires c κs = c .before .before .pre .pass
 
 enum-known-entry : tie.Need-enum-known-entry
 enum-known-entry c = search needs
@@ -23,14 +23,24 @@ unfolding foundOf
 returns c = rw (c .before .before .before .before .if1 .taken, sym (c .before .before .before .lookup-guessed .ensures) ∙ c .before .enum-told .given .1, c .blank-sight .ensures)
 
 place-at-requires : tie.Need-place-at-requires
-place-at-requires c κs = (c .before .before .before .before .before .before .pre, covered _ _ _ _ (sym (c .before .before .before .lookup-guessed .ensures) ∙ c .before .entry .given .1))
+place-at-requires c κs = (c .before .before .before .before .before .before .pre .pass, covered _ _ _ _ (sym (c .before .before .before .lookup-guessed .ensures) ∙ c .before .entry .given .1))
+
+slow-at-requires : tie.Need-slow-at-requires
+slow-at-requires c κs = (c .before .before .before .before .before .before .before .pre, covered _ _ _ _ (sym (c .before .before .before .before .lookup-guessed .ensures) ∙ c .before .before .entry .given .1))
 
 found-at-requires : tie.Need-found-at-requires
 found-at-requires c κs = search needs
 
 returns-2 : tie.Need-returns-2
 unfolding foundOf
-returns-2 c = rw (c .before .before .before .before .before .before .if1 .taken, sym (c .before .before .before .before .before .lookup-guessed .ensures) ∙ c .before .before .before .entry .given .1, c .found-at .ensures, c .before .place-at .ensures)
+returns-2 c =
+    rw (
+      c .before .before .before .before .before .before .before .if1 .taken,
+      sym (c .before .before .before .before .before .before .lookup-guessed .ensures) ∙ c .before .before .before .before .entry .given .1,
+      c .found-at .ensures,
+      c .before .before .place-at .ensures,
+      c .before .slow-at .ensures,
+    )
 
 blank-sight-requires-2 : tie.Need-blank-sight-requires-2
 blank-sight-requires-2 c κs = search needs
@@ -49,6 +59,7 @@ found-spec =
     blank-sight-requires
     returns
     place-at-requires
+    slow-at-requires
     found-at-requires
     returns-2
     blank-sight-requires-2

@@ -11,15 +11,21 @@ blank-sight-requires : tie.Need-blank-sight-requires
 blank-sight-requires c κs = search needs
 
 returns : tie.Need-returns
-returns c = rw (c .before .blank-sight .ensures, sym (c .before .before .before .vector-is-finite .ensures) ∙ c .before .before .if1 .taken)
+returns c = rw (c .before .blank-sight .ensures, sym (c .before .before .before .before .vector-is-finite .ensures) ∙ c .before .before .before .if1 .taken, c .before .before .if2 .taken)
 
 blank-sight-requires-2 : tie.Need-blank-sight-requires-2
 blank-sight-requires-2 c κs = search needs
 
 returns-2 : tie.Need-returns-2
-returns-2 c = rw (c .blank-sight2 .ensures, sym (c .before .before .vector-is-finite .ensures) ∙ c .before .if1 .left)
+returns-2 c = rw (c .blank-sight2 .ensures, sym (c .before .before .before .vector-is-finite .ensures) ∙ c .before .before .if1 .taken, c .before .if2 .left)
+
+blank-sight-requires-3 : tie.Need-blank-sight-requires-3
+blank-sight-requires-3 c κs = search needs
+
+returns-3 : tie.Need-returns-3
+returns-3 c = rw (c .blank-sight3 .ensures, sym (c .before .before .vector-is-finite .ensures) ∙ c .before .if1 .left)
 
 pub found-at-spec : {M : Type 1} → statement M
 found-at-spec =
     tie.close
-    (tie.spec vector-is-finite-requires blank-sight-requires returns blank-sight-requires-2 returns-2)
+    (tie.spec vector-is-finite-requires blank-sight-requires returns blank-sight-requires-2 returns-2 blank-sight-requires-3 returns-3)

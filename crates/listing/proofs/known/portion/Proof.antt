@@ -5,23 +5,30 @@ use mathlib.Core.Path.{_≡_, refl, sym, _∙_}
 use native.Mathlib.Omega.{arith}
 use lib.ListN.{length}
 use denote.Ref.{now}
+use Rattle.book.specs.Calm.{Ready}
 use Rattle.motion.specs.declared.Outcome.the-variants.{Arrived, Going, Refused}
 use Rattle.listing.proofs.Courses.{Listing, begins, stands, text-ends, ends, refuses, goes-on}
 use Rattle.listing.proofs.known.portion.Statement.{statement}
 use Rattle.listing.proofs.known.portion.Tie as tie
 
 abbrev Inv-loop : tie.InvT-loop
-Inv-loop book setting h out₀ now₀ sighted₀ left₀ done₀ at₀ out now sighted left done at = (length out ≡ length out₀) × Listing book setting h (record { state = now₀; sights = sighted₀; left = left₀; done = done₀ }) out₀ out now sighted left done at
+Inv-loop book setting h out₀ calm now₀ sighted₀ left₀ done₀ at₀ out now sighted left done at = (length out ≡ length out₀) × Listing book setting h (record { state = now₀; sights = sighted₀; left = left₀; done = done₀ }) out₀ out now sighted left done at
 
 abbrev μ-loop : tie.MeasureT-loop
-μ-loop book setting h out₀ now₀ sighted₀ left₀ done₀ at₀ out now sighted left done at = left
+μ-loop book setting h out₀ calm now₀ sighted₀ left₀ done₀ at₀ out now sighted left done at = left
+
+book-calm-requires : tie.Need-book-calm-requires Inv-loop μ-loop
+book-calm-requires c κs = c .before .before .pre .pass
+
+ready : (c : tie.After-book-calm Inv-loop μ-loop) → Ready (now (c .before .before .before .args .book)) (c .book-calm .result)
+ready c = record { pass = c .before .before .before .pre .pass; calmly = λ told. sym (c .book-calm .ensures) ∙ told }
 
 loop-holds : tie.Need-loop-holds Inv-loop μ-loop
 loop-holds c =
-    let x = c .before .before .before .before .args in (refl, begins (now (x .book)) (x .setting) (x .h) (x .from) (now (x .out)) (c .before .before .before .before .pre))
+    let x = c .before .before .before .before .before .args in (refl, begins (now (x .book)) (x .setting) (x .h) (x .from) (now (x .out)) (c .before .before .before .before .before .pre))
 
 add-loop : tie.Need-add-loop Inv-loop μ-loop
-add-loop c = let w = c .loop .inv .1 .within in omega (arith, c .loop .inv .0, c .before .before .before .before .before .good)
+add-loop c = let w = c .loop .inv .1 .within in omega (arith, c .loop .inv .0, c .before .before .before .before .before .before .good)
 
 portion-of-requires : tie.Need-portion-of-requires Inv-loop μ-loop
 portion-of-requires c κs = tt
@@ -31,7 +38,7 @@ same-length c = c .before .before .before .loop .inv .0
 
 returns : tie.Need-returns Inv-loop μ-loop
 returns c =
-    let x = c .before .before .before .before .before .before .before .before .args in
+    let x = c .before .before .before .before .before .before .before .before .before .args in
     let l = c .before .before .before .loop in
     rw (c .portion-of .ensures) (ends (now (x .book)) (x .setting) (x .h) (x .from) (now (x .out)) (l .out) (l .now) (l .sighted) (l .left) (l .done) (l .at) (l .inv .1) Arrived (text-ends _ _ _ (l .left) (c .before .if1 .taken)) (λ z. let k : _≡_ {A = ℕ} 0 1 = cc in absurd (omega arith)))
 
@@ -40,9 +47,9 @@ guesses-of-requires c κs = tt
 
 step-under-requires : tie.Need-step-under-requires Inv-loop μ-loop
 step-under-requires c κs =
-    let x = c .before .before .before .before .before .before .before .before .args in
+    let x = c .before .before .before .before .before .before .before .before .before .args in
     let l = c .before .before .before .loop in
-    ((l .inv .1 .on .pass, stands (now (x .book)) (x .setting) (x .h) (x .from) (now (x .out)) (l .out) (l .now) (l .sighted) (l .left) (l .done) (l .at) (l .inv .1)), l .inv .1 .on .seen)
+    ((ready (c .before .before .before .before .before .before), stands (now (x .book)) (x .setting) (x .h) (x .from) (now (x .out)) (l .out) (l .now) (l .sighted) (l .left) (l .done) (l .at) (l .inv .1)), l .inv .1 .on .seen)
 
 enum-known-stepped : tie.Need-enum-known-stepped Inv-loop μ-loop
 enum-known-stepped c = c .match .keys1
@@ -61,7 +68,7 @@ loop-less c = let some = c .before .before .before .before .before .before .befo
 
 loop-again : tie.Need-loop-again Inv-loop μ-loop
 loop-again c =
-    let x = c .before .before .before .before .before .before .before .before .before .before .before .before .before .before .before .before .args in
+    let x = c .before .before .before .before .before .before .before .before .before .before .before .before .before .before .before .before .before .args in
     let l = c .before .before .before .before .before .before .before .before .before .before .before .loop in (
       c .before .before .put-state .kept .0 ∙ l .inv .0,
       goes-on (now (x .book)) (x .setting) (x .h) (x .from) (now (x .out)) (l .out) (l .now) (l .sighted) (l .left) (l .done) (l .at) (l .inv .1) (c .before .before .before .before .before .before .before .before .before .if1 .left) _ _ _ _ (sym (c .before .before .before .before .before .stepped .given .1) ∙ c .before .before .before .before .before .before .before .step-under .ensures) (c .before .before .put-state .ensures) (c .before .before .before .before .before .before .before .before .before .before .loop-test .taken) (c .before .before .put-state .kept .0),
@@ -78,7 +85,7 @@ same-length-2 c = c .before .before .before .before .before .before .before .bef
 
 returns-2 : tie.Need-returns-2 Inv-loop μ-loop
 returns-2 c =
-    let x = c .before .before .before .before .before .before .before .before .before .before .before .before .before .args in
+    let x = c .before .before .before .before .before .before .before .before .before .before .before .before .before .before .args in
     let l = c .before .before .before .before .before .before .before .before .loop in
     rw (c .portion-of2 .ensures) (refuses (now (x .book)) (x .setting) (x .h) (x .from) (now (x .out)) (l .out) (l .now) (l .sighted) (l .left) (l .done) (l .at) (l .inv .1) (c .before .before .before .before .before .before .if1 .left) _ (sym (c .before .before .stepped2 .given .1) ∙ c .before .before .before .before .step-under .ensures))
 
@@ -90,7 +97,7 @@ same-length-3 c = c .before .before .loop .inv .0
 
 returns-3 : tie.Need-returns-3 Inv-loop μ-loop
 returns-3 c =
-    let x = c .before .before .before .before .before .before .before .args in
+    let x = c .before .before .before .before .before .before .before .before .args in
     let l = c .before .before .loop in
     rw (c .portion-of3 .ensures) (ends (now (x .book)) (x .setting) (x .h) (x .from) (now (x .out)) (l .out) (l .now) (l .sighted) (l .left) (l .done) (l .at) (l .inv .1) Going refl (λ z. c .before .loop-test .left))
 
@@ -100,6 +107,7 @@ portion-spec =
     (tie.spec
     Inv-loop
     μ-loop
+    book-calm-requires
     loop-holds
     add-loop
     portion-of-requires

@@ -1,11 +1,12 @@
 -- `listing::known::start` meets its contract: the target is not before the state. Assumes nothing.
 use Rattle.listing.proofs.Courses.{not-before}
+use Rattle.book.proofs.Slow.{untold}
 use borrow.Author.Needs.{needs}
 use Rattle.listing.proofs.known.start.Statement.{statement}
 use Rattle.listing.proofs.known.start.Tie as tie
 
 sights-at-requires : tie.Need-sights-at-requires
-sights-at-requires c κs = search needs
+sights-at-requires c κs = untold _ (c .before .before .before .pre .pass)
 
 sub-t8 : tie.Need-sub-t8
 sub-t8 c = not-before _ _ _ (c .before .before .before .before .before .pre .reachable)

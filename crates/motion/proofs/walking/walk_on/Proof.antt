@@ -5,6 +5,7 @@ use Prim.Native.Nat.{ℕ, suc, _+_, _-_, _≤_, _<_}
 use native.Mathlib.Omega.{arith}
 use borrow.Author.Needs.{needs}
 use denote.Ref.{now}
+use Rattle.book.specs.Calm.{Ready}
 use Rattle.motion.specs.Step.{step}
 use Rattle.motion.specs.Run.{runTo}
 use Rattle.motion.specs.Kept.{Walking}
@@ -21,27 +22,33 @@ noMore : (n budget : ℕ) → budget ≤ n → budget - n ≡ 0
 noMore n budget h = omega arith
 
 abbrev Inv-loop : tie.InvT-loop
-Inv-loop book setting h target budget given bodies₀ now₀ guesses₀ n₀ bodies now guesses n =
+Inv-loop book setting h target budget given calm bodies₀ now₀ guesses₀ n₀ bodies now guesses n =
     Walking book setting now₀ h target budget given now bodies guesses n
 
 abbrev μ-loop : tie.MeasureT-loop
-μ-loop book setting h target budget given bodies₀ now₀ guesses₀ n₀ bodies now guesses n = budget - n
+μ-loop book setting h target budget given calm bodies₀ now₀ guesses₀ n₀ bodies now guesses n = budget - n
+
+book-calm-requires : tie.Need-book-calm-requires Inv-loop μ-loop
+book-calm-requires c κs = c .before .pre .pass
+
+ready : (c : tie.After-book-calm Inv-loop μ-loop) → Ready (now (c .before .before .args .book)) (c .book-calm .result)
+ready c = record { pass = c .before .before .pre .pass; calmly = λ told. sym (c .book-calm .ensures) ∙ told }
 
 sights-at-requires : tie.Need-sights-at-requires Inv-loop μ-loop
-sights-at-requires c κs = c .before .pre .pass
+sights-at-requires c κs = ready c
 
 loop-holds : tie.Need-loop-holds Inv-loop μ-loop
 loop-holds c =
-    let x = c .before .before .args in
+    let x = c .before .before .before .args in
     let b = now (x .book) in
-    walkStarts b (x .setting) (x .start) (x .h) (x .target) (x .budget) (x .given) (c .before .before .pre) _ (c .sights-at .ensures)
+    walkStarts b (x .setting) (x .start) (x .h) (x .target) (x .budget) (x .given) (c .before .before .before .pre) _ (c .sights-at .ensures)
 
 handed-back-requires : tie.Need-handed-back-requires Inv-loop μ-loop
 handed-back-requires c κs = tt
 
 returns : tie.Need-returns Inv-loop μ-loop
 returns c =
-    let x = c .before .before .before .before .before .before .before .args in
+    let x = c .before .before .before .before .before .before .before .before .args in
     let b = now (x .book) in
     let l = c .before .before .before .before .loop in
     c .handed-back .ensures
@@ -49,9 +56,9 @@ returns c =
 
 step-under-requires : tie.Need-step-under-requires Inv-loop μ-loop
 step-under-requires c κs =
-    let x = c .before .before .before .before .before .before .args in
+    let x = c .before .before .before .before .before .before .before .args in
     let l = c .before .before .before .loop in
-    ((c .before .before .before .before .before .before .pre .pass, walkIn (now (x .book)) (x .setting) (x .start) (x .h) (x .target) (x .budget) (x .given) (l .now) (l .bodies) (l .guesses) (l .n) (l .inv) (c .before .before .before .before .before .before .pre .ends)), l .inv .seen)
+    ((ready (c .before .before .before .before .before), walkIn (now (x .book)) (x .setting) (x .start) (x .h) (x .target) (x .budget) (x .given) (l .now) (l .bodies) (l .guesses) (l .n) (l .inv) (c .before .before .before .before .before .before .before .pre .ends)), l .inv .seen)
 
 enum-known-stepped : tie.Need-enum-known-stepped Inv-loop μ-loop
 enum-known-stepped c = c .match .keys1
@@ -60,14 +67,14 @@ guesses-from-requires : tie.Need-guesses-from-requires Inv-loop μ-loop
 guesses-from-requires c κs = tt
 
 add-n : tie.Need-add-n Inv-loop μ-loop
-add-n c = omega (arith, c .before .before .before .before .before .before .before .before .before .before .before .fits .budget)
+add-n c = omega (arith, c .before .before .before .before .before .before .before .before .before .before .before .before .fits .budget)
 
 loop-less : tie.Need-loop-less Inv-loop μ-loop
 loop-less c = omega arith
 
 loop-again : tie.Need-loop-again Inv-loop μ-loop
 loop-again c =
-    let x = c .before .before .before .before .before .before .before .before .before .before .before .args in
+    let x = c .before .before .before .before .before .before .before .before .before .before .before .before .args in
     let b = now (x .book) in
     let l = c .before .before .before .before .before .before .before .before .loop in
     rw (c .guesses-from .ensures) (walkGoesOn b (x .setting) (x .start) (x .h) (x .target) (x .budget) (x .given) (l .now) (l .bodies) (l .guesses) (l .n) (l .inv) _ _ (c .before .before .before .before .before .before .before .loop-test .taken) (c .before .before .before .before .before .if1 .left) (sym (c .before .before .stepped .given .1) ∙ c .before .before .before .before .step-under .ensures))
@@ -80,7 +87,7 @@ handed-back-requires-2 c κs = tt
 
 returns-2 : tie.Need-returns-2 Inv-loop μ-loop
 returns-2 c =
-    let x = c .before .before .before .before .before .before .before .before .before .before .before .args in
+    let x = c .before .before .before .before .before .before .before .before .before .before .before .before .args in
     let b = now (x .book) in
     let l = c .before .before .before .before .before .before .before .before .loop in
     let off = handedOff _ _ _ (sym (c .before .before .stepped2 .given .1) ∙ c .before .before .before .before .step-under .ensures) in
@@ -94,7 +101,7 @@ handed-back-requires-3 c κs = tt
 
 returns-3 : tie.Need-returns-3 Inv-loop μ-loop
 returns-3 c =
-    let x = c .before .before .before .before .before .before .before .args in
+    let x = c .before .before .before .before .before .before .before .before .args in
     let b = now (x .book) in
     let l = c .before .before .before .before .loop in
     c .handed-back3 .ensures
@@ -105,7 +112,7 @@ handed-back-requires-4 c κs = tt
 
 returns-4 : tie.Need-returns-4 Inv-loop μ-loop
 returns-4 c =
-    let x = c .before .before .before .before .before .before .before .args in
+    let x = c .before .before .before .before .before .before .before .before .args in
     let b = now (x .book) in
     let l = c .before .before .before .before .loop in
     c .handed-back4 .ensures
@@ -119,6 +126,7 @@ walk-on-spec =
     (tie.spec
     Inv-loop
     μ-loop
+    book-calm-requires
     sights-at-requires
     loop-holds
     handed-back-requires

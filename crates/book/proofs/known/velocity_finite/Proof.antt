@@ -1,0 +1,13 @@
+-- `book::known::velocity_finite` meets its contract. Assumes nothing.
+use borrow.Author.Needs.{needs}
+use Rattle.book.proofs.known.velocity_finite.Statement.{statement}
+use Rattle.book.proofs.known.velocity_finite.Tie as tie
+
+all-finite-requires : tie.Need-all-finite-requires
+all-finite-requires c κs = search needs
+
+returns : tie.Need-returns
+returns c = c .all-finite .ensures
+
+pub velocity-finite-spec : {M : Type 1} → statement M
+velocity-finite-spec = tie.close (tie.spec all-finite-requires returns)
