@@ -1,4 +1,4 @@
-//! The Earth-fixed turn.
+//! The Earth-fixed turn: precession from 1950.0 to the mean equator of date, then the turn.
 
 use crate::hour::{angle_at, universal, DAY};
 use crate::sine::{sine_cosine, C};
@@ -12,6 +12,32 @@ pub fn turn(sine: f64, cosine: f64) -> [Vector; 3] {
 /// (m1·X + m2·Y) + m3·Z for each row.
 pub fn turned(rows: [Vector; 3], v: Vector) -> Vector {
     rows.map(|m| (m[0] * v[0] + m[1] * v[1]) + m[2] * v[2])
+}
+
+/// Whole milliseconds from the epoch 1950.0 to moment 0: DELTJD is -0.076643 day.
+pub const SINCE_1950_0: u64 = 6_621_955;
+
+/// Document 000's table from 1950.0 to the mean equator of date, section ROTEQ, t in centuries.
+pub fn precession_by(t: f64) -> [Vector; 3] {
+    let series = |c: [f64; 4]| ((c[3] * t + c[2]) * t + c[1]) * t + c[0];
+    let a11 = series([1.0, 0.0, -0.00029697, -0.00000013]);
+    let a12 = series([0.0, -0.02234988, -0.00000676, 0.00000221]);
+    let a13 = series([0.0, -0.00971711, 0.00000207, 0.00000096]);
+    let a22 = series([1.0, 0.0, -0.00024976, -0.00000015]);
+    let a23 = series([0.0, 0.0, -0.00010859, -0.00000003]);
+    let a33 = series([1.0, 0.0, -0.00004721, 0.00000002]);
+    [[a11, a12, a13], [-a12, a22, a23], [-a13, a23, a33]]
+}
+
+/// At a moment of ephemeris time.
+pub fn precession(moment: u64) -> [Vector; 3] {
+    precession_by((moment + SINCE_1950_0) as f64 / 3_155_760_000_000.0)
+}
+
+/// Each element (first + second) + third, rows of the left by columns of the right.
+pub fn product(left: [Vector; 3], right: [Vector; 3]) -> [Vector; 3] {
+    let element = |row: Vector, j: usize| (row[0] * right[0][j] + row[1] * right[1][j]) + row[2] * right[2][j];
+    left.map(|row| [element(row, 0), element(row, 1), element(row, 2)])
 }
 
 /// The turn's rate on a day of UT.
@@ -28,7 +54,7 @@ pub fn earth_fixed(
         return Err(7);
     }
     let (sine, cosine) = sine_cosine(angle_at(ut)?)?;
-    let rows = turn(sine, cosine);
+    let rows = product(turn(sine, cosine), precession(moment));
     let p = turned(rows, position);
     let mut v = turned(rows, velocity);
     let w = rate(ut / DAY);

@@ -4,6 +4,7 @@ use reference::ask::answers;
 use reference::book::{self, Motion};
 use reference::calendar::{date_of, day_of};
 use reference::conic::{conic, Kind};
+use reference::fixed::{earth_fixed, precession, precession_by, SINCE_1950_0};
 use reference::hour::{angle_at, hour_angle, DAY, END};
 use reference::motion::{acceleration, start_checks, run, Outcome, Setting, State};
 use reference::root::root;
@@ -84,6 +85,60 @@ fn speeds() {
     assert_eq!(motion([1.0, 1e306], 1), Err(7));
     let three = book::body(&one(2, 0, 2000, &[1.0, 2.0, 3.0]), 2, 500).unwrap();
     assert_eq!(three.six(), [-1.5, -1.5, -1.5, -4.0, -4.0, -4.0]);
+}
+
+/// The table by document 000's own angles, which its series in T stand for.
+fn by_angles(t: f64) -> [[f64; 3]; 3] {
+    let angle = |c: [f64; 3]| (((c[2] * t + c[1]) * t + c[0]) * t / 3600.0).to_radians().sin_cos();
+    let (sa, ca) = angle([2304.997, 0.302, 0.0179]);
+    let (sz, cz) = angle([2304.997, 1.093, 0.0192]);
+    let (st, ct) = angle([2004.298, -0.426, -0.0416]);
+    [
+        [-sa * sz + ca * cz * ct, -ca * sz - sa * cz * ct, -cz * st],
+        [sa * cz + ca * sz * ct, ca * cz - sa * sz * ct, -sz * st],
+        [ca * st, -sa * st, ct],
+    ]
+}
+
+/// How far the two tables lie apart at most, at a day.
+fn apart(day: u64) -> f64 {
+    let t = (day * DAY + SINCE_1950_0) as f64 / 3_155_760_000_000.0;
+    let (table, other) = (precession(day * DAY), by_angles(t));
+    let pairs = table.iter().flatten().zip(other.iter().flatten());
+    pairs.map(|(a, b)| (a - b).abs()).fold(0.0, f64::max)
+}
+
+#[test]
+fn precession_is_that_of_the_angles() {
+    for day in 0..36_525 {
+        assert!(apart(day) < if day < 4_748 { 3e-10 } else { 5e-8 }, "{day} {}", apart(day));
+    }
+    let off = |i: usize, j: usize| precession(36_524 * DAY)[i][j] - by_angles(1.0)[i][j];
+    assert!((0..3).all(|i| (0..3).all(|j| off(i, j).abs() < 1e-6)));
+    assert_eq!(precession_by(0.0).map(|row| row.map(f64::abs)), [[1.0, 0.0, 0.0], [0.0, 1.0, 0.0], [0.0, 0.0, 1.0]]);
+}
+
+/// Latitude and longitude, in degrees, of an Earth-fixed position.
+fn ground(p: [f64; 3]) -> (f64, f64) {
+    ((p[2] / n(p).sqrt()).asin().to_degrees(), p[1].atan2(p[0]).to_degrees().rem_euclid(360.0))
+}
+
+/// Document 000's check cases 3 and 4 print an injection in 1950.0 coordinates and the ground point
+/// under it. What is left is nutation, which neither the document's table nor ours has; without
+/// precession both are off by 0.07 and 0.17 degrees. Signs of the third case as its other lines have
+/// them, where the print lost them.
+#[test]
+fn ground_points() {
+    let cases = [
+        (5428, 59_963_043, [5420.6087, 1780.2719, -3265.3654], (-29.706737, 77.658181)),
+        (4965, 61_495_707, [-6114.3780, -2343.8636, -545.66108], (-4.8322111, 350.40180)),
+    ];
+    for (day, ut, position, (latitude, longitude)) in cases {
+        let moment = day * DAY + ut + 35_000;
+        let (p, _) = earth_fixed(35_000, moment, position, [0.0; 3]).unwrap();
+        let (lat, lon) = ground(p);
+        assert!((lat - latitude).abs() < 0.003 && (lon - longitude).abs() < 0.003, "{lat} {lon}");
+    }
 }
 
 #[test]

@@ -13,9 +13,10 @@ use Rattle.sine.specs.declared.SineCosineAnswer.{SineCosineAnswer}
 use Rattle.sine.specs.declared.SineCosineAnswer.the-variants.{Both}
 use Rattle.basis.specs.Limits.{circle}
 use Rattle.sine.specs.Sine.{sineCosine, sineCosineAnswer}
+use Rattle.precession.specs.Precession.{precession}
 use Rattle.fixed.specs.declared.EarthFixed.{EarthFixed}
 use Rattle.fixed.specs.declared.FixedAnswer.the-variants.{Fixed, Refused}
-use Rattle.fixed.specs.Fixed.{turn, rate, rotation, turned, finiteFixed, finiteAnswer}
+use Rattle.fixed.specs.Fixed.{turn, product, rate, rotation, turned, finiteFixed, finiteAnswer}
 use Rattle.fixed.proofs.Accepted.{Accepted}
 
 pub sine-accepts : (parts : ℕ) → parts < circle → sineCosineAnswer parts ≡ Both (sineCosine parts)
@@ -29,7 +30,8 @@ pub turned-is :
     (state : State) (dut parts : ℕ) (of : SineCosine)
     → Accepted (state .moment) dut parts
     → sineCosineAnswer parts ≡ Both of
-    → turned (record { table = turn of; w = rate (utDay (state .moment) dut) }) state ≡ turned (rotation (state .moment) dut) state
+    → turned (record { table = product (turn of) (precession (state .moment)); w = rate (utDay (state .moment) dut) }) state
+    ≡ turned (rotation (state .moment) dut) state
 unfolding rotation
 turned-is state dut parts of a e =
     let same : of ≡ sineCosine parts = cc (sine-accepts parts (a .in-circle)) in

@@ -1,4 +1,4 @@
--- Document 01, "Earth-fixed turn and conic": a state in coordinates that turn with the Earth.
+-- Document 01, "Earth-fixed turn and conic", and document 02, R-2: a state in coordinates that turn with the Earth.
 use mathlib.Core.Bool.{Bool, not, _&&_}
 use mathlib.Core.List.{List, [], _∷_}
 use Prim.Native.Nat.{ℕ}
@@ -13,13 +13,10 @@ use Rattle.hour.specs.Hour.{utDay, utTime, hourAngle, hourAnswer}
 use Rattle.hour.specs.declared.HourAnswer.{HourAnswer}
 use Rattle.sine.specs.declared.SineCosine.{SineCosine}
 use Rattle.sine.specs.Sine.{c, sineCosine}
+use Rattle.precession.specs.Precession.{Table, precession}
 use Rattle.fixed.specs.declared.EarthFixed.{EarthFixed}
 use Rattle.fixed.specs.declared.FixedAnswer.{FixedAnswer}
 use Rattle.fixed.specs.declared.FixedAnswer.the-variants.{Fixed, Refused}
-
--- "three rows of three numbers"
-abbrev pub Table : Type 0
-Table = List (List Float)
 
 -- "(cos, sin, 0), (-sin, cos, 0), (0, 0, 1)"
 unfoldable pub turn : SineCosine → Table
@@ -45,6 +42,24 @@ times table v =
       z = rowTimes (getD table 2 []) v;
     }
 
+-- a column of a table, from its top
+unfoldable pub column : Table → ℕ → Vector
+column table j =
+    record {
+      x = getD (getD table 0 []) j nan;
+      y = getD (getD table 1 []) j nan;
+      z = getD (getD table 2 []) j nan;
+    }
+
+-- document 02, R-2: "The two tables of three by three are multiplied once .. each element is (first + second) + third": row by row on the
+-- left, column by column on the right
+unfoldable pub rowProduct : List Float → Table → List Float
+rowProduct row right = rowTimes row (column right 0) ∷ rowTimes row (column right 1) ∷ rowTimes row (column right 2) ∷ []
+
+unfoldable pub product : Table → Table → Table
+product left right =
+    rowProduct (getD left 0 []) right ∷ rowProduct (getD left 1 []) right ∷ rowProduct (getD left 2 []) right ∷ []
+
 -- "w = (0.00417807417/(1 + 0.000000000000521·d))·c" of the UT day d
 unfoldable pub rate : ℕ → Float
 rate d = (decimal 417_807_417 100_000_000_000 ⊘ (whole 1 ⊕ decimal 521 1_000_000_000_000_000 ⊗ whole d)) ⊗ c
@@ -54,15 +69,16 @@ pub record Rotation : Type 0 where
   pub table : Table
   pub w : Float
 
--- at a moment: the turn of its hour angle, and the rate of its UT day
+-- at a moment: R-2: "first taken to the mean equator of date by the precession table", of the moment itself, "and then turned", by its hour
+-- angle, "the turn on the left"; and the rate of its UT day
 unfoldable pub rotation : ℕ → ℕ → Rotation
 rotation moment dut =
     record {
-      table = turn (sineCosine (hourAngle (utDay moment dut) (utTime moment dut)));
+      table = product (turn (sineCosine (hourAngle (utDay moment dut) (utTime moment dut)))) (precession moment);
       w = rate (utDay moment dut);
     }
 
--- "Velocity x gains w·y and velocity y loses w·x, with x, y the turned position"
+-- "Velocity x gains w·y and velocity y loses w·x, with x, y the turned position" (so of the product)
 unfoldable pub turned : Rotation → State → EarthFixed
 turned by state =
     let p = times (by .table) (position state) in

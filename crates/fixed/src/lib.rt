@@ -10,7 +10,7 @@ ghost use Prim.Native.Nat.{_≤_};
 ghost use Rattle.basis.specs.Limits.{lastDay};
 ghost use Rattle.hour.specs.declared.HourAnswer.the-variants.{Parts};
 ghost use Rattle.hour.specs.Hour.{hourAnswer};
-ghost use Rattle.fixed.specs.Fixed.{turn, rowTimes, times, rate, turned, finiteFixed, finiteAnswer, fixedAnswer};
+ghost use Rattle.fixed.specs.Fixed.{turn, rowTimes, times, rowProduct, product, rate, turned, finiteFixed, finiteAnswer, fixedAnswer};
 
 // Position in km and velocity in km/s, in axes that turn with the Earth.
 pub struct EarthFixed {
@@ -51,6 +51,42 @@ fn table_times(table: [[f64; 3]; 3], v: Vector) -> Vector
         y: row_times(table[1], v),
         z: row_times(table[2], v),
     }
+}
+
+// The columns on the right, each from its top, are the vectors that the row is multiplied by.
+fn row_product(row: [f64; 3], right: [[f64; 3]; 3]) -> [f64; 3]
+    ensures { λ r. ⌜ r ≡ rowProduct row right ⌝ }
+{
+    let first = Vector {
+        x: right[0][0],
+        y: right[1][0],
+        z: right[2][0],
+    };
+    let second = Vector {
+        x: right[0][1],
+        y: right[1][1],
+        z: right[2][1],
+    };
+    let third = Vector {
+        x: right[0][2],
+        y: right[1][2],
+        z: right[2][2],
+    };
+    [
+        row_times(row, first),
+        row_times(row, second),
+        row_times(row, third),
+    ]
+}
+
+fn table_product(left: [[f64; 3]; 3], right: [[f64; 3]; 3]) -> [[f64; 3]; 3]
+    ensures { λ r. ⌜ r ≡ product left right ⌝ }
+{
+    [
+        row_product(left[0], right),
+        row_product(left[1], right),
+        row_product(left[2], right),
+    ]
 }
 
 // How fast the Earth turns on the UT day d, in radians a second.
@@ -107,7 +143,8 @@ fn fixed_at(state: State, dut: u32, parts: u64) -> FixedAnswer
         let moment = state.moment;
         let ut = moment - dut as u64;
         let w = turning_rate(ut / basis::DAY_LENGTH);
-        let fixed = turned_state(turn_table(of), w, state);
+        let table = table_product(turn_table(of), precession::known::table_at(moment));
+        let fixed = turned_state(table, w, state);
         if fixed_is_finite(fixed) {
             return FixedAnswer::Fixed(fixed);
         }

@@ -1,9 +1,10 @@
-//! The reference as a program: `reference ask [BOOK]`, `reference strip` and `reference repair`.
+//! The reference as a program: `reference ask [BOOK]`, `reference strip`, `reference repair`
+//! and `reference precession`, a line for each year from 1950 on: its day and the nine elements.
 
 use std::io::{self, BufWriter, Read, Write};
 use std::process::ExitCode;
 
-use reference::{ask, book, repair, strip};
+use reference::{ask, book, calendar, fixed, hour, repair, strip};
 
 fn standard_input() -> io::Result<Vec<u8>> {
     let mut input = Vec::new();
@@ -25,6 +26,16 @@ fn answer(words: &[String]) -> io::Result<bool> {
             eprint!("{}", repair::report(&answer));
             out.write_all(&answer.map_or(Vec::new(), |a| a.book))?;
         }
+        ["precession"] => {
+            for year in 1950..2050 {
+                let day = calendar::day_of(year, 1, 1).unwrap_or(0);
+                write!(out, "{day}")?;
+                for x in fixed::precession(day * hour::DAY).iter().flatten() {
+                    write!(out, " {x:e}")?;
+                }
+                writeln!(out)?;
+            }
+        }
         _ => return Ok(false),
     }
     out.flush()?;
@@ -36,7 +47,7 @@ fn main() -> ExitCode {
     match answer(&words) {
         Ok(true) => ExitCode::SUCCESS,
         Ok(false) => {
-            eprintln!("reference ask [BOOK] | reference strip | reference repair");
+            eprintln!("reference ask [BOOK] | reference strip | reference repair | reference precession");
             ExitCode::from(2)
         }
         Err(error) => {

@@ -33,22 +33,30 @@ sub-ut c = at-start (c .before .before .before .before .before .before) .not-bef
 turning-rate-requires : tie.Need-turning-rate-requires
 turning-rate-requires c κs = let a = at-start (c .before .before .before .before .before .before) in omega arith
 
+table-at-requires : tie.Need-table-at-requires
+table-at-requires c κs = let a = at-start (c .before .before .before .before .before .before .before .before) in omega arith
+
 at-turned :
     (c : tie.After-turned-state)
-    → let s = c .before .before .before .before .before .before .before .before .before .args in
+    → let s = c .before .before .before .before .before .before .before .before .before .before .before .args in
     c .turned-state .result ≡ turned (rotation (s .state .moment) (s .dut)) (s .state)
 at-turned c =
-    let found = c .before .before .before .before in
+    let found = c .before .before .before .before .before .before in
     let sine = sym (found .before .before .sine-cosine .ensures) ∙ found .of .given .1 in
-    rw (c .turned-state .ensures, c .before .turn-table .ensures, c .before .before .turning-rate .ensures)
-    (turned-is _ _ _ _ (at-start (found .before .before .before .before .before)) sine)
+    rw (
+      c .turned-state .ensures,
+      c .before .table-product .ensures,
+      c .before .before .table-at .ensures,
+      c .before .before .before .turn-table .ensures,
+      c .before .before .before .before .turning-rate .ensures,
+    ) (turned-is _ _ _ _ (at-start (found .before .before .before .before .before)) sine)
 
 at-tested :
     (c : tie.After-fixed-is-finite)
-    → let s = c .before .before .before .before .before .before .before .before .before .before .args in
+    → let s = c .before .before .before .before .before .before .before .before .before .before .before .before .args in
     (if not (c .fixed-is-finite .result) then Refused 7 else Fixed (c .before .turned-state .result)) ≡ finiteAnswer (s .state) (s .dut)
 at-tested c =
-    let tested = c .before .before .before .before .before .before .before .before in
+    let tested = c .before .before .before .before .before .before .before .before .before .before in
     rw (c .fixed-is-finite .ensures)
     (answer-is _ _ _ (sym (tested .before .state-is-finite .ensures) ∙ tested .if1 .taken) (at-turned (c .before)))
 
@@ -72,6 +80,8 @@ fixed-at-spec =
     returns
     sub-ut
     turning-rate-requires
+    (λ c κs. tt)
+    table-at-requires
     (λ c κs. tt)
     (λ c κs. tt)
     (λ c κs. tt)
