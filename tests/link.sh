@@ -1,9 +1,9 @@
 #!/bin/sh
-# Builds the archive of the exported calls and the two examples over it, and compares what they print with document 01's
+# Builds the two archives of the exported calls and the two examples over them, and compares what they print with document 01's
 # figures; then every call with the Rust reference, on inputs from a seed. One line for each check; ends with 1 if one failed.
 #
-# The archive is for x86-64. On another machine, or with LINK_NATIVE=1, the module that it is made of is compiled for this
-# machine by the kit's own compiler: same module, same optimiser.
+# The archives are for x86-64. On another machine, or with LINK_NATIVE=1, the modules that they are made of are compiled for this
+# machine by the kit's own compiler: same modules, same optimiser.
 cd "$(dirname "$0")/.." || exit 2
 work=$PWD/target/link
 mkdir -p "$work"
@@ -21,15 +21,15 @@ check() { # NAME COMMAND..
     fi
 }
 
-native_archive() {
-    rm -f "$work/liblink.a"
-    module_of link || return 1
-    "$tools/clang" "--target=$machine-unknown-linux-gnu" -O3 -fPIC -ffp-contract=off -x ir "$work/module.bc" -c -o "$work/link.o" &&
-        "$tools/llvm-ar" rcs "$work/liblink.a" "$work/link.o"
+native_archive() { # NAME
+    rm -f "$work/lib$1.a"
+    module_of "$1" || return 1
+    "$tools/clang" "--target=$machine-unknown-linux-gnu" -O3 -fPIC -ffp-contract=off -x ir "$work/module.bc" -c -o "$work/$1.o" &&
+        "$tools/llvm-ar" rcs "$work/lib$1.a" "$work/$1.o"
 }
 
 c_example() {
-    cc -std=c99 -Wall -Wextra -Werror -O2 -Icrates/link -o "$work/c-link" examples/c-link/main.c "$archive/liblink.a" &&
+    cc -std=c99 -Wall -Wextra -Werror -O2 -Icrates/link -o "$work/c-link" examples/c-link/main.c "$archive/liblink.a" "$archive/libmendlink.a" &&
         "$work/c-link" >"$work/c-link.out" && diff examples/link.expected "$work/c-link.out"
 }
 
@@ -45,10 +45,12 @@ same_as_reference() {
 if [ "$machine" = x86_64 ] && [ -z "${LINK_NATIVE:-}" ]; then
     archive=$PWD/target/staticlib
     check archive rt staticlib link
+    check archive-of-repair rt staticlib mendlink
 else
-    echo "this machine is $machine: the archive's module is compiled for it"
+    echo "this machine is $machine: the archives' modules are compiled for it"
     archive=$work
-    check archive native_archive
+    check archive native_archive link
+    check archive-of-repair native_archive mendlink
 fi
 check c-link c_example
 check rust-link rust_example

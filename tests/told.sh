@@ -1,9 +1,9 @@
 #!/usr/bin/env bash
-# What strip and ask say where something cannot be done: files that cannot be read, words that they do not take, a full disk.
+# What strip, ask and repair say where something cannot be done: files that cannot be read, words that they do not take, a full disk.
 # One line for each check; ends with 1 if one failed.
 cd "$(dirname "$0")/.." || exit 2
 . tests/programs.sh
-[ -x target/bin/ask ] && [ -x target/bin/strip ] || rt check ask strip >/dev/null || exit 2
+[ -x target/bin/ask ] && [ -x target/bin/strip ] && [ -x target/bin/repair ] || rt check ask strip repair >/dev/null || exit 2
 work=$PWD/target/told
 rm -rf "$work"
 mkdir -p "$work"
@@ -70,4 +70,20 @@ cat data/orders/check-case-1.order data/books/book31all.bin | $start target/bin/
 check "strip on a full disk" '' '^strip: cannot write the listing: No space left on device$'
 printf '' | $start target/bin/strip >/dev/full 2>"$work/err"
 check "a lone refusal on a full disk" '' '^strip: cannot write the listing: No space left on device$'
+
+for room in 61441 -1 0x10 '1 2' '' 123456789012345678901; do
+    says '' repair "$room"
+    check "repair with the room '$room'" '' '^use: repair '
+done
+says '' repair 8 8
+check "repair with two words" '' '^use: repair '
+says '' repair
+check "repair without input" '' '^REFUSED 16$'
+$start target/bin/repair <"$work" >"$work/out" 2>"$work/err"
+check "repair with a directory" '' '^repair: cannot read standard input: Is a directory$'
+$start target/bin/repair <"$work/long" >"$work/out" 2>"$work/err"
+check "repair with a book above the limit" '' '^REFUSED 1$'
+: >"$work/out"
+$start target/bin/repair <data/books/book30.bin >/dev/full 2>"$work/err"
+check "repair on a full disk" '' '^repair: cannot write the book: No space left on device$'
 exit $failed

@@ -4,12 +4,13 @@
 use belfrywool as proved;
 use reference::trial::chance::Chance;
 use reference::trial::floats::{flight, one_not_finite, wild};
+use reference::trial::mends::made;
 use reference::trial::plan::worlds;
 use reference::trial::runs::RUN;
 use reference::trial::times::{bad_dut, bad_moment, moment_dut};
 use reference::trial::trip::Trip;
 use reference::trial::world::World;
-use reference::{book, calendar, conic, fixed, hour, motion, root, sine};
+use reference::{book, calendar, conic, fixed, hour, motion, repair, root, sine};
 
 const TIMES: usize = 20_000;
 
@@ -137,4 +138,38 @@ fn books_and_runs() {
         }
     }
     assert!(compared > 1000);
+}
+
+/// A fate as the exported call tells it.
+fn fate(fate: &repair::Fate) -> u16 {
+    match fate {
+        repair::Fate::Kept(number) => *number as u16,
+        repair::Fate::Fields => 3001,
+        repair::Fate::Block => 3002,
+        repair::Fate::Coefficient => 3003,
+        repair::Fate::Overlap => 3004,
+        repair::Fate::Room => 3005,
+    }
+}
+
+#[test]
+fn damaged_books() {
+    for d in made(&mut Chance::new(4), 4000) {
+        let room = d.room.unwrap_or(61_441) as usize;
+        let mut output = vec![0xa5; room];
+        let got = proved::repair(&d.input, &mut output);
+        let expected = repair::repair(&d.input, room);
+        let mut left = vec![0xa5; room];
+        if let Ok(r) = &expected {
+            left[..r.book.len()].copy_from_slice(&r.book);
+        }
+        assert!(output == left, "{}, room {room}", d.case);
+        let expected = expected.map(|r| proved::Repaired {
+            fates: r.fates.iter().map(fate).collect(),
+            kept: r.fates.iter().filter(|f| matches!(f, repair::Fate::Kept(_))).count(),
+            written: r.book.len(),
+            changed: [r.changed.total, r.changed.count, r.changed.order, r.changed.offsets],
+        });
+        assert_eq!(got, expected, "{}, room {room}", d.case);
+    }
 }

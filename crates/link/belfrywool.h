@@ -1,4 +1,5 @@
-/* Belfrywool for C: link with the archive that `rt staticlib link` writes (target/staticlib/liblink.a).
+/* Belfrywool for C: link with the archive that `rt staticlib link` writes (target/staticlib/liblink.a), and for belfry_repair
+   with the one that `rt staticlib mendlink` writes (libmendlink.a).
 
    Each call returns BELFRY_ACCEPTED, or the number of a refusal. Outside a run a refused call leaves all lent
    memory as it was. No call keeps a pointer, allocates, or reads or writes anything but what it is lent.
@@ -35,7 +36,19 @@ enum {
     BELFRY_PARABOLA = 9,     /* c3 is zero */
     BELFRY_STRAIGHT = 10,    /* n(C) is zero: the conic is a straight line */
     BELFRY_ROOT = 11,        /* root of a negative or non-finite number */
-    BELFRY_ANGLE = 12        /* an angle of a circle or more */
+    BELFRY_ANGLE = 12,       /* an angle of a circle or more */
+    BELFRY_SHORT = 16        /* a repair's input or output of fewer than 8 bytes */
+};
+
+/* Fates of a damaged book's entries: below BELFRY_ENTRIES, as many as a book can have, an entry's new number; above it the
+   reason for which it is dropped. */
+enum {
+    BELFRY_ENTRIES = 2559,
+    BELFRY_FIELDS = 3001,      /* fields not allowed */
+    BELFRY_BLOCK = 3002,       /* its block lies outside the input */
+    BELFRY_COEFFICIENT = 3003, /* a coefficient is not finite */
+    BELFRY_OVERLAP = 3004,     /* it overlaps the last kept entry of its body */
+    BELFRY_ROOM = 3005         /* the output has no room for it */
 };
 
 /* The kinds of conic. */
@@ -64,6 +77,13 @@ uint64_t belfry_book_passes(const uint8_t *book, size_t length);
 
 /* motion: where a body stands at a moment, in km from the Earth, and then how fast it goes, in km/s. */
 uint64_t belfry_position(const uint8_t *book, size_t length, uint64_t body, uint64_t moment, double motion[6]);
+
+/* Writes what can be saved of a damaged book to `output`, of which at most 61440 bytes are used: a book that passes. Bytes
+   behind it keep their contents. fates: what became of each entry looked at. report: how many entries were looked at and how
+   many kept, the bytes written, then 1 or 0 for whether total, count, order and offsets changed.
+   Returns BELFRY_ACCEPTED, BELFRY_SHORT, or BELFRY_BOOK for an input above 61440 bytes. */
+uint64_t belfry_repair(const uint8_t *input, size_t length, uint8_t *output, size_t room,
+                       uint16_t fates[BELFRY_ENTRIES], uint64_t report[7]);
 
 /* acceleration: in km/s^2, at a position in km. */
 uint64_t belfry_acceleration(const uint8_t *book, size_t length, const double coefficients[6], uint32_t dut,

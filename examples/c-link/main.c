@@ -86,6 +86,35 @@ static void positions(void) {
     }
 }
 
+/* What a repair did: entries kept of those looked at, bytes written, what changed, and each entry's fate. */
+static void repaired(const uint64_t report[7], const uint16_t *fates) {
+    printf(" kept %" PRIu64 " of %" PRIu64 ", %" PRIu64 " bytes, changed", report[1], report[0], report[2]);
+    for (int i = 3; i < 7; i++) printf(" %" PRIu64, report[i]);
+    printf(", fates");
+    for (uint64_t i = 0; i < report[0]; i++) printf(" %" PRIu16, fates[i]);
+    printf("\n");
+}
+
+static void repairs(void) {
+    uint8_t damaged[BOOK], whole[BOOK], output[BOOK + 8], again[BOOK + 8];
+    static uint16_t fates[BELFRY_ENTRIES];
+    uint64_t report[7];
+    const double series[9] = {1, 2, 3, 1, 2, 3, 1, 2, 3};
+    moon_book(whole, series);
+    moon_book(damaged, series);
+    put(put(damaged, 0, 4), 9, 4);
+    memset(output, 7, sizeof output);
+    belfry_repair(damaged, BOOK, output, sizeof output, fates, report);
+    printf("repair, total 0 and count 9:");
+    repaired(report, fates);
+    printf("as it was: %d, behind it: %d\n", memcmp(output, whole, BOOK) == 0, output[BOOK]);
+    belfry_repair(output, BOOK, again, sizeof again, fates, report);
+    printf("repaired again:");
+    repaired(report, fates);
+    printf("repair into 7 bytes:");
+    refused(belfry_repair(damaged, BOOK, output, 7, fates, report));
+}
+
 static void accelerations(void) {
     uint8_t book[BOOK];
     const double series[9] = {4, 0, 0, 0, 0, 0, 0, 0, 0};
@@ -167,6 +196,7 @@ int main(void) {
     calendar();
     angles();
     positions();
+    repairs();
     accelerations();
     runs();
     states();

@@ -1,4 +1,4 @@
-//! Where the archive lies: the folder that BELFRYWOOL_LIB names, or where `rt staticlib link` writes it.
+//! Where the archives lie: the folder that BELFRYWOOL_LIB names, or where `rt staticlib` writes them.
 
 use std::env::var;
 
@@ -6,7 +6,9 @@ fn main() {
     let here = var("CARGO_MANIFEST_DIR").expect("cargo sets it");
     let folder = var("BELFRYWOOL_LIB").unwrap_or_else(|_| format!("{here}/../../target/staticlib"));
     println!("cargo:rerun-if-env-changed=BELFRYWOOL_LIB");
-    println!("cargo:rerun-if-changed={folder}/liblink.a");
     println!("cargo:rustc-link-search=native={folder}");
-    println!("cargo:rustc-link-lib=static=link");
+    for name in ["link", "mendlink"] {
+        println!("cargo:rerun-if-changed={folder}/lib{name}.a");
+        println!("cargo:rustc-link-lib=static={name}");
+    }
 }

@@ -10,7 +10,7 @@ ghost use Prim.Native.Nat.{_+_, _*_, _<_, _≤_};
 ghost use lib.ListN.{length};
 ghost use Rattle.basis.specs.Choice.{_≤?_};
 ghost use Rattle.basis.specs.Limits.{endOfTime};
-ghost use Rattle.book.specs.Contents.{statedTotal, entryCount, entryAt};
+ghost use Rattle.book.specs.Contents.{statedTotal, entryCount, entryAt, sizeOf, offsetOf};
 ghost use Rattle.book.specs.Passes.{passes, fieldsAllowed, longestBook};
 ghost use Rattle.book.specs.Check.{bitsBelow, floatsBelow, floatsFinite, entryHolds, inOrder, nextInOrder};
 
@@ -55,6 +55,22 @@ fn bits_below(bits: u64, limit: u64) -> bool
     bits % 0x8000_0000_0000_0000 < limit
 }
 
+// An entry's count n.
+pub fn size_of(book: &[u8], i: usize) -> usize
+    requires { ⌜ entryAt i + 24 ≤ length (now book) ⌝ }
+    ensures { λ r. ⌜ (r ≡ sizeOf (now (book .entry)) i) × (r < 65_536) ⌝ }
+{
+    u16_at(book, 8 + 24 * i + 2) as usize
+}
+
+// The offset of an entry's block.
+pub fn offset_of(book: &[u8], i: usize) -> usize
+    requires { ⌜ entryAt i + 24 ≤ length (now book) ⌝ }
+    ensures { λ r. ⌜ (r ≡ offsetOf (now (book .entry)) i) × (r < 4_294_967_296) ⌝ }
+{
+    u32_at(book, 8 + 24 * i + 4) as usize
+}
+
 pub fn floats_below(book: &[u8], at: usize, n: usize, limit: u64) -> bool
     requires { ⌜ at + 8 * n ≤ length (now book) ⌝ }
     ensures { λ r. ⌜ r ≡ floatsBelow limit (now (book .entry)) at n ⌝ }
@@ -84,10 +100,8 @@ fn entry_holds(book: &[u8], i: usize, place: usize) -> bool
     if !fields_allowed(book, i) {
         return false;
     }
-    let entry = 8 + 24 * i;
-    let n = u16_at(book, entry + 2) as usize;
-    let offset = u32_at(book, entry + 4) as usize;
-    if offset == place {
+    let n = size_of(book, i);
+    if offset_of(book, i) == place {
         if place + 24 * n <= book.len() {
             return floats_finite(book, place, 3 * n);
         }

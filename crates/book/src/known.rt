@@ -12,6 +12,8 @@ use crate::bytes::u64_at;
 pub use crate::calm::book_calm;
 pub use crate::check::fields_allowed;
 pub use crate::check::floats_finite;
+pub use crate::check::offset_of;
+pub use crate::check::size_of;
 use crate::search::Stand;
 use crate::search::search;
 use crate::search::stand_at;

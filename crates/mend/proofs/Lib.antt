@@ -1,9 +1,2 @@
-pub mod Either
-pub mod Sounds
-pub mod Keys
-pub mod Inserted
-pub mod Looking
-pub mod Texts
-pub mod Books
-pub mod Settled
+pub mod Chosen
 pub mod Refusals

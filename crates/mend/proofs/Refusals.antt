@@ -2,14 +2,13 @@
 use Prim.Native.Nat.{ℕ, _≤_}
 use mathlib.Core.Bool.{Bool, true, false, _||_}
 use mathlib.Core.List.{List}
-use mathlib.Core.Path.{_≡_, refl, sym, ap, _∙_}
+use mathlib.Core.Path.{_≡_, refl, _∙_}
 use native.Mathlib.Omega.{arith}
 use lib.ListN.{length}
 use borrow.Author.Tests.{ltb-false, eq-eqb, ne-eqb}
-use Rattle.basis.specs.Choice.{if_then_else_, _<?_, _=?_}
-use Rattle.mend.specs.Repaired.{repairRefusal, Mended, repairAnswer, outputAfter, fatesAfter}
-use Rattle.mend.specs.declared.Report.{Report}
-use Rattle.mend.specs.declared.RepairAnswer.the-variants.{Written, Refused}
+use Rattle.basis.specs.Choice.{if_then_else_, _<?_}
+use Rattle.mend.specs.Repaired.{repairRefusal, told, mended, repairAnswer, outputAfter, fatesAfter, repairOutcome}
+use Rattle.mend.specs.declared.RepairAnswer.the-variants.{Refused}
 
 by-tests : (x y z : Bool) → _≡_ {A = ℕ} (if x || y then 16 else if z then 1 else 0) 0 → (x ≡ false) × (y ≡ false) × (z ≡ false)
 by-tests true y z h = absurd (omega arith)
@@ -23,14 +22,10 @@ refused-none input output h =
     (ltb-false input 8 (t .0), ltb-false output 8 (t .1), ltb-false 61_440 input (t .2))
 
 module _ (b out fates : List ℕ) where
-  pub answer-mended : (report : Report) (out-after fates-after : List ℕ) → repairRefusal (length b) (length out) ≡ 0 → Mended b out fates report out-after fates-after → (Written report ≡ repairAnswer b (length out)) × ((out-after ≡ outputAfter b out) × (fates-after ≡ fatesAfter b (length out) fates))
+  pub none-refused : repairRefusal (length b) (length out) ≡ 0 → mended b out fates ≡ repairOutcome b out fates
   unfolding repairAnswer outputAfter fatesAfter
-  answer-mended report out-after fates-after h m =
-      let e = eq-eqb (repairRefusal (length b) (length out)) 0 h in
-      (rw e (ap Written (m .reported)), (rw e (m .written), rw e (m .told)))
+  none-refused h = rw (eq-eqb (repairRefusal (length b) (length out)) 0 h)
 
-  pub answer-refused : (refusal : ℕ) → refusal ≡ repairRefusal (length b) (length out) → (refusal ≡ 0 → ⊥) → (Refused refusal ≡ repairAnswer b (length out)) × ((out ≡ outputAfter b out) × (fates ≡ fatesAfter b (length out) fates))
+  pub refused-by : (refusal : ℕ) → refusal ≡ repairRefusal (length b) (length out) → (refusal ≡ 0 → ⊥) → told (Refused refusal) out fates ≡ repairOutcome b out fates
   unfolding repairAnswer outputAfter fatesAfter
-  answer-refused refusal h n =
-      let e = ne-eqb (repairRefusal (length b) (length out)) 0 (λ z. n (h ∙ z)) in
-      (rw e (ap Refused h), (rw e, rw e))
+  refused-by refusal h n = rw (ne-eqb (repairRefusal (length b) (length out)) 0 (λ z. n (h ∙ z)), h)

@@ -1,18 +1,16 @@
 -- Document 02, R-10, "Save what can be saved of a damaged book": the whole answer, the output and the fates afterwards, from the
 -- input's bytes and the output's length.
-use Prim.Native.Nat.{ℕ, zero, min}
-use mathlib.Core.Bool.{Bool, _||_}
+use Prim.Native.Nat.{ℕ, min}
+use mathlib.Core.Bool.{_||_}
 use mathlib.Core.List.{List, []}
-use mathlib.Core.Path.{_≡_}
 use lib.ListN.{length}
 use Rattle.basis.specs.Choice.{if_then_else_, _<?_, _=?_}
 use Rattle.book.specs.Passes.{longestBook}
-use Rattle.mend.specs.Reasons.{lookedAt, reasons}
-use Rattle.mend.specs.Ordered.{ordered}
-use Rattle.mend.specs.Anew.{bookAnew, withText}
-use Rattle.mend.specs.Forward.{Sofar, forward}
+use Rattle.look.specs.Reasons.{lookedAt, reasons}
+use Rattle.look.specs.Ordered.{ordered}
+use Rattle.anew.specs.Anew.{bookAnew, withText}
+use Rattle.forward.specs.Forward.{Sofar, forward}
 use Rattle.mend.specs.Report.{reportOf}
-use Rattle.mend.specs.declared.Report.{Report}
 use Rattle.mend.specs.declared.RepairAnswer.{RepairAnswer}
 use Rattle.mend.specs.declared.RepairAnswer.the-variants.{Written, Refused}
 
@@ -34,13 +32,7 @@ repaired b room fates = forward b room (record { kept = []; fates = reasons b (l
 abbrev pub keptOf : List ℕ → ℕ → List ℕ
 keptOf b room = repaired b room [] .kept
 
--- what a call that is not refused comes to: the report, the output and the fates afterwards
-pub record Mended (b out fates : List ℕ) (report : Report) (out-after fates-after : List ℕ) : Type 0 where
-  pub reported : report ≡ reportOf b (keptOf b (roomOf (length out)))
-  pub written : out-after ≡ withText out 0 (bookAnew b (keptOf b (roomOf (length out))))
-  pub told : fates-after ≡ repaired b (roomOf (length out)) fates .fates
-
--- the answer, over the output's length; then the output and the fates afterwards, where a refusal leaves both as they are
+-- the answer, from the output's length alone; then the output and the fates afterwards, where a refusal leaves both as they are
 unfoldable pub repairAnswer : List ℕ → ℕ → RepairAnswer
 repairAnswer b output =
     if repairRefusal (length b) output =? 0 then Written (reportOf b (keptOf b (roomOf output))) else Refused (repairRefusal (length b) output)
@@ -52,3 +44,21 @@ outputAfter b out =
 unfoldable pub fatesAfter : List ℕ → ℕ → List ℕ → List ℕ
 fatesAfter b output fates =
     if repairRefusal (length b) output =? 0 then repaired b (roomOf output) fates .fates else fates
+
+-- what a caller has of a call: its answer, and what the lent output and the lent fates hold afterwards
+pub record Outcome : Type 0 where
+  pub answer : RepairAnswer
+  pub output : List ℕ
+  pub fates : List ℕ
+
+abbrev pub told : RepairAnswer → List ℕ → List ℕ → Outcome
+told answer output fates = record { answer = answer; output = output; fates = fates }
+
+abbrev pub repairOutcome : List ℕ → List ℕ → List ℕ → Outcome
+repairOutcome b out fates = told (repairAnswer b (length out)) (outputAfter b out) (fatesAfter b (length out) fates)
+
+-- the same of a call that is not refused, as the code has it
+abbrev pub mended : List ℕ → List ℕ → List ℕ → Outcome
+mended b out fates =
+    let kept = keptOf b (roomOf (length out)) in
+    told (Written (reportOf b kept)) (withText out 0 (bookAnew b kept)) (repaired b (roomOf (length out)) fates .fates)

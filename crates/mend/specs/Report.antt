@@ -1,13 +1,13 @@
 -- Document 02, R-10: the report "says if total, count, order or offsets changed".
-use Prim.Native.Nat.{ℕ, suc, _+_, _-_}
+use Prim.Native.Nat.{ℕ, _+_, _-_}
 use mathlib.Core.Bool.{Bool, not}
 use mathlib.Core.List.{List}
 use lib.ListN.{length, getD}
 use Rattle.basis.specs.Choice.{_<?_, _=?_}
 use Rattle.book.specs.Contents.{statedTotal, entryCount, offsetOf}
 use Rattle.book.specs.Passes.{allBelow}
-use Rattle.mend.specs.Reasons.{lookedAt}
-use Rattle.mend.specs.Anew.{bookLength, placeAnew}
+use Rattle.look.specs.Reasons.{lookedAt}
+use Rattle.anew.specs.Anew.{bookLength, placeAnew}
 use Rattle.mend.specs.declared.Changed.{Changed}
 use Rattle.mend.specs.declared.Report.{Report}
 

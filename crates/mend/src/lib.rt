@@ -1,36 +1,34 @@
 // Saves what can be saved of a damaged book: writes one that passes, from the entries that can be kept, and reports.
 
-mod forward;
-mod look;
 mod marks;
-mod write;
 
+use anew::known::write_book;
 use book::LONGEST_BOOK;
 use forward::Kept;
-use forward::go_forward;
-use look::looked_at;
-use look::put_in_order;
+use forward::known::go_forward;
+use look::known::looked_at;
+use look::known::put_in_order;
 use marks::report;
-use write::write_book;
 ghost use mathlib.Core.Path.{_≡_};
 ghost use Prim.Native.Nat.{_≤_};
 ghost use lib.ListN.{length};
-ghost use Rattle.mend.specs.Held.{held, Sized};
-ghost use Rattle.mend.specs.Repaired.{repairRefusal, roomOf, repaired, Mended, repairAnswer, outputAfter, fatesAfter};
+ghost use Rattle.forward.specs.Sized.{held, Sized};
+ghost use Rattle.mend.specs.Repaired.{repairRefusal, roomOf, repaired, told, mended, repairOutcome};
+ghost use Rattle.mend.specs.declared.RepairAnswer.the-variants.{Written};
 
 // As many as the longest book can have in its contents.
-pub const MOST_ENTRIES: usize = 2559;
+pub const MOST_ENTRIES: usize = look::MOST_ENTRIES;
 
 // Fates: an entry that is kept has its new number, which is below MOST_ENTRIES.
-pub const FIELDS: u16 = 3_001;
+pub const FIELDS: u16 = look::FIELDS;
 
-pub const BLOCK: u16 = 3_002;
+pub const BLOCK: u16 = look::BLOCK;
 
-pub const COEFFICIENT: u16 = 3_003;
+pub const COEFFICIENT: u16 = look::COEFFICIENT;
 
-pub const OVERLAP: u16 = 3_004;
+pub const OVERLAP: u16 = look::OVERLAP;
 
-pub const ROOM: u16 = 3_005;
+pub const ROOM: u16 = look::ROOM;
 
 pub struct Changed {
     pub total: bool,
@@ -82,7 +80,7 @@ fn room_of(output: usize) -> usize
 fn choose(input: &[u8], room: usize, fates: &mut [u16], order: &mut [u16], kept: &mut [u16]) -> Kept
     requires { ⌜ (8 ≤ length (now input)) × (length (now input) ≤ 61_440) × (8 ≤ room) × (room ≤ 61_440) ⌝ }
     requires { ⌜ (2559 ≤ length (now fates)) × (2559 ≤ length (now order)) × (2559 ≤ length (now kept)) ⌝ }
-    ensures { λ r. ⌜ Sized (now (input .entry)) room (now (kept .exit)) (r .count) (r .length) ⌝ }
+    ensures { λ r. ⌜ Sized (now (input .entry)) room (now (kept .exit)) (r .count) (r .last) (r .length) ⌝ }
     ensures { λ r. ⌜ held (now (kept .exit)) (r .count) (now (fates .exit)) ≡ repaired (now (input .entry)) room (now (fates .entry)) ⌝ }
 {
     let going = put_in_order(input, looked_at(input), order, fates);
@@ -98,7 +96,7 @@ fn mend_by(
 ) -> Report
     requires { ⌜ (8 ≤ length (now input)) × (length (now input) ≤ 61_440) × (8 ≤ length (now output)) ⌝ }
     requires { ⌜ (2559 ≤ length (now fates)) × (2559 ≤ length (now order)) × (2559 ≤ length (now kept)) ⌝ }
-    ensures { λ r. ⌜ Mended (now (input .entry)) (now (output .entry)) (now (fates .entry)) r (now (output .exit)) (now (fates .exit)) ⌝ }
+    ensures { λ r. ⌜ told (Written r) (now (output .exit)) (now (fates .exit)) ≡ mended (now (input .entry)) (now (output .entry)) (now (fates .entry)) ⌝ }
 {
     let chosen = choose(input, room_of(output.len()), fates, order, kept);
     let count = chosen.count;
@@ -109,7 +107,7 @@ fn mend_by(
 fn mend(input: &[u8], output: &mut [u8], fates: &mut [u16]) -> Report
     requires { ⌜ (8 ≤ length (now input)) × (length (now input) ≤ 61_440) × (8 ≤ length (now output)) ⌝ }
     requires { ⌜ 2559 ≤ length (now fates) ⌝ }
-    ensures { λ r. ⌜ Mended (now (input .entry)) (now (output .entry)) (now (fates .entry)) r (now (output .exit)) (now (fates .exit)) ⌝ }
+    ensures { λ r. ⌜ told (Written r) (now (output .exit)) (now (fates .exit)) ≡ mended (now (input .entry)) (now (output .entry)) (now (fates .entry)) ⌝ }
 {
     let mut order = [0u16; MOST_ENTRIES];
     let mut kept = [0u16; MOST_ENTRIES];
@@ -117,9 +115,7 @@ fn mend(input: &[u8], output: &mut [u8], fates: &mut [u16]) -> Report
 }
 
 pub fn repair(input: &[u8], output: &mut [u8], fates: &mut [u16; MOST_ENTRIES]) -> RepairAnswer
-    ensures { λ r. ⌜ r ≡ repairAnswer (now (input .entry)) (length (now (output .entry))) ⌝ }
-    ensures { λ r. ⌜ now (output .exit) ≡ outputAfter (now (input .entry)) (now (output .entry)) ⌝ }
-    ensures { λ r. ⌜ now (fates .exit) ≡ fatesAfter (now (input .entry)) (length (now (output .entry))) (now (fates .entry)) ⌝ }
+    ensures { λ r. ⌜ told r (now (output .exit)) (now (fates .exit)) ≡ repairOutcome (now (input .entry)) (now (output .entry)) (now (fates .entry)) ⌝ }
 {
     let refusal = refusal_of(input.len(), output.len());
     if refusal == 0 {

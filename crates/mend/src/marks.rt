@@ -2,15 +2,16 @@
 
 use crate::Changed;
 use crate::Report;
-use crate::look::looked_at;
-use book::bytes::u16_at;
 use book::bytes::u32_at;
+use book::known::offset_of;
+use book::known::size_of;
+use look::known::looked_at;
 ghost use mathlib.Core.Path.{_≡_};
 ghost use Prim.Native.Nat.{_≤_};
 ghost use lib.ListN.{length};
-ghost use Rattle.mend.specs.Anew.{bookLength};
+ghost use Rattle.look.specs.Held.{AllSound};
+ghost use Rattle.anew.specs.Anew.{bookLength};
 ghost use Rattle.mend.specs.Report.{asInContents, offsetsStay, changedOf, reportOf};
-ghost use Rattle.mend.specs.Held.{AllSound};
 
 fn as_in_contents(kept: &[u16]) -> bool
     ensures { λ r. ⌜ r ≡ asInContents (now (kept .entry)) ⌝ }
@@ -36,15 +37,15 @@ fn offsets_stay(input: &[u8], kept: &[u16]) -> bool
     let mut place = 8 + 24 * kept.len();
     let mut k = 0;
     while k < kept.len() {
-        let entry = 8 + 24 * (kept[k] as usize);
-        let offset = u32_at(input, entry + 4) as usize;
+        let i = kept[k] as usize;
+        let offset = offset_of(input, i);
         if offset < place {
             return false;
         }
         if place < offset {
             return false;
         }
-        place += 24 * (u16_at(input, entry + 2) as usize);
+        place += 24 * size_of(input, i);
         k += 1;
     }
     true

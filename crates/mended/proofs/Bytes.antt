@@ -3,14 +3,14 @@ use Prim.Native.Nat.{ℕ, zero, suc, _+_, _-_, _*_, _/_, _%_, _<_, _≤_}
 use mathlib.Core.List.{List, [], _∷_, _++_}
 use mathlib.Core.Bool.{Bool, true, false}
 use mathlib.Core.Logic.{_⊎_, inl, inr, ⊎-elim}
-use mathlib.Core.Path.{_≡_, refl, sym, ap, _∙_}
+use mathlib.Core.Path.{_≡_, refl, sym}
 use native.Mathlib.Omega.{arith}
 use lib.ListN.{length, take, drop, getD, length-take, List·getD-append, List·getD-eq-default}
 use lib.Seq.{drop-cons, drop-drop, take-add, getD-append-add, getD-take, getD-drop}
 use borrow.Author.Tests.{ltb-true, ltb-false}
 use lib.Dec.{ltb}
 use Rattle.book.specs.Bytes.{u16At, u32At}
-use Rattle.mend.specs.Anew.{part, le32, bookLength, entryAnew, contentsAnew, blocksAnew, bookAnew}
+use Rattle.anew.specs.Anew.{part, le32, bookLength, entryAnew, contentsAnew, blocksAnew, bookAnew}
 use Rattle.book.specs.Contents.{entryAt, offsetOf, blockLength}
 use Rattle.mended.specs.Laws.{Bytes}
 

@@ -1,10 +1,10 @@
 -- The entries kept are in order, and those of one body do not overlap. Assumes nothing.
 use Prim
-use Prim.Native.Nat.{ℕ, zero, suc, _+_, _-_, _<_, _≤_}
-use mathlib.Core.Bool.{Bool, true, false, not, _&&_}
+use Prim.Native.Nat.{ℕ, suc, _+_, _-_, _<_, _≤_}
+use mathlib.Core.Bool.{Bool, true, false, _&&_}
 use mathlib.Core.List.{List, [], _∷_, _++_}
 use mathlib.Core.Logic.{⊎-elim}
-use mathlib.Core.Path.{_≡_, refl, sym, ap, subst, _∙_}
+use mathlib.Core.Path.{_≡_, refl, sym, ap, _∙_}
 use native.Mathlib.Nat.{eq-or-lt-of-le, le-of-suc-le-suc}
 use native.Mathlib.Omega.{arith}
 use lib.ListN.{length, getD, length-append, List·getD-append}
@@ -13,13 +13,15 @@ use borrow.Author.Tests.{ltb-false, lt-ltb, eq-eqb, ne-eqb, leb-true}
 use Rattle.basis.specs.Choice.{if_then_else_, _<?_, _=?_}
 use Rattle.book.specs.Contents.{bodyOf, startOf, endOf}
 use Rattle.book.specs.Passes.{ascends, overlaps}
-use Rattle.book.proofs.Passing.{Allowed, InOrder, allowed-of}
-use Rattle.mend.specs.Anew.{bookLength}
-use Rattle.mend.specs.Forward.{Sofar, overlapsLast, hasRoom, keep, let-go, settle, forward}
-use Rattle.mend.specs.Held.{Sound, AllSound}
-use Rattle.mend.proofs.Sounds.{sound-more, sound-at}
-use Rattle.mend.proofs.Keys.{not-before}
-use Rattle.mend.proofs.Inserted.{NoneBefore, Sorted}
+use Rattle.book.proofs.Passing.{InOrder, allowed-of}
+use Rattle.anew.specs.Anew.{bookLength}
+use Rattle.forward.specs.Forward.{Sofar, overlapsLast, hasRoom, keep, let-go, settle, forward}
+use Rattle.look.specs.Reasons.{lookedAt}
+use Rattle.look.specs.Ordered.{ordered}
+use Rattle.look.specs.Held.{Sound, AllSound}
+use Rattle.look.proofs.Sounds.{ordered-sound, sound-more, sound-at}
+use Rattle.look.proofs.Keys.{not-before}
+use Rattle.look.proofs.Inserted.{NoneBefore, Sorted, ordered-sorted}
 
 not-third : (x y z : Bool) → (x && y && z) ≡ false → x ≡ true → y ≡ true → z ≡ false
 not-third x y true h p q = rw (p, q) at h
@@ -50,7 +52,7 @@ module _ (b : List ℕ) where
     pub after : 0 < length kept → NoneBefore b (getD kept (length kept - 1) 0) rest
     pub fits : bookLength b kept ≤ room
 
-  pub none-chained : (room : ℕ) (rest : List ℕ) → 8 ≤ room → Sorted b rest → AllSound b rest → Chained room [] rest
+  none-chained : (room : ℕ) (rest : List ℕ) → 8 ≤ room → Sorted b rest → AllSound b rest → Chained room [] rest
   none-chained room rest h s a =
       record { links = λ k l. absurd (omega arith); sound = tt; sorted = s; sounds = a; after = λ l. absurd (omega arith); fits = omega arith }
 
@@ -104,6 +106,11 @@ module _ (b : List ℕ) where
       by false true e f = one-kept room (s .kept) i rest c e (leb-true (bookLength b (s .kept ++ (i ∷ []))) room f)
       by false false e f = let-gone room (s .kept) i rest c
 
-  pub forward-chained : (room : ℕ) (s : Sofar) (rest : List ℕ) → Chained room (s .kept) rest → Chained room (forward b room s rest .kept) []
-  forward-chained room s [] c = c
-  forward-chained room s (i ∷ is) c = forward-chained room (settle b room s i) is (settled-chained room s i is c)
+  -- some entries more, with others behind them
+  pub forward-through : (room : ℕ) (s : Sofar) (l rest : List ℕ) → Chained room (s .kept) (l ++ rest) → Chained room (forward b room s l .kept) rest
+  forward-through room s [] rest c = c
+  forward-through room s (i ∷ is) rest c = forward-through room (settle b room s i) is rest (settled-chained room s i (is ++ rest) c)
+
+-- none kept yet, and all the entries that go on ahead
+pub start-chained : (b : List ℕ) (room : ℕ) → 8 ≤ length b → 8 ≤ room → Chained b room [] (ordered b (lookedAt b))
+start-chained b room input enough = none-chained b room (ordered b (lookedAt b)) enough (ordered-sorted b (lookedAt b)) (ordered-sound b (lookedAt b) (omega arith))

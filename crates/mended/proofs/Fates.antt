@@ -7,30 +7,25 @@ use mathlib.Core.Logic.{_⊎_, inl, inr, ⊎-elim}
 use mathlib.Core.Path.{_≡_, refl, sym, ap, _∙_}
 use native.Mathlib.Nat.{eq-or-lt-of-le, le-of-suc-le-suc, not-suc-le-zero}
 use native.Mathlib.Omega.{arith}
-use lib.ListN.{length, getD, set, length-set}
-use lib.Seq.{getD-set-same, getD-set-other}
-use borrow.Author.Tests.{eqb-true, eqb-false, eq-eqb, ne-eqb}
+use lib.ListN.{length, getD, length-set, length-append, List·getD-append}
+use lib.Seq.{getD-at, getD-set-same, getD-set-other}
+use borrow.Author.Tests.{eqb-true, eq-eqb, ne-eqb}
 use Rattle.basis.specs.Choice.{if_then_else_, _=?_}
 use Rattle.book.specs.Passes.{ascends}
-use Rattle.mend.specs.Fates.{goesOn, overlapping, noRoom}
-use Rattle.mend.specs.Reasons.{lookedAt, firstReason, noted, reasons}
-use Rattle.mend.specs.Ordered.{insert, ordered}
-use Rattle.mend.specs.Forward.{Sofar, overlapsLast, hasRoom, keep, let-go, settle, forward}
-use Rattle.mend.specs.Repaired.{repaired}
-use Rattle.mend.proofs.Either.{either-way}
-use Rattle.mended.specs.Laws.{Fated}
-
--- i is no member of a list; i is one member of it
-abbrev NotIn : ℕ → List ℕ → Type 0
-NotIn i [] = Unit {0}
-NotIn i (j ∷ js) = (i ≡ j → ⊥) × NotIn i js
-
-abbrev Once : ℕ → List ℕ → Type 0
-Once i [] = ⊥
-Once i (j ∷ js) = ((i ≡ j) × NotIn i js) ⊎ ((i ≡ j → ⊥) × Once i js)
+use Rattle.look.specs.Fates.{goesOn, overlapping, noRoom}
+use Rattle.look.specs.Reasons.{lookedAt, firstReason, reasons}
+use Rattle.look.specs.Ordered.{insert, ordered}
+use Rattle.forward.specs.Forward.{Sofar, overlapsLast, hasRoom, keep, let-go, settle, forward}
+use Rattle.mend.specs.Repaired.{repaired, keptOf}
+use Rattle.mend.proofs.Chosen.{kept-of}
+use Rattle.look.proofs.Either.{either-way}
+use Rattle.forward.proofs.Settled.{kept-free}
+use Rattle.mended.specs.Laws.{NotIn, Once, keptAmong, Settled}
+use Rattle.mended.proofs.Chain.{start-chained, forward-through}
+use Rattle.mended.proofs.OwnBody.{own-last}
 
 module _ (b : List ℕ) where
-  -- ---- each entry that goes on stands once in the order
+  -- ---- each entry that goes on stands once in the order, and no other does
   not-inserted : (i n : ℕ) (l : List ℕ) → (i ≡ n → ⊥) → NotIn i l → NotIn i (insert b n l)
   not-inserted i n [] d a = (d, tt)
   not-inserted i n (j ∷ js) d a = either-way (NotIn i) (ascends b n j) (λ h. (d, a)) (λ h. (a .0, not-inserted i n js d (a .1)))
@@ -53,14 +48,14 @@ module _ (b : List ℕ) where
       (λ e. not-inserted i n (ordered b n) (λ q. omega arith) (not-yet n i (omega arith)))
       (λ e. not-yet n i (omega arith))
 
-  never : (n i : ℕ) → (firstReason b i ≡ goesOn → ⊥) → NotIn i (ordered b n)
+  pub never : (n i : ℕ) → (firstReason b i ≡ goesOn → ⊥) → NotIn i (ordered b n)
   never zero i h = tt
   never (suc n) i h =
       either-way (NotIn i) (firstReason b n =? goesOn)
       (λ e. not-inserted i n (ordered b n) (λ q. h (rw q (eqb-true (firstReason b n) goesOn e))) (never n i h))
       (λ e. never n i h)
 
-  once : (n i : ℕ) → i < n → firstReason b i ≡ goesOn → Once i (ordered b n)
+  pub once : (n i : ℕ) → i < n → firstReason b i ≡ goesOn → Once i (ordered b n)
   once zero i l h = absurd (not-suc-le-zero l)
   once (suc n) i l h =
       ⊎-elim
@@ -89,25 +84,33 @@ module _ (b : List ℕ) where
     forward-other s (j ∷ js) i a = forward-other (settle b room s j) js i (a .1) ∙ settle-other s i j (a .0)
 
     -- the entry itself is told one of three fates, each for its reason
-    settle-own : (s : Sofar) (i : ℕ) → i < length (s .fates) → Fated b room (s .kept) i (getD (settle b room s i .fates) i 0)
-    unfolding settle
-    settle-own s i h = by (overlapsLast b (s .kept) i) (hasRoom b room (s .kept) i) refl refl
+    fateNext : List ℕ → ℕ → ℕ
+    fateNext kept i = if overlapsLast b kept i then overlapping else if hasRoom b room kept i then length kept else noRoom
+
+    settle-own : (s : Sofar) (i : ℕ) → i < length (s .fates) → getD (settle b room s i .fates) i 0 ≡ fateNext (s .kept) i
+    unfolding settle fateNext
+    settle-own s i h = by (overlapsLast b (s .kept) i) (hasRoom b room (s .kept) i)
       where
-        by : (x y : Bool) → overlapsLast b (s .kept) i ≡ x → hasRoom b room (s .kept) i ≡ y → Fated b room (s .kept) i (getD ((if x then let-go 3_004 s i else if y then keep s i else let-go 3_005 s i) .fates) i 0)
-        by true y e f = inl (getD-set-same (s .fates) i overlapping 0 h, e)
-        by false true e f = inr (inr (getD-set-same (s .fates) i (length (s .kept)) 0 h, e, f))
-        by false false e f = inr (inl (getD-set-same (s .fates) i noRoom 0 h, e, f))
+        by : (x y : Bool) → getD ((if x then let-go overlapping s i else if y then keep s i else let-go noRoom s i) .fates) i 0 ≡ (if x then overlapping else if y then length (s .kept) else noRoom)
+        by true y = getD-set-same (s .fates) i overlapping 0 h
+        by false true = getD-set-same (s .fates) i (length (s .kept)) 0 h
+        by false false = getD-set-same (s .fates) i noRoom 0 h
 
-    pub record Settled (i fate : ℕ) : Type 0 where
-      pub kept : List ℕ
-      pub fated : Fated b room kept i fate
+    -- where entry i stands in a list, and what it is told there
+    record Met (s : Sofar) (l : List ℕ) (i fate : ℕ) : Type 0 where
+      before : List ℕ
+      behind : List ℕ
+      split : l ≡ before ++ i ∷ behind
+      fated : fate ≡ fateNext (forward b room s before .kept) i
 
-    forward-own : (s : Sofar) (l : List ℕ) (i : ℕ) → i < length (s .fates) → Once i l → Settled i (getD (forward b room s l .fates) i 0)
+    forward-own : (s : Sofar) (l : List ℕ) (i : ℕ) → i < length (s .fates) → Once i l → Met s l i (getD (forward b room s l .fates) i 0)
     forward-own s [] i h a = absurd a
     forward-own s (j ∷ js) i h a =
         ⊎-elim
-        (λ e. record { kept = s .kept; fated = rw (forward-other (settle b room s j) js i (e .1), ← e .0) (settle-own s i h) })
-        (λ e. forward-own (settle b room s j) js i (rw (settle-length s j) h) (e .1))
+        (λ e. record { before = []; behind = js; split = ap (λ (x : ℕ). x ∷ js) (sym (e .0)); fated = forward-other (settle b room s j) js i (e .1) ∙ rw (← e .0) (settle-own s i h) })
+        (λ e.
+        let m = forward-own (settle b room s j) js i (rw (settle-length s j) h) (e .1) in
+        record { before = j ∷ m .before; behind = m .behind; split = ap (λ (x : List ℕ). j ∷ x) (m .split); fated = m .fated })
         a
 
     -- ---- the whole: an entry with a first reason is told it, any other is settled going forward
@@ -133,6 +136,79 @@ module _ (b : List ℕ) where
     unfolding repaired
     dropped-at-sight fates i l h d = forward-other _ (ordered b (lookedAt b)) i (never (lookedAt b) i d) ∙ reason-told (lookedAt b) fates i l h d
 
-    pub settled-going-forward : (fates : List ℕ) (i : ℕ) → i < lookedAt b → i < length fates → firstReason b i ≡ goesOn → Settled i (getD (repaired b room fates .fates) i 0)
+    pub settled-going-forward : 8 ≤ length b → 8 ≤ room → (fates : List ℕ) (i : ℕ) → i < lookedAt b → i < length fates → firstReason b i ≡ goesOn → Settled b room i (getD (repaired b room fates .fates) i 0)
+    unfolding repaired fateNext
+    settled-going-forward input enough fates i l h e =
+        let s : Sofar = record { kept = []; fates = reasons b (lookedAt b) fates } in
+        let m = forward-own s (ordered b (lookedAt b)) i (rw (reasons-length (lookedAt b) fates) h) (once (lookedAt b) i l e) in
+        let among = kept-free b room s (record { kept = []; fates = [] }) (m .before) refl in
+        let chained = forward-through b room (record { kept = []; fates = [] }) (m .before) (i ∷ m .behind) (rw (← m .split) (start-chained b room input enough)) in
+        record {
+          before = m .before;
+          behind = m .behind;
+          order = m .split;
+          fated = m .fated ∙ rw (among, own-last b room (keptAmong b room (m .before)) i (m .behind) chained);
+        }
+
+    -- ---- an entry that is told a number is the entry of that number in the new book
+    -- going forward, what is kept stays in its place
+    record Stays (l m : List ℕ) (k : ℕ) : Type 0 where
+      inside : k < length m
+      same : getD m k 0 ≡ getD l k 0
+
+    settle-stays : (s : Sofar) (i k : ℕ) → k < length (s .kept) → Stays (s .kept) (settle b room s i .kept) k
+    unfolding settle
+    settle-stays s i k h =
+        let as-it-was : Stays (s .kept) (s .kept) k = record { inside = h; same = refl } in
+        either-way (λ (r : Sofar). Stays (s .kept) (r .kept) k) (overlapsLast b (s .kept) i)
+        (λ e. as-it-was)
+        (λ e.
+        either-way (λ (r : Sofar). Stays (s .kept) (r .kept) k) (hasRoom b room (s .kept) i)
+        (λ f. record { inside = omega (arith, length-append (s .kept) (i ∷ [])); same = List·getD-append (s .kept) (i ∷ []) 0 k h })
+        (λ f. as-it-was))
+
+    forward-stays : (s : Sofar) (l : List ℕ) (k : ℕ) → k < length (s .kept) → Stays (s .kept) (forward b room s l .kept) k
+    forward-stays s [] k h = record { inside = h; same = refl }
+    forward-stays s (j ∷ js) k h =
+        let one = settle-stays s j k h in
+        let rest = forward-stays (settle b room s j) js k (one .inside) in
+        record { inside = rest .inside; same = rest .same ∙ one .same }
+
+    forward-append : (s : Sofar) (l m : List ℕ) → forward b room s (l ++ m) ≡ forward b room (forward b room s l) m
+    forward-append s [] m = refl
+    forward-append s (j ∷ js) m = forward-append (settle b room s j) js m
+
+    -- a fate below 2,559 is the next number, and the entry is kept
+    numbered-next : (s : Sofar) (i : ℕ) → fateNext (s .kept) i < 2559 → (settle b room s i .kept ≡ s .kept ++ (i ∷ [])) × (fateNext (s .kept) i ≡ length (s .kept))
+    unfolding settle fateNext
+    numbered-next s i = by (overlapsLast b (s .kept) i) (hasRoom b room (s .kept) i)
+      where
+        by :
+            (x y : Bool) → (if x then overlapping else if y then length (s .kept) else noRoom) < 2559
+            → ((if x then let-go overlapping s i else if y then keep s i else let-go noRoom s i) .kept ≡ s .kept ++ (i ∷ []))
+            × ((if x then overlapping else if y then length (s .kept) else noRoom) ≡ length (s .kept))
+        by true y h = absurd (omega arith)
+        by false true h = (refl, refl)
+        by false false h = absurd (omega arith)
+
+    numbered :
+        (fates : List ℕ) (i : ℕ) → i < lookedAt b → i < length fates → firstReason b i ≡ goesOn → getD (repaired b room fates .fates) i 0 < 2559
+        → (getD (repaired b room fates .fates) i 0 < length (repaired b room fates .kept)) × (getD (repaired b room fates .kept) (getD (repaired b room fates .fates) i 0) 0 ≡ i)
     unfolding repaired
-    settled-going-forward fates i l h e = forward-own _ (ordered b (lookedAt b)) i (rw (reasons-length (lookedAt b) fates) h) (once (lookedAt b) i l e)
+    numbered fates i l h e below =
+        let s : Sofar = record { kept = []; fates = reasons b (lookedAt b) fates } in
+        let m = forward-own s (ordered b (lookedAt b)) i (rw (reasons-length (lookedAt b) fates) h) (once (lookedAt b) i l e) in
+        let t = forward b room s (m .before) in
+        let n = numbered-next t i (rw (← m .fated) below) in
+        let fate : getD (forward b room s (ordered b (lookedAt b)) .fates) i 0 ≡ length (t .kept) = m .fated ∙ n .1 in
+        let whole : forward b room s (ordered b (lookedAt b)) .kept ≡ forward b room (settle b room t i) (m .behind) .kept =
+        ap (λ (x : List ℕ). forward b room s x .kept) (m .split) ∙ ap (λ (r : Sofar). r .kept) (forward-append s (m .before) (i ∷ m .behind))
+        in
+        let here : length (t .kept) < length (settle b room t i .kept) = rw (n .0) (omega (arith, length-append (t .kept) (i ∷ []))) in
+        let stays = forward-stays (settle b room t i) (m .behind) (length (t .kept)) here in
+        rw (fate, whole) (stays .inside, stays .same ∙ ap (λ (x : List ℕ). getD x (length (t .kept)) 0) (n .0) ∙ getD-at (t .kept) i [] 0 (length (t .kept)) refl)
+
+    pub told-its-number :
+        (fates : List ℕ) (i : ℕ) → i < lookedAt b → i < length fates → firstReason b i ≡ goesOn → getD (repaired b room fates .fates) i 0 < 2559
+        → (getD (repaired b room fates .fates) i 0 < length (keptOf b room)) × (getD (keptOf b room) (getD (repaired b room fates .fates) i 0) 0 ≡ i)
+    told-its-number fates i l h e below = rw (← kept-of b room fates) (numbered fates i l h e below)

@@ -5,4 +5,8 @@ pub mod Bytes
 pub mod Whole
 pub mod Unchanged
 pub mod Twice
+pub mod Stability
+pub mod OwnBody
 pub mod Fates
+pub mod OneAnswer
+pub mod Refused

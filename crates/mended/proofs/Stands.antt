@@ -1,17 +1,17 @@
 -- A text that stands at a place of a list, and numbers read from it. Assumes nothing.
 use Prim.Native.Nat.{ℕ, zero, suc, _+_, _*_, _/_, _%_, _<_, _≤_}
-use mathlib.Core.List.{List, [], _∷_, _++_, append-assoc}
-use mathlib.Core.Path.{_≡_, refl, sym, ap, _∙_}
+use mathlib.Core.List.{List, [], _∷_, _++_}
+use mathlib.Core.Path.{_≡_, sym, ap, _∙_}
 use native.Mathlib.Nat.{add-zero, add-assoc}
 use native.Mathlib.Omega.{arith}
 use lib.ListN.{length, take, drop, getD, length-append, List·getD-append}
 use lib.Seq.{getD-append-add, getD-take, getD-drop}
 use Rattle.book.specs.Bytes.{u16At, u32At, u64At}
-use Rattle.book.specs.Contents.{entryAt, blockLength}
-use Rattle.mend.specs.Anew.{part, le32, blocksLength, entryAnew, contentsAnew, blockBytes, blocksAnew}
-use Rattle.mend.specs.Held.{AllSound}
-use Rattle.mend.proofs.Texts.{part-length, le32-length}
-use Rattle.mend.proofs.Books.{entry-length}
+use Rattle.book.specs.Contents.{blockLength}
+use Rattle.anew.specs.Anew.{part, le32, blocksLength, entryAnew, contentsAnew, blockBytes, blocksAnew}
+use Rattle.look.specs.Held.{AllSound}
+use Rattle.anew.proofs.Texts.{part-length}
+use Rattle.anew.proofs.Books.{entry-length}
 
 -- from `at` on, w reads as the text
 pub Stands : List ℕ → ℕ → List ℕ → Type 0

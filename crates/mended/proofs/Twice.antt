@@ -1,21 +1,20 @@
 -- The laws of a repaired book, over the whole call. Assumes nothing.
 use Prim.Native.Nat.{ℕ, _+_, _<_, _≤_}
 use mathlib.Core.Bool.{true, false}
-use mathlib.Core.List.{List, [], _∷_, _++_}
-use mathlib.Core.Path.{_≡_, refl, sym, ap, _∙_}
+use mathlib.Core.List.{List, _++_}
+use mathlib.Core.Path.{_≡_, ap, _∙_}
 use native.Mathlib.Omega.{arith}
 use lib.ListN.{length, drop, getD}
-use borrow.Author.Tests.{eq-eqb, lt-ltb, le-ltb}
+use borrow.Author.Tests.{eq-eqb, le-ltb}
 use Rattle.book.specs.Contents.{entryCount}
 use Rattle.book.specs.Passes.{passes}
 use Rattle.book.proofs.Passing.{Passing, passing, contents-inside}
-use Rattle.mend.specs.Anew.{bookLength, bookAnew, withText}
-use Rattle.mend.specs.Forward.{Sofar}
+use Rattle.anew.specs.Anew.{bookAnew}
 use Rattle.mend.specs.Report.{reportOf}
-use Rattle.mend.specs.Repaired.{repairRefusal, roomOf, repaired, keptOf, repairAnswer, outputAfter, fatesAfter}
+use Rattle.mend.specs.Repaired.{repairRefusal, roomOf, keptOf, repairAnswer, outputAfter, fatesAfter}
 use Rattle.mend.proofs.Refusals.{refused-none}
-use Rattle.mend.specs.declared.RepairAnswer.the-variants.{Written, Refused}
-use Rattle.mended.specs.Laws.{Bytes, Copied, upTo, numbered}
+use Rattle.mend.specs.declared.RepairAnswer.the-variants.{Written}
+use Rattle.mended.specs.Laws.{Bytes, Copied}
 use Rattle.mended.proofs.Written.{kept-chained, written-passes, written-copied, book-length}
 use Rattle.mended.proofs.Bytes.{bytes-anew}
 use Rattle.mended.proofs.Whole.{upTo-length, book-all, same-book}

@@ -1,29 +1,29 @@
 -- A book that passes comes out byte for byte, with a report of no change, where the output is at least as long. Assumes nothing.
-use Prim.Native.Nat.{ℕ, zero, suc, _+_, _-_, _*_, _/_, _<_, _≤_, min}
+use Prim.Native.Nat.{ℕ, zero, suc, _+_, _-_, _<_, _≤_}
 use mathlib.Core.Bool.{Bool, true, false, not}
 use mathlib.Core.List.{List, [], _∷_, _++_}
 use mathlib.Core.Logic.{⊎-elim}
 use mathlib.Core.Path.{_≡_, refl, sym, ap, _∙_}
 use native.Mathlib.Nat.{eq-or-lt-of-le, le-of-suc-le-suc, not-suc-le-zero}
 use native.Mathlib.Omega.{arith}
-use lib.ListN.{length, take, drop, getD, set, length-append, length-set, List·getD-append}
+use lib.ListN.{length, take, getD, length-set, List·getD-append}
 use lib.Seq.{getD-at, getD-set-same, getD-set-other, take-all, take-append-le}
-use borrow.Author.Tests.{le-leb, le-ltb, lt-ltb, eq-eqb, ne-eqb}
-use Rattle.basis.specs.Choice.{if_then_else_, _<?_, _=?_}
-use Rattle.book.specs.Contents.{statedTotal, entryCount, entryAt, bodyOf, startOf, endOf, offsetOf, blockLength}
-use Rattle.book.specs.Passes.{allBelow, fieldsAllowed, ascends, overlaps, blockPlace, coefficientsFinite, passes}
-use Rattle.book.proofs.Below.{every-back, is-false}
-use Rattle.book.proofs.Passing.{Passing, Allowed, InOrder, passing, allowed-back, apart-back, block-inside, contents-inside}
-use Rattle.mend.specs.Fates.{goesOn}
-use Rattle.mend.specs.Reasons.{lookedAt, blockInside, firstReason, noted, reasons}
-use Rattle.mend.specs.Ordered.{insert, ordered}
-use Rattle.mend.specs.Anew.{blocksLength, bookLength, bookAnew, placeAnew, withText}
-use Rattle.mend.specs.Forward.{Sofar, overlapsLast, hasRoom, settle, forward}
-use Rattle.mend.specs.Report.{totalChanged, countChanged, asInContents, offsetsStay, changedOf}
+use borrow.Author.Tests.{le-leb, lt-ltb, eq-eqb, ne-eqb}
+use Rattle.basis.specs.Choice.{_<?_, _=?_}
+use Rattle.book.specs.Contents.{statedTotal, entryCount, entryAt, offsetOf, blockLength}
+use Rattle.book.specs.Passes.{ascends, overlaps}
+use Rattle.book.proofs.Below.{every-back}
+use Rattle.book.proofs.Passing.{Passing, allowed-back, apart-back, block-inside, contents-inside}
+use Rattle.look.specs.Fates.{goesOn}
+use Rattle.look.specs.Reasons.{lookedAt, blockInside, firstReason, reasons}
+use Rattle.look.specs.Ordered.{insert, ordered}
+use Rattle.anew.specs.Anew.{blocksLength, bookLength, placeAnew}
+use Rattle.forward.specs.Forward.{Sofar, overlapsLast, hasRoom, settle, forward}
+use Rattle.mend.specs.Report.{asInContents, offsetsStay, changedOf}
 use Rattle.mend.specs.Repaired.{repaired, keptOf}
-use Rattle.mend.proofs.Keys.{not-before-back}
-use Rattle.mended.specs.Laws.{Bytes, upTo, numbered}
-use Rattle.mended.proofs.Whole.{upTo-length, blocks-upTo, book-upTo, book-all, same-book}
+use Rattle.look.proofs.Keys.{not-before-back}
+use Rattle.mended.specs.Laws.{upTo, numbered}
+use Rattle.mended.proofs.Whole.{upTo-length, blocks-upTo, book-upTo, book-all}
 
 -- ---- the entries in their own order
 pub upTo-at : (n k : ℕ) → k < n → getD (upTo n) k 0 ≡ k

@@ -1,15 +1,15 @@
 -- A book that passes, written anew from all its entries in their order, is itself. Assumes nothing.
 use Prim.Native.Nat.{ℕ, zero, suc, _+_, _-_, _*_, _<_, _≤_}
-use mathlib.Core.List.{List, [], _∷_, _++_}
-use mathlib.Core.Path.{_≡_, refl, sym, ap, _∙_}
+use mathlib.Core.List.{List, [], _∷_}
+use mathlib.Core.Path.{_≡_, refl, sym}
 use native.Mathlib.Omega.{arith}
-use lib.ListN.{length, take, drop, length-append}
+use lib.ListN.{length, length-append}
 use lib.Seq.{take-all}
-use Rattle.book.specs.Contents.{statedTotal, entryCount, entryAt, offsetOf, blockLength}
+use Rattle.book.specs.Contents.{entryCount, entryAt, blockLength}
 use Rattle.book.specs.Passes.{blockPlace}
-use Rattle.book.proofs.Passing.{Passing, later-block, block-inside, contents-inside}
-use Rattle.mend.specs.Anew.{part, le32, blocksLength, bookLength, entryAnew, contentsAnew, blockBytes, blocksAnew, bookAnew}
-use Rattle.mend.proofs.Books.{contents-more, blocks-more, blocks-longer}
+use Rattle.book.proofs.Passing.{Passing, later-block, contents-inside}
+use Rattle.anew.specs.Anew.{part, blocksLength, bookLength, entryAnew, contentsAnew, blocksAnew, bookAnew}
+use Rattle.anew.proofs.Books.{contents-more, blocks-more, blocks-longer}
 use Rattle.mended.specs.Laws.{Bytes, upTo}
 use Rattle.mended.proofs.Bytes.{parts-join, written-back}
 

@@ -1,33 +1,30 @@
 -- What is written passes, and each of its entries is one of the input's. Assumes nothing.
 use Prim.Native.Nat.{ℕ, zero, suc, _+_, _-_, _*_, _<_, _≤_}
 use mathlib.Core.Bool.{true}
-use mathlib.Core.List.{List, [], _∷_, _++_}
-use mathlib.Core.Path.{_≡_, refl, sym, ap, subst, _∙_}
+use mathlib.Core.List.{List, [], _++_, append-nil}
+use mathlib.Core.Path.{_≡_, refl, sym, ap, _∙_}
 use native.Mathlib.Omega.{arith}
-use lib.ListN.{length, take, getD, length-append}
+use lib.ListN.{length, getD, length-append}
 use lib.Seq.{take-length}
 use lib.Ieee.{binary64, ofBits}
 use lib.Ieee.Scale.{finite}
 use borrow.Author.Tests.{eq-eqb}
-use Rattle.book.specs.Bytes.{u16At, u32At, u64At}
-use Rattle.book.specs.Contents.{statedTotal, entryCount, entryAt, bodyOf, sizeOf, offsetOf, startOf, spanOf, endOf, blockLength, coefficient}
+use Rattle.book.specs.Contents.{statedTotal, entryCount, entryAt, sizeOf, offsetOf, blockLength, coefficient}
 use Rattle.book.specs.Passes.{blockPlace, coefficientsFinite, passes}
 use Rattle.book.proofs.Below.{every, every-back}
 use Rattle.book.proofs.Passing.{Allowed, InOrder, allowed-of}
 use Rattle.book.proofs.Checked.{Checked, by-length}
-use Rattle.mend.specs.Reasons.{lookedAt, reasons}
-use Rattle.mend.specs.Ordered.{ordered}
-use Rattle.mend.specs.Anew.{part, le32, blocksLength, bookLength, entryAnew, contentsAnew, blockBytes, blocksAnew, bookAnew, placeAnew}
-use Rattle.mend.specs.Forward.{Sofar}
-use Rattle.mend.specs.Held.{Sound, AllSound}
+use Rattle.look.specs.Reasons.{lookedAt, reasons}
+use Rattle.look.specs.Ordered.{ordered}
+use Rattle.anew.specs.Anew.{part, le32, blocksLength, bookLength, entryAnew, contentsAnew, blocksAnew, bookAnew, placeAnew}
+use Rattle.look.specs.Held.{Sound, AllSound}
 use Rattle.mend.specs.Repaired.{repaired, keptOf}
-use Rattle.mend.proofs.Texts.{part-length, le32-length}
-use Rattle.mend.proofs.Books.{contents-length, blocks-length, place-inside, blocks-before}
-use Rattle.mend.proofs.Sounds.{ordered-sound, sound-at}
-use Rattle.mend.proofs.Inserted.{ordered-sorted}
+use Rattle.anew.proofs.Texts.{part-length, le32-length}
+use Rattle.anew.proofs.Books.{contents-length, blocks-length, place-inside, blocks-before}
+use Rattle.look.proofs.Sounds.{sound-at}
 use Rattle.mended.specs.Laws.{Copied}
 use Rattle.mended.proofs.Stands.{Stands, Same, stands-left, stands-right, stands-whole, same-part, same-u16, same-u64, read-back, entry-stands, block-stands}
-use Rattle.mended.proofs.Chain.{Chained, none-chained, forward-chained}
+use Rattle.mended.proofs.Chain.{Chained, start-chained, forward-through}
 
 module _ (b kept : List ℕ) (sound : AllSound b kept) (limit : bookLength b kept ≤ 61_440) where
   w : List ℕ
@@ -202,8 +199,8 @@ module _ (b : List ℕ) (room : ℕ) (input : 8 ≤ length b) (enough : 8 ≤ ro
   pub kept-chained : Chained b room (keptOf b room) []
   unfolding repaired
   kept-chained =
-      forward-chained b room (record { kept = []; fates = reasons b (lookedAt b) [] }) (ordered b (lookedAt b))
-      (none-chained b room (ordered b (lookedAt b)) enough (ordered-sorted b (lookedAt b)) (ordered-sound b (lookedAt b) (omega arith)))
+      forward-through b room (record { kept = []; fates = reasons b (lookedAt b) [] }) (ordered b (lookedAt b)) []
+      (rw (append-nil (ordered b (lookedAt b))) (start-chained b room input enough))
 
   -- "reads one and writes one that passes"
   pub written-passes : room ≤ 61_440 → passes (bookAnew b (keptOf b room)) ≡ true

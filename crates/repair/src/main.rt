@@ -1,5 +1,5 @@
 // The program repair: reads a damaged book from standard input, writes one that passes to standard output, and reports on
-// standard error. It may be given the room, the greatest length of the book written.
+// standard error. It may be given the room, the greatest length of the book written. What it cannot read or write it tells there too.
 //
 // No contract can say what a program reads or writes. The new book and the fates are mend's (`mend::repair`); this program
 // only carries them.
@@ -117,9 +117,19 @@ fn tell_report(report: Report, fates: &[u16; MOST_ENTRIES]) {
     tell_numbered(report.written, b"\n");
 }
 
-fn print_book(output: &[u8], written: usize) {
+// Whether all of the book was written.
+fn print_book(output: &[u8], written: usize) -> bool {
     if written <= output.len() {
-        io::write_all(STDOUT_FILENO, &output[..written]);
+        return io::write_all(STDOUT_FILENO, &output[..written]);
+    }
+    false
+}
+
+fn print_written(output: &[u8], report: Report, fates: &[u16; MOST_ENTRIES]) {
+    if print_book(output, report.written) {
+        tell_report(report, fates);
+    } else {
+        os::fail(b"repair: cannot write the book");
     }
 }
 
@@ -128,8 +138,7 @@ fn print_repaired(input: &[u8], output: &mut [u8]) {
     let answer = mend::repair(input, output, &mut fates);
     match answer {
         RepairAnswer::Written(report) => {
-            print_book(output, report.written);
-            tell_report(report, &fates);
+            print_written(output, report, &fates);
         }
         RepairAnswer::Refused(refusal) => {
             tell(b"REFUSED ");
@@ -144,14 +153,31 @@ fn print_within(input: &[u8], output: &mut [u8], room: usize)
     print_repaired(input, &mut output[..room]);
 }
 
+// A short count is the end of the input or a failure: reading once more tells which.
+fn read_failed(count: usize) -> bool {
+    if LONGEST_INPUT <= count {
+        return false;
+    }
+    let mut more = [0u8; 1];
+    let got = libc::read(STDIN_FILENO, &mut more);
+    if got < 0 {
+        return true;
+    }
+    false
+}
+
 fn main() {
     let room = room_given();
     if book::LONGEST_BOOK < room {
-        tell(b"repair [ROOM] < DAMAGED > REPAIRED: ROOM is 0 to 61440 bytes, in decimal\n");
+        tell(b"use: repair [ROOM] < DAMAGED > REPAIRED, ROOM 0 to 61440 bytes in decimal\n");
         return;
     }
     let mut input = [0u8; LONGEST_INPUT];
     let n = io::read_full(STDIN_FILENO, &mut input);
+    if read_failed(n) {
+        os::fail(b"repair: cannot read standard input");
+        return;
+    }
     let mut output = [0u8; book::LONGEST_BOOK];
     print_within(&input[..n], &mut output, room);
 }

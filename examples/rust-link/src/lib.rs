@@ -14,6 +14,10 @@ extern "C" {
     fn belfry_position(
         book: *const u8, length: usize, body: u64, moment: u64, motion: &mut [f64; 6],
     ) -> u64;
+    fn belfry_repair(
+        input: *const u8, length: usize, output: *mut u8, room: usize,
+        fates: &mut [u16; MOST_ENTRIES], report: &mut [u64; 7],
+    ) -> u64;
     fn belfry_acceleration(
         book: *const u8, length: usize, coefficients: &[f64; 6], dut: u32, moment: u64,
         position: &[f64; 3], acceleration: &mut [f64; 3],
@@ -41,6 +45,20 @@ const GOING: u64 = 100;
 
 /// What a conic's second name says of an ellipse.
 const ELLIPSE: u64 = 1;
+
+/// As many entries as a book can have.
+pub const MOST_ENTRIES: usize = 2559;
+
+/// What a repair did. A fate below `MOST_ENTRIES` is an entry's new number; 3001 to 3005 are the
+/// reasons for which one is dropped: fields, block, coefficient, overlap, room.
+#[derive(Clone, Debug, PartialEq, Eq)]
+pub struct Repaired {
+    pub fates: Vec<u16>,
+    pub kept: usize,
+    pub written: usize,
+    /// Total, count, order, offsets.
+    pub changed: [bool; 4],
+}
 
 /// The gravitational coefficients of the bodies 1 to 6 in km³/s², and DUT in milliseconds.
 #[derive(Clone, Copy, Debug)]
@@ -139,6 +157,20 @@ pub fn position(book: &[u8], body: u64, moment: u64) -> Result<[f64; 6], u64> {
     let number =
         unsafe { belfry_position(book.as_ptr(), book.len(), body, moment, &mut motion) };
     answer(number, motion)
+}
+
+/// Writes what can be saved of a damaged book to the output; bytes behind it keep their contents.
+pub fn repair(input: &[u8], output: &mut [u8]) -> Result<Repaired, u64> {
+    let (mut fates, mut report) = ([0; MOST_ENTRIES], [0; 7]);
+    let number = unsafe {
+        belfry_repair(
+            input.as_ptr(), input.len(), output.as_mut_ptr(), output.len(), &mut fates, &mut report,
+        )
+    };
+    let [looked, kept, written, marks @ ..] = report;
+    let fates = fates[..looked as usize].to_vec();
+    let changed = marks.map(|mark| mark == 1);
+    answer(number, Repaired { fates, kept: kept as usize, written: written as usize, changed })
 }
 
 /// In km/s², at a position in km.

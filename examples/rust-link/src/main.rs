@@ -65,6 +65,25 @@ fn earth(dut: u32) -> Setting {
     Setting { coefficients: [8.0, 0.0, 0.0, 0.0, 0.0, 0.0], dut }
 }
 
+fn repaired(r: &Repaired) -> String {
+    let marks = r.changed.map(|changed| format!(" {}", u8::from(changed))).concat();
+    let fates: String = r.fates.iter().map(|fate| format!(" {fate}")).collect();
+    format!(" kept {} of {}, {} bytes, changed{marks}, fates{fates}", r.kept, r.fates.len(), r.written)
+}
+
+fn repairs() -> Result<(), u64> {
+    let whole = moon_book([1.0, 2.0, 3.0, 1.0, 2.0, 3.0, 1.0, 2.0, 3.0]);
+    let mut damaged = whole.clone();
+    damaged[..4].copy_from_slice(&0u32.to_le_bytes());
+    damaged[4..8].copy_from_slice(&9u32.to_le_bytes());
+    let (mut output, mut again) = ([7; 112], [7; 112]);
+    println!("repair, total 0 and count 9:{}", repaired(&repair(&damaged, &mut output)?));
+    println!("as it was: {}, behind it: {}", u8::from(output[..104] == whole[..]), output[104]);
+    println!("repaired again:{}", repaired(&repair(&output[..104], &mut again)?));
+    println!("repair into 7 bytes:{}", told(repair(&damaged, &mut output[..7]), |r| repaired(&r)));
+    Ok(())
+}
+
 fn accelerations() -> Result<(), u64> {
     let book = moon_book([4.0, 0.0, 0.0, 0.0, 0.0, 0.0, 0.0, 0.0, 0.0]);
     let mut setting = earth(0);
@@ -123,6 +142,7 @@ fn main() -> Result<(), u64> {
     calendar()?;
     angles()?;
     positions();
+    repairs()?;
     accelerations()?;
     runs();
     states()

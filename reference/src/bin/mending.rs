@@ -1,5 +1,6 @@
 //! Compares the program repair with the reference: the book on standard output and the report on standard error, byte by byte.
-//! Every book that was written is handed to strip, which must take it.
+//! Every book that was written is handed to strip, which must take it. With --spoil N the Nth answer is spoiled, and none behind it
+//! is looked at.
 //!
 //! mending --seed N --books N --real FILE --repair "WORDS" --strip "WORDS" [--spoil N]
 
@@ -109,6 +110,9 @@ fn compare(w: &Wish) -> Result<bool, String> {
         real(&std::fs::read(&w.real).map_err(|error| format!("{}: {error}", w.real))?)
     };
     list.extend(made(&mut Chance::new(w.seed), w.books));
+    if w.spoil > 0 {
+        list.truncate(w.spoil);
+    }
     let (mut compared, mut differ) = (0, 0);
     for d in &list {
         compared += 1;

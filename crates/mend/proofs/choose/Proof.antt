@@ -1,20 +1,14 @@
 -- `mend::choose` meets its contract: the entries in order, going forward. Assumes nothing.
 use native.Mathlib.Omega.{arith}
-use mathlib.Core.Path.{_≡_, refl, sym, ap, _∙_}
+use mathlib.Core.Path.{sym, _∙_}
 use denote.Ref.{now}
-use Prim.Native.Nat.{_+_, _-_, _*_, _≤_, _<_}
-use lib.ListN.{length, take}
+use Prim.Native.Nat.{_-_, _≤_}
 use lib.Seq.{length-take-le}
-use Rattle.mend.proofs.Sounds.{ordered-length, ordered-sound}
-use Rattle.mend.proofs.Settled.{from-none}
+use Rattle.look.proofs.Sounds.{ordered-length, ordered-sound}
+use Rattle.mend.proofs.Chosen.{from-none}
 use borrow.Author.Needs.{needs}
 use Rattle.mend.proofs.choose.Statement.{statement}
 use Rattle.mend.proofs.choose.Tie as tie
-use Rattle.mend.proofs.choose.Reads as reads
-use Rattle.mend.proofs.choose.Lts as lts
-use Rattle.mend.proofs.forward.go_forward.Reads as go-forward-reads
-use Rattle.mend.proofs.look.looked_at.Reads as looked-at-reads
-use Rattle.mend.proofs.look.put_in_order.Reads as put-in-order-reads
 
 few : (c : tie.After-put-in-order) → c .put-in-order .result ≤ 2559
 few c =

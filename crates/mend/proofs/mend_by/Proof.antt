@@ -1,22 +1,15 @@
 -- `mend::mend_by` meets its contract: the entries chosen, the book of them written, the report. Assumes nothing.
 use native.Mathlib.Omega.{arith}
-use mathlib.Core.Path.{_≡_, refl, sym, ap, _∙_}
+use mathlib.Core.Path.{_≡_, sym, ap, _∙_}
 use denote.Ref.{now}
 use lib.ListN.{length, take}
 use lib.Seq.{length-take-le}
-use mathlib.Core.List.{List}
-use Rattle.mend.specs.Forward.{Sofar}
+use Rattle.forward.specs.Forward.{Sofar}
 use Rattle.mend.specs.Repaired.{roomOf, keptOf}
-use Rattle.mend.proofs.Settled.{kept-of}
+use Rattle.mend.proofs.Chosen.{kept-of}
 use borrow.Author.Needs.{needs}
 use Rattle.mend.proofs.mend_by.Statement.{statement}
 use Rattle.mend.proofs.mend_by.Tie as tie
-use Rattle.mend.proofs.mend_by.Reads as reads
-use Rattle.mend.proofs.mend_by.Lts as lts
-use Rattle.mend.proofs.choose.Reads as choose-reads
-use Rattle.mend.proofs.marks.report.Reads as report-reads
-use Rattle.mend.proofs.room_of.Reads as room-of-reads
-use Rattle.mend.proofs.write.write_book.Reads as write-book-reads
 
 room-of-requires : tie.Need-room-of-requires
 room-of-requires c κs = search needs
@@ -61,11 +54,7 @@ returns c =
     let kept : take (c .before .before .before .before .before .before .before .before .before .before .before .before .before .choose .result .count) (c .before .before .before .before .before .before .before .before .before .before .before .before .before .choose .last .1 .1 .1 .1 .0) ≡ keptOf (now (x .input)) (roomOf (length (now (x .output)))) =
     ap (λ (s : Sofar). s .kept) done ∙ kept-of (now (x .input)) (roomOf (length (now (x .output)))) (now (x .fates))
     in
-    record {
-      reported = rw kept at (c .report .ensures);
-      written = rw kept at (c .before .before .before .before .write-book .ensures);
-      told = ap (λ (s : Sofar). s .fates) done;
-    }
+    rw (rw kept at (c .report .ensures), rw kept at (c .before .before .before .before .write-book .ensures), ap (λ (s : Sofar). s .fates) done)
 
 pub mend-by-spec : {M : Type 1} → statement M
 mend-by-spec =

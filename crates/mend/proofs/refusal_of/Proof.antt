@@ -2,8 +2,6 @@
 use borrow.Author.Tests.{lt-ltb, le-ltb}
 use Rattle.mend.proofs.refusal_of.Statement.{statement}
 use Rattle.mend.proofs.refusal_of.Tie as tie
-use Rattle.mend.proofs.refusal_of.Reads as reads
-use Rattle.mend.proofs.refusal_of.Lts as lts
 
 returns : tie.Need-returns
 returns c = simp (lt-ltb _ _ (c .if1 .taken))

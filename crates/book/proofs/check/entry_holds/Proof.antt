@@ -14,29 +14,11 @@ fields-allowed-requires c κs = search needs
 returns : tie.Need-returns
 returns c = rw (← c .before .fields-allowed .ensures, not-true (c .before .fields-allowed .result) (c .if1 .taken))
 
-mul-entry : tie.Need-mul-entry
-mul-entry c = search needs
+size-of-requires : tie.Need-size-of-requires
+size-of-requires c κs = search needs
 
-add-entry : tie.Need-add-entry
-add-entry c = search needs
-
-add-u16-at : tie.Need-add-u16-at
-add-u16-at c = search needs
-
-u16-at-requires : tie.Need-u16-at-requires
-u16-at-requires c κs = search needs
-
-cast-n : tie.Need-cast-n
-cast-n c = search needs
-
-add-u32-at : tie.Need-add-u32-at
-add-u32-at c = search needs
-
-u32-at-requires : tie.Need-u32-at-requires
-u32-at-requires c κs = search needs
-
-cast-offset : tie.Need-cast-offset
-cast-offset c = search needs
+offset-of-requires : tie.Need-offset-of-requires
+offset-of-requires c κs = search needs
 
 mul-if3 : tie.Need-mul-if3
 mul-if3 c = search needs
@@ -54,7 +36,7 @@ returns-2 : tie.Need-returns-2
 returns-2 c =
     rw (
       c .floats-finite .ensures,
-      c .before .before .before .before .u16-at .ensures,
+      c .before .before .before .before .size-of .ensures .0,
     ) (held-by-floats _ _ _ (sym (c .before .before .before .before .before .before .fields-allowed .ensures) ∙ not-false _ (c .before .before .before .before .before .if1 .left)) (omega arith) (omega arith))
 
 returns-3 : tie.Need-returns-3
@@ -69,14 +51,8 @@ entry-holds-spec =
     (tie.spec
     fields-allowed-requires
     returns
-    mul-entry
-    add-entry
-    add-u16-at
-    u16-at-requires
-    cast-n
-    add-u32-at
-    u32-at-requires
-    cast-offset
+    size-of-requires
+    offset-of-requires
     mul-if3
     add-if3
     mul-floats-finite

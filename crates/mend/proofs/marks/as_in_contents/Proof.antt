@@ -1,10 +1,10 @@
 -- `mend::marks::as_in_contents` meets its contract. The invariant: the numbers rise up to k. Assumes nothing.
 use native.Mathlib.Omega.{arith}
-use mathlib.Core.Path.{_≡_, refl, sym, ap, _∙_}
+use mathlib.Core.Path.{_≡_, refl, sym}
 use denote.Ref.{now}
 use borrow.Author.Needs.{needs}
 use native.Mathlib.Numerals.{add-one}
-use Prim.Native.Nat.{_+_, _-_, _*_, _≤_, _<_}
+use Prim.Native.Nat.{_+_, _-_, _≤_, _<_}
 use borrow.Author.Tests.{lt-ltb, le-ltb}
 use mathlib.Core.Bool.{true}
 use lib.ListN.{length, getD}
@@ -13,8 +13,6 @@ use Rattle.book.specs.Passes.{allBelow}
 use Rattle.book.proofs.Below.{both, every, is-false, clash}
 use Rattle.mend.proofs.marks.as_in_contents.Statement.{statement}
 use Rattle.mend.proofs.marks.as_in_contents.Tie as tie
-use Rattle.mend.proofs.marks.as_in_contents.Reads as reads
-use Rattle.mend.proofs.marks.as_in_contents.Lts as lts
 
 abbrev Inv-loop : tie.InvT-loop
 Inv-loop kept last k₀ k = (k ≤ last) × (last ≡ length kept - 1) × (allBelow k (λ n. getD kept n 0 <? getD kept (n + 1) 0) ≡ true)

@@ -1,13 +1,7 @@
 -- `mend::marks::changed_from` meets its contract, by those of its four tests. Assumes nothing.
-use mathlib.Core.Path.{_≡_, refl, sym, ap, _∙_}
 use borrow.Author.Needs.{needs}
 use Rattle.mend.proofs.marks.changed_from.Statement.{statement}
 use Rattle.mend.proofs.marks.changed_from.Tie as tie
-use Rattle.mend.proofs.marks.changed_from.Reads as reads
-use Rattle.mend.proofs.marks.changed_from.Lts as lts
-use Rattle.book.proofs.bytes.u32_at.Reads as u32-at-reads
-use Rattle.mend.proofs.marks.as_in_contents.Reads as as-in-contents-reads
-use Rattle.mend.proofs.marks.offsets_stay.Reads as offsets-stay-reads
 
 u32-at-requires : tie.Need-u32-at-requires
 u32-at-requires c κs = search needs

@@ -1,27 +1,23 @@
 -- `mend::marks::offsets_stay` meets its contract. The invariant: the offsets up to k are the new ones, and block k begins at `place`. Assumes nothing.
 use native.Mathlib.Omega.{arith}
-use mathlib.Core.Path.{_≡_, refl, sym, ap, _∙_}
+use mathlib.Core.Path.{_≡_, sym, refl, _∙_}
 use denote.Ref.{now}
-use borrow.Author.Needs.{needs}
 use native.Mathlib.Numerals.{add-one}
-use Prim.Native.Nat.{_+_, _-_, _*_, _≤_, _<_}
+use Prim.Native.Nat.{_-_, _≤_}
 use borrow.Author.Tests.{eq-eqb, eqb-true}
-use mathlib.Core.Bool.{true}
+use mathlib.Core.Bool.{true, false}
 use lib.ListN.{length, getD}
 use Rattle.basis.specs.Choice.{_=?_}
 use Rattle.book.specs.Contents.{offsetOf}
+use Rattle.mend.specs.Report.{offsetsStay}
 use Rattle.book.specs.Passes.{allBelow}
 use Rattle.book.proofs.Below.{both, every, is-false}
-use Rattle.mend.specs.Anew.{placeAnew}
-use Rattle.mend.specs.Held.{Sound}
-use Rattle.mend.proofs.Sounds.{sound-at}
-use Rattle.mend.proofs.Books.{place-inside, place-further}
+use Rattle.anew.specs.Anew.{placeAnew}
+use Rattle.look.specs.Held.{Sound}
+use Rattle.look.proofs.Sounds.{sound-at}
+use Rattle.anew.proofs.Books.{place-inside, place-further}
 use Rattle.mend.proofs.marks.offsets_stay.Statement.{statement}
 use Rattle.mend.proofs.marks.offsets_stay.Tie as tie
-use Rattle.mend.proofs.marks.offsets_stay.Reads as reads
-use Rattle.mend.proofs.marks.offsets_stay.Lts as lts
-use Rattle.book.proofs.bytes.u16_at.Reads as u16-at-reads
-use Rattle.book.proofs.bytes.u32_at.Reads as u32-at-reads
 
 abbrev Inv-loop : tie.InvT-loop
 Inv-loop input kept place₀ k₀ place k = (k ≤ length kept) × (place ≡ placeAnew input kept k) × (allBelow k (λ n. offsetOf input (getD kept n 0) =? placeAnew input kept n) ≡ true)
@@ -41,49 +37,37 @@ add-place c = omega arith
 loop-holds : tie.Need-loop-holds Inv-loop μ-loop
 loop-holds c = (omega arith, omega arith, refl)
 
-mul-entry : tie.Need-mul-entry Inv-loop μ-loop
-mul-entry c = search needs
+mul-i : tie.Need-mul-i Inv-loop μ-loop
+mul-i c = omega arith
 
-shared-slice-read-entry : tie.Need-shared-slice-read-entry Inv-loop μ-loop
-shared-slice-read-entry c = omega arith
+shared-slice-read-i : tie.Need-shared-slice-read-i Inv-loop μ-loop
+shared-slice-read-i c = omega arith
 
-cast-entry : tie.Need-cast-entry Inv-loop μ-loop
-cast-entry c = omega (arith, c .shared-slice-known3 .given (c .before .before .loop .k))
+cast-i : tie.Need-cast-i Inv-loop μ-loop
+cast-i c = omega (arith, c .shared-slice-known3 .given (c .before .before .loop .k))
 
-mul-entry-2 : tie.Need-mul-entry-2 Inv-loop μ-loop
-mul-entry-2 c = let s = here (c) in let i = s .inside in omega arith
+offset-of-requires : tie.Need-offset-of-requires Inv-loop μ-loop
+offset-of-requires c κs = here c .inside
 
-add-entry : tie.Need-add-entry Inv-loop μ-loop
-add-entry c = let s = here (c) in let i = s .inside in omega arith
-
-add-u32-at : tie.Need-add-u32-at Inv-loop μ-loop
-add-u32-at c = let s = here (c) in let i = s .inside in omega arith
-
-u32-at-requires : tie.Need-u32-at-requires Inv-loop μ-loop
-u32-at-requires c κs = let s = here (c) in let i = s .inside in omega arith
-
-cast-offset : tie.Need-cast-offset Inv-loop μ-loop
-cast-offset c = search needs
+-- an offset that is not the new place changes
+moved : (c : tie.After-offset-of Inv-loop μ-loop) → (offsetOf (now (c .before .before .before .before .before .before .args .input)) (getD (now (c .before .before .before .before .before .before .args .kept)) (c .before .before .before .loop .k) 0) ≡ c .before .before .before .loop .place → ⊥) → false ≡ offsetsStay (now (c .before .before .before .before .before .before .args .input)) (now (c .before .before .before .before .before .before .args .kept))
+moved c other =
+    let b = now (c .before .before .before .before .before .before .args .input) in
+    let kept = now (c .before .before .before .before .before .before .args .kept) in
+    let k = c .before .before .before .loop .k in
+    sym (is-false _ (λ h. other (eqb-true (offsetOf b (getD kept k 0)) (placeAnew b kept k) (every (length kept) (λ n. offsetOf b (getD kept n 0) =? placeAnew b kept n) h k (omega arith)) ∙ sym (c .before .before .before .loop .inv .1))))
 
 returns : tie.Need-returns Inv-loop μ-loop
-returns c =
-    sym (is-false _ (λ h. let e = eqb-true (offsetOf (now (c .before .before .before .before .before .before .before .args .input)) (getD (now (c .before .before .before .before .before .before .before .args .kept)) (c .before .before .before .before .loop .k) 0)) (placeAnew (now (c .before .before .before .before .before .before .before .args .input)) (now (c .before .before .before .before .before .before .before .args .kept)) (c .before .before .before .before .loop .k)) (every (length (now (c .before .before .before .before .before .before .before .args .kept))) (λ n. offsetOf (now (c .before .before .before .before .before .before .before .args .input)) (getD (now (c .before .before .before .before .before .before .before .args .kept)) n 0) =? placeAnew (now (c .before .before .before .before .before .before .before .args .input)) (now (c .before .before .before .before .before .before .before .args .kept)) n) h (c .before .before .before .before .loop .k) (omega arith)) in omega (arith, e, c .before .before .before .before .loop .inv .1, c .before .u32-at .ensures)))
+returns c = moved (c .before) (λ e. omega arith)
 
 returns-2 : tie.Need-returns-2 Inv-loop μ-loop
-returns-2 c =
-    sym (is-false _ (λ h. let e = eqb-true (offsetOf (now (c .before .before .before .before .before .before .before .before .args .input)) (getD (now (c .before .before .before .before .before .before .before .before .args .kept)) (c .before .before .before .before .before .loop .k) 0)) (placeAnew (now (c .before .before .before .before .before .before .before .before .args .input)) (now (c .before .before .before .before .before .before .before .before .args .kept)) (c .before .before .before .before .before .loop .k)) (every (length (now (c .before .before .before .before .before .before .before .before .args .kept))) (λ n. offsetOf (now (c .before .before .before .before .before .before .before .before .args .input)) (getD (now (c .before .before .before .before .before .before .before .before .args .kept)) n 0) =? placeAnew (now (c .before .before .before .before .before .before .before .before .args .input)) (now (c .before .before .before .before .before .before .before .before .args .kept)) n) h (c .before .before .before .before .before .loop .k) (omega arith)) in omega (arith, e, c .before .before .before .before .before .loop .inv .1, c .before .before .u32-at .ensures)))
+returns-2 c = moved (c .before .before) (λ e. omega arith)
 
-add-u16-at : tie.Need-add-u16-at Inv-loop μ-loop
-add-u16-at c = let s = here (c .before .before .before) in let i = s .inside in omega arith
-
-u16-at-requires : tie.Need-u16-at-requires Inv-loop μ-loop
-u16-at-requires c κs = let s = here (c .before .before .before) in let i = s .inside in omega arith
-
-cast-place : tie.Need-cast-place Inv-loop μ-loop
-cast-place c = search needs
+size-of-requires : tie.Need-size-of-requires Inv-loop μ-loop
+size-of-requires c κs = here (c .before .before .before) .inside
 
 mul-place-2 : tie.Need-mul-place-2 Inv-loop μ-loop
-mul-place-2 c = search needs
+mul-place-2 c = omega arith
 
 add-place-2 : tie.Need-add-place-2 Inv-loop μ-loop
 add-place-2 c =
@@ -119,19 +103,13 @@ offsets-stay-spec =
     mul-place
     add-place
     loop-holds
-    mul-entry
-    shared-slice-read-entry
-    cast-entry
-    mul-entry-2
-    add-entry
-    add-u32-at
-    u32-at-requires
-    cast-offset
+    mul-i
+    shared-slice-read-i
+    cast-i
+    offset-of-requires
     returns
     returns-2
-    add-u16-at
-    u16-at-requires
-    cast-place
+    size-of-requires
     mul-place-2
     add-place-2
     add-k

@@ -1,0 +1,68 @@
+-- `anew::known::write_book` meets its contract: four texts, one after the other. Assumes nothing.
+use native.Mathlib.Omega.{arith}
+use denote.Ref.{now}
+use Prim.Native.Nat.{_+_, _-_}
+use lib.ListN.{length, length-append}
+use mathlib.Core.List.{_++_}
+use Rattle.book.specs.Contents.{entryAt}
+use Rattle.anew.specs.Anew.{le32, contentsAnew, blocksAnew, bookAnew}
+use Rattle.anew.proofs.Texts.{joined, le32-length}
+use Rattle.anew.proofs.Books.{contents-length, blocks-length}
+use borrow.Author.Needs.{needs}
+use Rattle.anew.proofs.known.write_book.Statement.{statement}
+use Rattle.anew.proofs.known.write_book.Tie as tie
+
+cast-put-u32 : tie.Need-cast-put-u32
+cast-put-u32 c = search needs
+
+put-u32-requires : tie.Need-put-u32-requires
+put-u32-requires c κs = search needs
+
+cast-put-u32-2 : tie.Need-cast-put-u32-2
+cast-put-u32-2 c = search needs
+
+put-u32-requires-2 : tie.Need-put-u32-requires-2
+put-u32-requires-2 c κs = search needs
+
+write-contents-requires : tie.Need-write-contents-requires
+write-contents-requires c κs = search needs
+
+write-blocks-requires : tie.Need-write-blocks-requires
+write-blocks-requires c κs = search needs
+
+same-length : tie.Need-same-length
+same-length c = search needs
+
+returns : tie.Need-returns
+unfolding bookAnew
+returns c =
+    let x = c .before .before .before .before .before .before .before .before .before .before .before .before .before .before .before .before .before .before .before .args in
+    let b = now (x .input) in
+    let kept = now (x .kept) in
+    let out = now (x .out) in
+    let n = length kept in
+    let contents = contentsAnew b (entryAt n) kept in
+    let sound = c .before .before .before .before .before .before .before .before .before .before .before .before .before .before .before .before .before .before .before .pre .0 in
+    let l1 = le32-length (x .total) in
+    let l2 = le32-length n in
+    let l3 = contents-length b (entryAt n) kept sound in
+    let l4 = blocks-length b kept sound in
+    let l5 = length-append (le32 (x .total)) (le32 n) in
+    let l6 = length-append (le32 (x .total) ++ le32 n) contents in
+    let one = joined out (le32 (x .total)) (le32 n) 0 4 (c .before .before .before .before .before .before .before .before .before .before .before .before .before .before .put-u32 .ensures) (c .before .before .before .before .before .before .before .before .before .before .put-u322 .ensures) (omega arith) (omega arith) in
+    let two = joined out (le32 (x .total) ++ le32 n) contents 0 8 one (c .before .before .before .before .before .before .write-contents .ensures) (omega arith) (omega arith) in
+    rw (← c .before .before .before .before .before .before .before .before .before .before .before .before .before .before .before .before .before .before .before .pre .1)
+    (joined out (le32 (x .total) ++ le32 n ++ contents) (blocksAnew b kept) 0 (entryAt n) two (c .before .before .write-blocks .ensures) (omega arith) (omega arith))
+
+pub write-book-spec : {M : Type 1} → statement M
+write-book-spec =
+    tie.close
+    (tie.spec
+    cast-put-u32
+    put-u32-requires
+    cast-put-u32-2
+    put-u32-requires-2
+    write-contents-requires
+    write-blocks-requires
+    same-length
+    returns)

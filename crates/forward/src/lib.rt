@@ -1,0 +1,11 @@
+// Going forward through the entries in order: overlap, then room.
+
+pub mod known;
+mod settle;
+
+// How many entries are kept, the last one of them where there is one, and the length of the book that holds them.
+pub struct Kept {
+    pub count: usize,
+    pub last: usize,
+    pub length: usize,
+}

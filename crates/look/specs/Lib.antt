@@ -1,0 +1,4 @@
+pub mod Fates
+pub mod Reasons
+pub mod Ordered
+pub mod Held

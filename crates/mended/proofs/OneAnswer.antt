@@ -1,0 +1,16 @@
+-- Any two outcomes that the promise of `mend::repair` allows are equal: the answer and all the memory that it was lent to write,
+-- together. Assumes nothing.
+use mathlib.Core.Path.{refl}
+use denote.Ref.{now}
+use Rattle.basis.proofs.OneAnswer.{Tell, OneOutcome, one-outcome}
+use Rattle.mend.specs.Repaired.{Outcome, told, repairOutcome}
+use Rattle.mend.proofs.repair as repair
+
+abbrev tell-repair : Tell repair.ended (λ κs. Outcome)
+tell-repair κs r after = told r (now (after .1 .0)) (now (after .1 .1 .0))
+
+pub repair-answers-once : OneOutcome repair.ended (λ M. repair.clauses) (λ κs. Outcome) tell-repair
+repair-answers-once =
+    one-outcome (λ κs. Outcome) tell-repair
+    (λ κs inputs. repairOutcome (now (inputs .0)) (now (inputs .1 .0)) (now (inputs .1 .1 .0)))
+    (λ M 𝓤 H A mem run κs inputs g r after. refl)

@@ -1,0 +1,17 @@
+-- Any two outcomes that the promise of the exported repair allows are equal: the number that it returns and all the memory that it was
+-- lent to write, together. Assumes nothing.
+use mathlib.Core.Path.{refl}
+use denote.Ref.{now}
+use Rattle.basis.proofs.OneAnswer.{Tell, OneOutcome, one-outcome}
+use Rattle.mend.specs.Repaired.{repairOutcome}
+use Rattle.mendlink.specs.Lent.{RepairMemory, handedBack, ofRepair}
+use Rattle.mendlink.proofs.belfry_repair as belfry-repair
+
+abbrev tell-repair : Tell belfry-repair.ended (λ κs. RepairMemory)
+tell-repair κs r after = handedBack r (now (after .1 .0)) (now (after .1 .1 .0)) (now (after .1 .1 .1 .0))
+
+pub belfry-repair-answers-once : OneOutcome belfry-repair.ended (λ M. belfry-repair.clauses) (λ κs. RepairMemory) tell-repair
+belfry-repair-answers-once =
+    one-outcome (λ κs. RepairMemory) tell-repair
+    (λ κs inputs. ofRepair (now (inputs .1 .1 .1 .0)) (repairOutcome (now (inputs .0)) (now (inputs .1 .0)) (now (inputs .1 .1 .0))))
+    (λ M 𝓤 H A mem run κs inputs g r after. refl)
