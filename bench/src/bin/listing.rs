@@ -1,0 +1,141 @@
+//! `listing BOOK ORDER TIMES PROGRAM [WORDS]`: the program `strip`, started by PROGRAM and WORDS, beside a Rust walk that
+//! prints the same listing (this program as `listing walk`). The flight is the order's state with the Earth, the Moon and the
+//! Sun for thirty days at one-minute steps. What they print is compared first; then each is started TIMES times, one after the
+//! other in turn, and the least time of each is printed, with the first over the second.
+
+use std::io::{self, Read, Write};
+use std::process::{Command, ExitCode, Stdio};
+use std::time::Instant;
+
+use reference::motion::{start_checks, step, State};
+use reference::strip::{read_order, ORDER};
+
+const H: u32 = 60_000;
+const STEPS: u64 = 30 * 24 * 60;
+
+/// Lines of a listing, gathered in a buffer as large as a pipe.
+struct Lines {
+    out: io::StdoutLock<'static>,
+    text: Vec<u8>,
+}
+
+impl Lines {
+    fn state(&mut self, s: &State) -> io::Result<()> {
+        const DIGITS: &[u8; 16] = b"0123456789abcdef";
+        if self.text.len() > 65_536 - 128 {
+            self.flush()?;
+        }
+        write!(self.text, "{}", s.moment)?;
+        for c in s.position.iter().chain(&s.velocity) {
+            let bits = c.to_bits();
+            let mut word = [b' '; 17];
+            for (i, digit) in word[1..].iter_mut().enumerate() {
+                *digit = DIGITS[(bits >> (60 - 4 * i)) as usize & 15];
+            }
+            self.text.extend_from_slice(&word);
+        }
+        self.text.push(b'\n');
+        Ok(())
+    }
+
+    fn flush(&mut self) -> io::Result<()> {
+        self.out.write_all(&self.text)?;
+        self.text.clear();
+        self.out.flush()
+    }
+}
+
+/// The walk of an order and a book on standard input, with its listing.
+fn walk() -> io::Result<()> {
+    let mut input = Vec::new();
+    io::stdin().lock().read_to_end(&mut input)?;
+    let Some(order) = read_order(&input) else { return Ok(()) };
+    let (book, mut state) = (&input[ORDER..], order.state);
+    let mut lines = Lines { out: io::stdout().lock(), text: Vec::with_capacity(65_536) };
+    if let Err(number) = start_checks(book, &order.setting, &state, order.h, order.target) {
+        writeln!(lines.text, "REFUSED {number}")?;
+        return lines.flush();
+    }
+    writeln!(lines.text, "STRIP {}", order.h)?;
+    lines.state(&state)?;
+    let mut steps = 0u64;
+    while state.moment != order.target {
+        match step(book, &order.setting, &state, order.h) {
+            Ok(next) => state = next,
+            Err(number) => {
+                writeln!(lines.text, "REFUSED {number} {steps}")?;
+                return lines.flush();
+            }
+        }
+        steps += 1;
+        lines.state(&state)?;
+    }
+    writeln!(lines.text, "ARRIVED {steps}")?;
+    lines.flush()
+}
+
+/// The order with the Moon and the Sun alone, thirty days and one minute, and the book behind it.
+fn input(order: &[u8], book: &[u8]) -> Option<Vec<u8>> {
+    let moment = read_order(order)?.state.moment;
+    let mut input = order.get(..ORDER)?.to_vec();
+    input[24..48].fill(0);
+    input[104..108].copy_from_slice(&H.to_le_bytes());
+    input[112..120].copy_from_slice(&(moment + u64::from(H) * STEPS).to_le_bytes());
+    input.extend(book);
+    Some(input)
+}
+
+fn started(words: &[String], file: &std::path::Path, out: Stdio) -> io::Result<Command> {
+    let mut command = Command::new(&words[0]);
+    command.args(&words[1..]).stdin(std::fs::File::open(file)?).stdout(out);
+    Ok(command)
+}
+
+/// Milliseconds of one start, its output thrown away.
+fn once(words: &[String], file: &std::path::Path) -> io::Result<f64> {
+    let mut command = started(words, file, Stdio::null())?;
+    let start = Instant::now();
+    let status = command.status()?;
+    assert!(status.success());
+    Ok(start.elapsed().as_secs_f64() * 1000.0)
+}
+
+fn bench(words: &[String]) -> io::Result<bool> {
+    let [book, order, times, program @ ..] = words else { return Ok(false) };
+    let (Some(input), Ok(times), false) =
+        (input(&std::fs::read(order)?, &std::fs::read(book)?), times.parse::<u32>(), program.is_empty())
+    else {
+        return Ok(false);
+    };
+    let file = std::env::temp_dir().join(format!("listing-{}.input", std::process::id()));
+    std::fs::write(&file, input)?;
+    let own = [std::env::current_exe()?.to_string_lossy().into_owned(), "walk".to_string()];
+    let first = started(program, &file, Stdio::piped())?.output()?.stdout;
+    let second = started(&own, &file, Stdio::piped())?.output()?.stdout;
+    assert!(first == second, "the two listings differ");
+    println!("{} bytes, the same; its last line: {}", first.len(), String::from_utf8_lossy(&first).lines().last().unwrap_or(""));
+    let mut best = [f64::INFINITY; 2];
+    for _ in 0..times {
+        best[0] = best[0].min(once(program, &file)?);
+        best[1] = best[1].min(once(&own, &file)?);
+    }
+    std::fs::remove_file(&file)?;
+    println!("strip {:.1} ms, a Rust walk that prints the same {:.1} ms, ratio {:.2}", best[0], best[1], best[0] / best[1]);
+    Ok(true)
+}
+
+fn main() -> ExitCode {
+    let words: Vec<String> = std::env::args().skip(1).collect();
+    let done = if words == ["walk"] { walk().map(|()| true) } else { bench(&words) };
+    match done {
+        Ok(true) => ExitCode::SUCCESS,
+        Ok(false) => {
+            eprintln!("listing BOOK ORDER TIMES PROGRAM [WORDS] | listing walk");
+            ExitCode::from(2)
+        }
+        Err(error) => {
+            eprintln!("listing: {error}");
+            ExitCode::from(2)
+        }
+    }
+}
