@@ -1,9 +1,9 @@
 #!/usr/bin/env bash
-# What strip, ask and repair say where something cannot be done: files that cannot be read, words that they do not take, a full disk.
+# What strip, ask, repair and compare say where something cannot be done: files that cannot be read, words that they do not take, a full disk.
 # One line for each check; ends with 1 if one failed.
 cd "$(dirname "$0")/.." || exit 2
 . tests/programs.sh
-[ -x target/bin/ask ] && [ -x target/bin/strip ] && [ -x target/bin/repair ] || rt check ask strip repair >/dev/null || exit 2
+[ -x target/bin/ask ] && [ -x target/bin/strip ] && [ -x target/bin/repair ] && [ -x target/bin/compare ] || rt check ask strip repair compare >/dev/null || exit 2
 work=$PWD/target/told
 rm -rf "$work"
 mkdir -p "$work"
@@ -86,4 +86,22 @@ check "repair with a book above the limit" '' '^REFUSED 1$'
 : >"$work/out"
 $start target/bin/repair <data/books/book30.bin >/dev/full 2>"$work/err"
 check "repair on a full disk" '' '^repair: cannot write the book: No space left on device$'
+listing=crates/compare/data/first
+says '' compare "$listing"
+check "compare with one word" '' '^use: compare FIRST SECOND$'
+says '' compare "$work/nothing" "$listing"
+check "compare with a file that is not there" '' "^compare: cannot read $work/nothing: No such file"
+$start target/bin/compare "$work" "$work/nothing" >"$work/out" 2>"$work/both"
+head -n 1 "$work/both" >"$work/err"
+check "compare with a directory" '' "^compare: cannot read $work: Is a directory$"
+tail -n +2 "$work/both" >"$work/err"
+check "compare with two files that cannot be read" '' "^compare: cannot read $work/nothing: No such file"
+mkfifo "$work/pipe"
+cat "$listing" >"$work/pipe" &
+$start target/bin/compare "$listing" "$work/pipe" >"$work/out" 2>"$work/err"
+wait
+check "compare with a pipe" '' "^compare: cannot read $work/pipe twice: Illegal seek$"
+: >"$work/out"
+$start target/bin/compare "$listing" crates/compare/data/second >/dev/full 2>"$work/err"
+check "compare on a full disk" '' '^compare: cannot write the report: No space left on device$'
 exit $failed

@@ -8,6 +8,7 @@ pub mod conic;
 pub mod fixed;
 pub mod hour;
 pub mod motion;
+pub mod parting;
 pub mod repair;
 pub mod root;
 pub mod sine;

@@ -1,4 +1,3 @@
 pub mod Puts
 pub mod Turning
 pub mod Alike
-pub mod Counting

@@ -8,21 +8,21 @@ use Rattle.basis.specs.Choice.{if_then_else_}
 use Rattle.reader.specs.declared.Row.{Row}
 use Rattle.reader.specs.declared.Found.{Found}
 use Rattle.reader.specs.declared.Found.the-variants.{Is, None}
-use Rattle.reader.specs.Bytes.{foundRows}
+use Rattle.reader.specs.Form.{foundRows}
 use Rattle.parting.specs.Report.{Difference, parted, textOf}
-use Rattle.parting.specs.Turns.{sideOf, differencesAt, takesFirst, takesSecond, left, Ended}
+use Rattle.parting.specs.Turns.{sideOf, differencesAt, left, Ended}
 use Rattle.parting.proofs.Puts.{text-append}
 
 module _ (r s : Row) (ra rb : List Row) where
   two : (x y : Bool) → ltb (r .moment) (s .moment) ≡ x → ltb (s .moment) (r .moment) ≡ y
-      → parted (r ∷ ra) (s ∷ rb) ≡ differencesAt (Is r) (Is s) ++ parted (left (takesFirst (sideOf (Is r) (Is s))) (Is r) ra) (left (takesSecond (sideOf (Is r) (Is s))) (Is s) rb)
+      → parted (r ∷ ra) (s ∷ rb) ≡ differencesAt (Is r) (Is s) ++ parted (left (sideOf (Is r) (Is s) .first) (Is r) ra) (left (sideOf (Is r) (Is s) .second) (Is s) rb)
   unfolding parted
   two true y e f = rw e
   two false true e f = rw (e, f)
   two false false e f = rw (e, f)
 
 pub one-turn : (f g : Found) (ra rb : List Row) → Ended f ra → Ended g rb
-    → parted (foundRows f ++ ra) (foundRows g ++ rb) ≡ differencesAt f g ++ parted (left (takesFirst (sideOf f g)) f ra) (left (takesSecond (sideOf f g)) g rb)
+    → parted (foundRows f ++ ra) (foundRows g ++ rb) ≡ differencesAt f g ++ parted (left (sideOf f g .first) f ra) (left (sideOf f g .second) g rb)
 unfolding parted
 one-turn None None ra rb a b = refl
 one-turn (Is r) None ra rb a b = rw (b refl)
@@ -31,5 +31,5 @@ one-turn (Is r) (Is s) ra rb a b = two r s ra rb (ltb (r .moment) (s .moment)) (
 
 -- the same for the lines: what put_turn writes, and what is still to come
 pub turn-text : (f g : Found) (ra rb : List Row) → Ended f ra → Ended g rb
-    → textOf (parted (foundRows f ++ ra) (foundRows g ++ rb)) ≡ textOf (differencesAt f g) ++ textOf (parted (left (takesFirst (sideOf f g)) f ra) (left (takesSecond (sideOf f g)) g rb))
-turn-text f g ra rb a b = ap textOf (one-turn f g ra rb a b) ∙ text-append (differencesAt f g) (parted (left (takesFirst (sideOf f g)) f ra) (left (takesSecond (sideOf f g)) g rb))
+    → textOf (parted (foundRows f ++ ra) (foundRows g ++ rb)) ≡ textOf (differencesAt f g) ++ textOf (parted (left (sideOf f g .first) f ra) (left (sideOf f g .second) g rb))
+turn-text f g ra rb a b = ap textOf (one-turn f g ra rb a b) ∙ text-append (differencesAt f g) (parted (left (sideOf f g .first) f ra) (left (sideOf f g .second) g rb))

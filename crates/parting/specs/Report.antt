@@ -1,7 +1,8 @@
 -- Document 02, R-1, "Say where two strips part": the report on two listings, as one definition over their texts.
 use Prim.Native.Nat.{ℕ}
-use mathlib.Core.Bool.{Bool, true, false}
+use mathlib.Core.Bool.{Bool, true, false, _||_}
 use mathlib.Core.List.{List, [], _∷_, _++_}
+use mathlib.Core.Path.{_≡_}
 use lib.ListN.{length}
 use Rattle.basis.specs.Choice.{if_then_else_, _<?_, _=?_}
 use Rattle.text.specs.Numerals.{decimalOf}
@@ -9,6 +10,8 @@ use Rattle.reader.specs.declared.Row.{Row}
 use Rattle.reader.specs.Form.{linesOf, formRefusal, rowsIn}
 use Rattle.parting.specs.declared.Component.{Component}
 use Rattle.parting.specs.declared.Component.the-variants.{X, Y, Z, VX, VY, VZ}
+use Rattle.parting.specs.declared.Part.{Part}
+use Rattle.parting.specs.declared.Part.the-variants.{Header, States, Outcome, End, Over}
 use Rattle.parting.specs.Steps.{steps}
 
 -- one difference: a moment found in one listing only, or a component whose bits differ, with its float steps
@@ -130,12 +133,14 @@ headerWord = 72 ∷ 69 ∷ 65 ∷ 68 ∷ 69 ∷ 82 ∷ 32 ∷ []
 abbrev pub outcomeWord : List ℕ
 outcomeWord = 79 ∷ 85 ∷ 84 ∷ 67 ∷ 79 ∷ 77 ∷ 69 ∷ 32 ∷ []
 
--- "reported first and last"
-unfoldable pub differencesText : List ℕ → List ℕ → List ℕ
-differencesText a b =
-    linesText headerWord (headerOf (length (rowsIn a)) a) (headerOf (length (rowsIn b)) b)
-    ++ textOf (parted (rowsIn a) (rowsIn b))
-    ++ linesText outcomeWord (outcomeOf a) (outcomeOf b)
+unfoldable pub headerText : List ℕ → List ℕ → List ℕ
+headerText a b = linesText headerWord (headerOf (length (rowsIn a)) a) (headerOf (length (rowsIn b)) b)
+
+unfoldable pub statesText : List ℕ → List ℕ → List ℕ
+statesText a b = textOf (parted (rowsIn a) (rowsIn b))
+
+unfoldable pub outcomeText : List ℕ → List ℕ → List ℕ
+outcomeText a b = linesText outcomeWord (outcomeOf a) (outcomeOf b)
 
 -- "Equal listings give one line, SAME and the number of states"
 unfoldable pub sameLine : ℕ → List ℕ
@@ -150,15 +155,49 @@ abbrev pub some : List ℕ → Bool
 some [] = false
 some (b ∷ bs) = true
 
+-- "reported first and last": the header, the states, the outcome; then the end
+unfoldable pub anyDifference : List ℕ → List ℕ → Bool
+anyDifference a b = some (headerText a b) || some (statesText a b) || some (outcomeText a b)
+
+abbrev pub partText : Part → List ℕ → List ℕ → List ℕ
+partText Header a b = headerText a b
+partText States a b = statesText a b
+partText Outcome a b = outcomeText a b
+partText End a b = endText (anyDifference a b) (length (rowsIn a))
+partText Over a b = []
+
 -- "13 with its line number, first listing first": REFUSED 13 LISTING LINE; nothing where both are of the form
-unfoldable pub refusalText : ℕ → ℕ → List ℕ
-refusalText first second =
-    if 0 <? first then twoNumbers refusedWord 1 first else
-    if 0 <? second then twoNumbers refusedWord 2 second else []
+unfoldable pub firstRefusal : ℕ → ℕ → ℕ → ℕ → List ℕ
+firstRefusal k line l other =
+    if 0 <? line then twoNumbers refusedWord k line else
+    if 0 <? other then twoNumbers refusedWord l other else []
+
+abbrev pub refusalText : ℕ → ℕ → List ℕ
+refusalText first second = firstRefusal 1 first 2 second
+
+-- the report on two listings from a part on
+abbrev pub fromEnd : List ℕ → List ℕ → List ℕ
+fromEnd a b = partText End a b
+
+abbrev pub fromOutcome : List ℕ → List ℕ → List ℕ
+fromOutcome a b = partText Outcome a b ++ fromEnd a b
+
+abbrev pub fromStates : List ℕ → List ℕ → List ℕ
+fromStates a b = partText States a b ++ fromOutcome a b
+
+abbrev pub fromPart : Part → List ℕ → List ℕ → List ℕ
+fromPart Header a b = partText Header a b ++ fromStates a b
+fromPart States a b = fromStates a b
+fromPart Outcome a b = fromOutcome a b
+fromPart End a b = fromEnd a b
+fromPart Over a b = []
+
+-- part q stands behind part p
+abbrev pub Follows : Part → Part → Type 0
+Follows p q = (a b : List ℕ) → fromPart p a b ≡ partText p a b ++ fromPart q a b
 
 -- the report on two texts
 unfoldable pub report : List ℕ → List ℕ → List ℕ
 report a b =
     let refused = refusalText (formRefusal a) (formRefusal b) in
-    let d = differencesText a b in
-    if some refused then refused else d ++ endText (some d) (length (rowsIn a))
+    if some refused then refused else fromPart Header a b

@@ -8,9 +8,8 @@ use Rattle.text.specs.Written.{Wrote}
 use Rattle.reader.specs.declared.Row.{Row}
 use Rattle.reader.specs.declared.Found.{Found}
 use Rattle.reader.specs.declared.Found.the-variants.{Is, None}
-use Rattle.reader.specs.Bytes.{foundRows}
+use Rattle.reader.specs.Form.{foundRows}
 use Rattle.parting.specs.declared.Side.{Side}
-use Rattle.parting.specs.declared.Side.the-variants.{First, Second, Both, Neither}
 use Rattle.parting.specs.Report.{Difference, only, atOne, textOf}
 
 -- a text is written that takes no more than some room
@@ -21,14 +20,17 @@ pub record Put (before : List ℕ) (at : ℕ) (text after : List ℕ) (r room : 
 abbrev pub onlyText : ℕ → ℕ → List ℕ
 onlyText listing moment = textOf (only listing moment ∷ [])
 
--- whose state is the next in moment order
+-- whose state is the next in moment order: the first listing's, the second's, both, or neither's where none is left
+abbrev pub takes : Bool → Bool → Side
+takes first second = record { first = first; second = second }
+
 abbrev pub sideOf : Found → Found → Side
-sideOf None None = Neither
-sideOf (Is r) None = First
-sideOf None (Is s) = Second
+sideOf None None = takes false false
+sideOf (Is r) None = takes true false
+sideOf None (Is s) = takes false true
 sideOf (Is r) (Is s) =
-    if r .moment <? s .moment then First else
-    if s .moment <? r .moment then Second else Both
+    if r .moment <? s .moment then takes true false else
+    if s .moment <? r .moment then takes false true else takes true true
 
 -- what is reported of it
 abbrev pub differencesAt : Found → Found → List Difference
@@ -38,19 +40,6 @@ differencesAt None (Is s) = only 2 (s .moment) ∷ []
 differencesAt (Is r) (Is s) =
     if r .moment <? s .moment then only 1 (r .moment) ∷ [] else
     if s .moment <? r .moment then only 2 (s .moment) ∷ [] else atOne r s
-
--- whether the next state of the first listing is reported with this, and of the second
-abbrev pub takesFirst : Side → Bool
-takesFirst First = true
-takesFirst Second = false
-takesFirst Both = true
-takesFirst Neither = false
-
-abbrev pub takesSecond : Side → Bool
-takesSecond First = false
-takesSecond Second = true
-takesSecond Both = true
-takesSecond Neither = false
 
 -- the rows of a side after it was taken or not
 abbrev pub left : Bool → Found → List Row → List Row

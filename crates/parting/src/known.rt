@@ -8,7 +8,7 @@ use text::put_bytes;
 use text::put_decimal;
 ghost use Prim.Native.Nat.{_+_, _≤_};
 ghost use lib.ListN.{length};
-ghost use Rattle.parting.specs.Report.{component, atOne, numbered, twoNumbers, name, diffLine, textOf, endText, refusalText};
+ghost use Rattle.parting.specs.Report.{component, atOne, numbered, twoNumbers, name, diffLine, textOf, endText, firstRefusal, refusalText};
 ghost use Rattle.parting.specs.Turns.{Put, onlyText, differencesAt};
 
 fn put_numbered(out: &mut [u8], at: usize, word: &[u8], n: u64) -> usize
@@ -128,18 +128,26 @@ pub fn put_turn(out: &mut [u8], at: usize, first: Found, second: Found) -> usize
     }
 }
 
+// Of two listings, each with its line that is not of the form or 0, the first that has one, or nothing.
+fn put_first_refusal(out: &mut [u8], at: usize, k: u64, line: u64, l: u64, other: u64) -> usize
+    requires { ⌜ at + 300 ≤ length (now out) ⌝ }
+    ensures { λ r. ⌜ Put (now (out .entry)) at (firstRefusal k line l other) (now (out .exit)) r 300 ⌝ }
+{
+    if 0 < line {
+        return put_two(out, at, b"REFUSED 13 ", k, line);
+    }
+    if 0 < other {
+        return put_two(out, at, b"REFUSED 13 ", l, other);
+    }
+    at
+}
+
 // The refusal, by the lines of both listings that are not of the form, or nothing.
 pub fn put_refusal(out: &mut [u8], at: usize, first: u64, second: u64) -> usize
     requires { ⌜ at + 300 ≤ length (now out) ⌝ }
     ensures { λ r. ⌜ Put (now (out .entry)) at (refusalText first second) (now (out .exit)) r 300 ⌝ }
 {
-    if 0 < first {
-        return put_two(out, at, b"REFUSED 13 ", 1, first);
-    }
-    if 0 < second {
-        return put_two(out, at, b"REFUSED 13 ", 2, second);
-    }
-    at
+    put_first_refusal(out, at, 1, first, 2, second)
 }
 
 // The end of the report, after something was reported or nothing.

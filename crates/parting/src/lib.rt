@@ -8,7 +8,8 @@ use reader::Found;
 use reader::Row;
 ghost use mathlib.Core.Path.{_≡_};
 ghost use Rattle.parting.specs.Steps.{place, steps};
-ghost use Rattle.parting.specs.Turns.{sideOf, takesFirst, takesSecond};
+ghost use Rattle.parting.specs.Report.{Follows};
+ghost use Rattle.parting.specs.Turns.{takes, sideOf};
 
 pub enum Component {
     X,
@@ -19,12 +20,32 @@ pub enum Component {
     VZ,
 }
 
-// Whose state is the next in moment order.
-pub enum Side {
-    First,
-    Second,
-    Both,
-    Neither,
+// Whose state is the next in moment order: the first listing's, the second's, both, or neither's.
+pub struct Side {
+    pub first: bool,
+    pub second: bool,
+}
+
+// The parts of a report, in their order; behind the end it is over.
+pub enum Part {
+    Header,
+    States,
+    Outcome,
+    End,
+    Over,
+}
+
+// The part that stands behind another in the report.
+pub fn next_part(part: Part) -> Part
+    ensures { λ r. ⌜ Follows part r ⌝ }
+{
+    match part {
+        Part::Header => Part::States,
+        Part::States => Part::Outcome,
+        Part::Outcome => Part::End,
+        Part::End => Part::Over,
+        Part::Over => Part::Over,
+    }
 }
 
 fn place_of(bits: u64) -> u64
@@ -48,16 +69,22 @@ pub fn steps_between(a: u64, b: u64) -> u64
     p - q
 }
 
+fn next_of(first: bool, second: bool) -> Side
+    ensures { λ r. ⌜ r ≡ takes first second ⌝ }
+{
+    Side { first, second }
+}
+
 fn side_of_rows(r: Row, s: Row) -> Side
     ensures { λ t. ⌜ t ≡ sideOf (Found.Is r) (Found.Is s) ⌝ }
 {
     if r.moment < s.moment {
-        return Side::First;
+        return next_of(true, false);
     }
     if s.moment < r.moment {
-        return Side::Second;
+        return next_of(false, true);
     }
-    Side::Both
+    next_of(true, true)
 }
 
 fn side_with(r: Row, second: Found) -> Side
@@ -65,7 +92,7 @@ fn side_with(r: Row, second: Found) -> Side
 {
     match second {
         Found::Is(s) => side_of_rows(r, s),
-        Found::None => Side::First,
+        Found::None => next_of(true, false),
     }
 }
 
@@ -73,8 +100,8 @@ fn side_without(second: Found) -> Side
     ensures { λ t. ⌜ t ≡ sideOf Found.None second ⌝ }
 {
     match second {
-        Found::Is(_) => Side::Second,
-        Found::None => Side::Neither,
+        Found::Is(_) => next_of(false, true),
+        Found::None => next_of(false, false),
     }
 }
 
@@ -84,28 +111,5 @@ pub fn side_of(first: Found, second: Found) -> Side
     match first {
         Found::Is(row) => side_with(row, second),
         Found::None => side_without(second),
-    }
-}
-
-// Whether the next state of the first listing is reported with this.
-pub fn takes_first(side: Side) -> bool
-    ensures { λ r. ⌜ r ≡ takesFirst side ⌝ }
-{
-    match side {
-        Side::First => true,
-        Side::Second => false,
-        Side::Both => true,
-        Side::Neither => false,
-    }
-}
-
-pub fn takes_second(side: Side) -> bool
-    ensures { λ r. ⌜ r ≡ takesSecond side ⌝ }
-{
-    match side {
-        Side::First => false,
-        Side::Second => true,
-        Side::Both => true,
-        Side::Neither => false,
     }
 }

@@ -13,8 +13,8 @@ use Rattle.reader.specs.declared.Scan.{Scan}
 use Rattle.reader.specs.declared.Scan.the-variants.{Start}
 use Rattle.reader.specs.declared.Found.{Found}
 use Rattle.reader.specs.Line.{kindOf}
-use Rattle.reader.specs.Form.{inFirst, linesOf, kindsOf, orRow, rowsOf}
-use Rattle.reader.specs.Bytes.{told, begun, Takes, kindsAfter, kindsFrom, foundRows, rowOf, rowHere, Passes}
+use Rattle.reader.specs.Form.{inFirst, linesOf, kindsOf, rowOf, foundRows, rowsOf}
+use Rattle.reader.specs.Bytes.{told, begun, Takes, kindsAfter, kindsFrom, rowHere, Passes}
 
 at-start : (ls : List (List ℕ)) → kindsAfter Start ls ≡ map kindOf ls
 unfolding told
@@ -40,16 +40,9 @@ pub kinds-byte : (s r : Scan) (b : ℕ) (text : List ℕ) → (b ≡ 10 → ⊥)
 unfolding kindsFrom linesOf
 kinds-byte s r b text n t = rw (ne-eqb b 10 n) (in-first s r b t (linesOf text))
 
-or-row : (l : Line) (rows : List Row) → orRow l rows ≡ foundRows (rowOf l) ++ rows
-or-row (line.State r) rows = refl
-or-row line.Header rows = refl
-or-row line.Outcome rows = refl
-or-row line.Lone rows = refl
-or-row line.Bad rows = refl
-
 feed-passes : (s : Scan) → Passes s 10 Start
 unfolding rowsOf
-feed-passes s rest = rw (kinds-feed s rest) (or-row (told s []) (rowsOf (kindsFrom Start rest)))
+feed-passes s rest = rw (kinds-feed s rest)
 
 pub passes-feed : (s : Scan) (b : ℕ) → b ≡ 10 → Passes s b Start
 passes-feed s b e = subst (λ (n : ℕ). Passes s n Start) (sym e) (feed-passes s)

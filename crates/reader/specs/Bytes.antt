@@ -20,7 +20,7 @@ use Rattle.reader.specs.declared.Verdict.{Verdict}
 use Rattle.reader.specs.declared.Found.{Found}
 use Rattle.reader.specs.declared.Found.the-variants.{Is, None}
 use Rattle.reader.specs.declared.Next.{Next}
-use Rattle.reader.specs.Form.{linesOf, placed, isOff, missing, refusedFrom, rowsOf}
+use Rattle.reader.specs.Form.{linesOf, rowOf, foundRows, placed, isOff, missing, refusedFrom, rowsOf}
 use Rattle.reader.specs.Line.{word, nothing, digits, number, finiteBits, component, pushed, components, momentFrom, kindOf}
 
 abbrev pub lettersOf : Word → List ℕ
@@ -150,18 +150,6 @@ verdictOf j rest = record { refusal = refusalWith j rest; rows = countWith j res
 -- the verdict where the text ends between two lines
 abbrev pub closed : Judge → Verdict
 closed j = record { refusal = missing (j .place) (j .line); rows = j .rows; outcome = j .last }
-
--- a row that was found, if one was
-abbrev pub foundRows : Found → List Row
-foundRows None = []
-foundRows (Is r) = r ∷ []
-
-abbrev pub rowOf : Line → Found
-rowOf (line.State r) = Is r
-rowOf line.Header = None
-rowOf line.Outcome = None
-rowOf line.Lone = None
-rowOf line.Bad = None
 
 -- a byte ends the line of a state where it is a line feed
 abbrev pub rowHere : Scan → ℕ → Found

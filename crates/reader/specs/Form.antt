@@ -7,6 +7,8 @@ use Rattle.basis.specs.Choice.{if_then_else_, _<?_, _=?_}
 use Rattle.reader.specs.declared.Row.{Row}
 use Rattle.reader.specs.declared.Line.{Line}
 use Rattle.reader.specs.declared.Line.the-variants as line
+use Rattle.reader.specs.declared.Found.{Found}
+use Rattle.reader.specs.declared.Found.the-variants.{Is, None}
 use Rattle.reader.specs.declared.Place.{Place}
 use Rattle.reader.specs.declared.Place.the-variants.{Top, First, After, Done, Off}
 use Rattle.reader.specs.Line.{kindOf}
@@ -23,6 +25,18 @@ linesOf (b ∷ bs) = if b =? 10 then [] ∷ linesOf bs else inFirst b (linesOf b
 unfoldable pub kindsOf : List ℕ → List Line
 kindsOf text = map kindOf (linesOf text)
 
+-- the state that a line holds, if it holds one
+abbrev pub rowOf : Line → Found
+rowOf (line.State r) = Is r
+rowOf line.Header = None
+rowOf line.Outcome = None
+rowOf line.Lone = None
+rowOf line.Bad = None
+
+abbrev pub foundRows : Found → List Row
+foundRows None = []
+foundRows (Is r) = r ∷ []
+
 -- "whose moments do not rise" is not of the form
 abbrev pub later : ℕ → ℕ → Place
 later t moment = if t <? moment then After moment else Off
@@ -36,12 +50,12 @@ afterTop line.Outcome = Off
 afterTop line.Bad = Off
 
 -- behind the header a state
+abbrev pub headed : Found → Place
+headed (Is r) = After (r .moment)
+headed None = Off
+
 abbrev pub afterHeader : Line → Place
-afterHeader (line.State r) = After (r .moment)
-afterHeader line.Header = Off
-afterHeader line.Lone = Off
-afterHeader line.Outcome = Off
-afterHeader line.Bad = Off
+afterHeader l = headed (rowOf l)
 
 -- behind a state one of a later moment, or the outcome
 abbrev pub afterState : ℕ → Line → Place
@@ -84,16 +98,9 @@ unfoldable pub formRefusal : List ℕ → ℕ
 formRefusal text = refusedFrom Top 1 (kindsOf text)
 
 -- the states of a listing, in order
-abbrev pub orRow : Line → List Row → List Row
-orRow (line.State r) rows = r ∷ rows
-orRow line.Header rows = rows
-orRow line.Outcome rows = rows
-orRow line.Lone rows = rows
-orRow line.Bad rows = rows
-
 unfoldable pub rowsOf : List Line → List Row
 rowsOf [] = []
-rowsOf (l ∷ ls) = orRow l (rowsOf ls)
+rowsOf (l ∷ ls) = foundRows (rowOf l) ++ rowsOf ls
 
 abbrev pub rowsIn : List ℕ → List Row
 rowsIn text = rowsOf (kindsOf text)

@@ -6,8 +6,9 @@ mod letters;
 mod scanning;
 
 ghost use mathlib.Core.Path.{_≡_};
-ghost use Rattle.reader.specs.Form.{later, afterTop, afterHeader, afterState, placed};
-ghost use Rattle.reader.specs.Bytes.{atTop, rowOf, rowHere, Passes, Finds};
+ghost use mathlib.Core.List.{[]};
+ghost use Rattle.reader.specs.Form.{rowOf, later, afterTop, afterHeader, afterState, placed};
+ghost use Rattle.reader.specs.Bytes.{atTop, told, rowHere, Passes, Finds};
 use scanning::line_end;
 use scanning::take_byte;
 
@@ -125,12 +126,10 @@ fn after_top(line: Line) -> Place
 fn after_header(line: Line) -> Place
     ensures { λ r. ⌜ r ≡ afterHeader line ⌝ }
 {
-    match line {
-        Line::State(row) => Place::After(row.moment),
-        Line::Header => Place::Off,
-        Line::Outcome => Place::Off,
-        Line::Lone => Place::Off,
-        Line::Bad => Place::Off,
+    let found = row_of(line);
+    match found {
+        Found::Is(row) => Place::After(row.moment),
+        Found::None => Place::Off,
     }
 }
 
@@ -175,9 +174,16 @@ fn row_here(scan: Scan, b: u8) -> Found
     ensures { λ r. ⌜ r ≡ rowHere scan b ⌝ }
 {
     if b == 10 {
-        return row_of(line_end(scan));
+        return last_row(scan);
     }
     Found::None
+}
+
+// The state whose line ends here.
+pub fn last_row(scan: Scan) -> Found
+    ensures { λ r. ⌜ r ≡ rowOf (told scan []) ⌝ }
+{
+    row_of(line_end(scan))
 }
 
 fn row_of(line: Line) -> Found

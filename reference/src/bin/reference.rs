@@ -1,10 +1,10 @@
-//! The reference as a program: `reference ask [BOOK]`, `reference strip`, `reference repair`
+//! The reference as a program: `reference ask [BOOK]`, `reference strip`, `reference repair`, `reference compare FIRST SECOND`
 //! and `reference precession`, a line for each year from 1950 on: its day and the nine elements.
 
 use std::io::{self, BufWriter, Read, Write};
 use std::process::ExitCode;
 
-use reference::{ask, book, calendar, fixed, hour, repair, strip};
+use reference::{ask, book, calendar, fixed, hour, parting, repair, strip};
 
 fn standard_input() -> io::Result<Vec<u8>> {
     let mut input = Vec::new();
@@ -36,6 +36,7 @@ fn answer(words: &[String]) -> io::Result<bool> {
                 writeln!(out)?;
             }
         }
+        ["compare", first, second] => out.write_all(&parting::report(&std::fs::read(first)?, &std::fs::read(second)?))?,
         _ => return Ok(false),
     }
     out.flush()?;
@@ -47,7 +48,7 @@ fn main() -> ExitCode {
     match answer(&words) {
         Ok(true) => ExitCode::SUCCESS,
         Ok(false) => {
-            eprintln!("reference ask [BOOK] | reference strip | reference repair | reference precession");
+            eprintln!("reference ask [BOOK] | reference strip | reference repair | reference compare FIRST SECOND | reference precession");
             ExitCode::from(2)
         }
         Err(error) => {

@@ -16,6 +16,7 @@ pub mod cover;
 pub mod leaves;
 pub mod lookups;
 pub mod mends;
+pub mod pairs;
 pub mod runs;
 pub mod sizes;
 pub mod states;

@@ -1,49 +1,25 @@
 -- `reader::after_header` meets its contract: the state is the one that the line holds. Assumes nothing.
+use mathlib.Core.Path.{ap, sym, _∙_}
+use Rattle.reader.specs.Form.{headed}
 use borrow.Author.Needs.{needs}
 use Rattle.reader.proofs.after_header.Statement.{statement}
 use Rattle.reader.proofs.after_header.Tie as tie
 
-enum-known-line : tie.Need-enum-known-line
-enum-known-line c = search needs
+row-of-requires : tie.Need-row-of-requires
+row-of-requires c κs = search needs
+
+enum-known-found : tie.Need-enum-known-found
+enum-known-found c = search needs
 
 enum-told : tie.Need-enum-told
 enum-told c = search needs
 
-enum-told-2 : tie.Need-enum-told-2
-enum-told-2 c = search needs
-
-enum-told-3 : tie.Need-enum-told-3
-enum-told-3 c = search needs
-
-enum-told-4 : tie.Need-enum-told-4
-enum-told-4 c = search needs
-
 returns : tie.Need-returns
-returns c = rw (c .before .line .given .1)
+returns c = ap headed (sym (c .before .found .given .1) ∙ c .before .before .before .row-of .ensures)
 
 returns-2 : tie.Need-returns-2
-returns-2 c = search needs
-
-returns-3 : tie.Need-returns-3
-returns-3 c = search needs
-
-returns-4 : tie.Need-returns-4
-returns-4 c = search needs
-
-returns-5 : tie.Need-returns-5
-returns-5 c = search needs
+returns-2 c = ap headed (sym (c .enum-told .given .1) ∙ c .before .before .row-of .ensures)
 
 pub after-header-spec : {M : Type 1} → statement M
 after-header-spec =
-    tie.close
-    (tie.spec
-    enum-known-line
-    enum-told
-    enum-told-2
-    enum-told-3
-    enum-told-4
-    returns
-    returns-2
-    returns-3
-    returns-4
-    returns-5)
+    tie.close (tie.spec row-of-requires enum-known-found enum-told returns returns-2)

@@ -1,0 +1,88 @@
+// Files read in blocks, from any place: one that cannot be read so, as a pipe, cannot be read twice.
+
+use reader::Verdict;
+use reader::known::judge_block;
+use reader::known::verdict;
+use reader::top;
+ghost use Rattle.io.specs.Counts.{Counts};
+
+// Where no file has a byte.
+const END: u64 = 0x4000_0000_0000_0000;
+
+// The bytes of a block that were read: none at the end of the file.
+pub struct Got {
+    pub n: usize,
+    pub failed: bool,
+}
+
+pub enum Judged {
+    Is(Verdict),
+    Unread,
+}
+
+pub fn tell_unread(name: &[u8]) {
+    io::write_all(libc::STDERR_FILENO, b"compare: cannot read ");
+    os::fail(name);
+}
+
+fn tell_once(name: &[u8]) {
+    io::write_all(libc::STDERR_FILENO, b"compare: cannot read ");
+    io::write_all(libc::STDERR_FILENO, name);
+    os::fail(b" twice");
+}
+
+// The file of a name, open for reading, or -1 where it cannot be read; then standard error says why.
+pub fn opened(name: &[u8]) -> i32 {
+    let fd = os::open_read(name);
+    if fd < 0 {
+        tell_unread(name);
+        return -1;
+    }
+    let mut byte = [0u8; 1];
+    let got = libc::pread(fd, &mut byte, 0);
+    if 0 <= got {
+        return fd;
+    }
+    if os::errno() == libc::ESPIPE {
+        tell_once(name);
+    } else {
+        tell_unread(name);
+    }
+    -1
+}
+
+// A block from a place on.
+pub fn read_at(fd: i32, block: &mut [u8], from: u64) -> Got
+    ensures { λ r. ⌜ Counts (r .n) (now (block .exit)) ⌝ }
+{
+    if END < from {
+        return Got { n: 0, failed: true };
+    }
+    let got = libc::pread(fd, block, from as i64);
+    if got < 0 {
+        return Got { n: 0, failed: true };
+    }
+    Got {
+        n: io::count(got, block),
+        failed: false,
+    }
+}
+
+// The verdict on a file, block by block.
+pub fn judge(fd: i32) -> Judged {
+    let mut buffer = io::large_buffer();
+    let block: &mut [u8] = &mut buffer;
+    let mut j = top();
+    while j.read <= END {
+        let got = read_at(fd, block, j.read);
+        if got.failed {
+            return Judged::Unread;
+        }
+        let n = got.n;
+        if n == 0 {
+            return Judged::Is(verdict(j));
+        }
+        j = judge_block(j, &block[..n]);
+    }
+    Judged::Unread
+}

@@ -1,0 +1,227 @@
+-- All that strip prints is of the form. Assumes nothing.
+use Prim.Native.Nat.{ℕ, zero, suc, _+_, _*_, _/_, _<_, _≤_}
+use mathlib.Core.Bool.{Bool, true, false, _&&_}
+use mathlib.Core.List.{List, [], _∷_, _++_, map, append-assoc, append-nil}
+use mathlib.Core.Path.{_≡_, refl, sym, ap, subst, _∙_}
+use native.Mathlib.Nat.{suc-mul}
+use native.Mathlib.Omega.{arith}
+use borrow.Author.Tests.{lt-ltb, ltb-true, eqb-true}
+use lib.Dec.{T, ltb, eqb}
+use lib.ListN.{length, drop}
+use lib.Ieee.{Float, binary64, fits, ofBits}
+use lib.Ieee.Bits.{ofBits-fits}
+use lib.Ieee.Fits.{add-fits}
+use lib.Ieee.Scale.{finite}
+use Rattle.basis.specs.Choice.{if_then_else_}
+use Rattle.basis.specs.Limits.{endOfTime}
+use Rattle.state.specs.State.{position, velocity, finiteVector, finiteState}
+use Rattle.state.specs.declared.Vector.{Vector}
+use Rattle.state.specs.declared.State.{State}
+use Rattle.state.specs.declared.Setting.{Setting}
+use Rattle.gravity.specs.Acceleration.{accelerationAt}
+use Rattle.gravity.specs.declared.AccelerationAnswer.{AccelerationAnswer}
+use Rattle.gravity.specs.declared.AccelerationAnswer.the-variants.{Is, Refused}
+use Rattle.start.specs.Start.{startRefusal}
+use Rattle.start.proofs.Passed.{passed}
+use Rattle.motion.specs.Step.{Moved, On, Off, andThen, stateAt, arrive, along, weighed, stepH, half, sixth, velocity2, velocity3, velocity4, lastly, stage2, stage3, stage4, step}
+use Rattle.motion.proofs.OneStep.{done}
+use Rattle.motion.proofs.Start.{mayWalk}
+use Rattle.listing.specs.Lines.{stripWord, arrivedWord, refusedWord, headerLine, stateLine, arrivedLine, refusedLine, loneRefusal}
+use Rattle.listing.specs.Order.{orderLength, orderOf, readOrder}
+use Rattle.listing.specs.Strip.{orderText, stripText}
+use Rattle.listing.specs.Course.{afterStep, courseText, startOf}
+use Rattle.listing.specs.declared.Order.{Order}
+use Rattle.listing.proofs.Courses.{starts}
+use Rattle.listing.proofs.Whole.{order-course}
+use Rattle.text.specs.Numerals.{decimalOf}
+use Rattle.reader.specs.declared.Line.{Line}
+use Rattle.reader.specs.declared.Line.the-variants as line
+use Rattle.reader.specs.declared.Place.{Place}
+use Rattle.reader.specs.declared.Place.the-variants.{Top, First, After, Done, Off}
+use Rattle.reader.specs.Line.{kindOf}
+use Rattle.reader.specs.Form.{linesOf, kindsOf, refusedFrom, formRefusal}
+use Rattle.compared.proofs.Texts.{Plain, plain-append, feed-lines}
+use Rattle.compared.proofs.Numbers.{decimal-plain}
+use Rattle.compared.proofs.Lines.{Fine, FineVector, FineState, rowFor, stateText, header-kind, arrived-kind, lone-kind, refused-kind, state-line-kind, space-plain, state-plain, strip-plain, arrived-plain, refused-plain, numbered-plain}
+
+-- ---- floats of a state that a step leads to
+
+pub record Fits (s : State) : Type 0 where
+  pub x : T (fits binary64 (s .x))
+  pub y : T (fits binary64 (s .y))
+  pub z : T (fits binary64 (s .z))
+  pub vx : T (fits binary64 (s .vx))
+  pub vy : T (fits binary64 (s .vy))
+  pub vz : T (fits binary64 (s .vz))
+
+arrived-fits : (t : ℕ) (b : Vector) (f : Float) (d c : Vector) (g : Float) (e : Vector) (next : State) → arrive t (along b f d) (along c g e) ≡ On next → Fits next
+unfolding along
+arrived-fits t b f d c g e next = go (finiteVector (along b f d) && finiteVector (along c g e))
+  where
+    go : (ok : Bool) → (if ok then On (stateAt t (along b f d) (along c g e)) else Off 7) ≡ On next → Fits next
+    go true q =
+        let is : stateAt t (along b f d) (along c g e) ≡ next = cc in
+        subst Fits is (record { x = add-fits binary64 _ _; y = add-fits binary64 _ _; z = add-fits binary64 _ _; vx = add-fits binary64 _ _; vy = add-fits binary64 _ _; vz = add-fits binary64 _ _ })
+    go false q = let z : _≡_ {A = ℕ} 0 1 = cc in absurd (omega arith)
+
+peel : (q : AccelerationAnswer) (rest : Vector → Moved) (next : State) → ((a : Vector) → rest a ≡ On next → Fits next) → andThen q rest ≡ On next → Fits next
+peel (Is a) rest next k e = k a e
+peel (Refused n) rest next k e = let z : _≡_ {A = ℕ} 0 1 = cc in absurd (omega arith)
+
+step-fits : (b : List ℕ) (setting : Setting) (h : ℕ) (s next : State) → step b setting h s ≡ On next → Fits next
+unfolding step
+step-fits b setting h s next =
+    let acc = accelerationAt b setting in
+    peel (acc (s .moment) (position s)) (stage2 acc h s) next
+    (λ a1.
+    peel (acc (s .moment + h / 2) (along (position s) (half h) (velocity s))) (stage3 acc h s a1) next
+    (λ a2.
+    peel (acc (s .moment + h / 2) (along (position s) (half h) (velocity2 h s a1))) (stage4 acc h s a1 a2) next
+    (λ a3.
+    peel (acc (s .moment + h) (along (position s) (stepH h) (velocity3 h s a2))) (lastly h s a1 a2 a3) next
+    (λ a4 e. arrived-fits (s .moment + h) (position s) (sixth h) _ (velocity s) (sixth h) _ next e))))
+
+both-true : (p q : Bool) → (p && q) ≡ true → (p ≡ true) × (q ≡ true)
+both-true true q e = (refl, e)
+both-true false q e = (e, (cc))
+
+fine-vector : (v : Vector) → finiteVector v ≡ true → T (fits binary64 (v .x)) → T (fits binary64 (v .y)) → T (fits binary64 (v .z)) → FineVector v
+fine-vector v e x y z =
+    let xy = both-true (finite (v .x) && finite (v .y)) (finite (v .z)) e in
+    let both = both-true (finite (v .x)) (finite (v .y)) (xy .0) in
+    record {
+      x-fine = record { is-finite = both .0; is-fit = x };
+      y-fine = record { is-finite = both .1; is-fit = y };
+      z-fine = record { is-finite = xy .1; is-fit = z };
+    }
+
+fine-state : (s : State) → s .moment < endOfTime → finiteState s ≡ true → Fits s → FineState s
+fine-state s h e f =
+    let two = both-true (finiteVector (position s)) (finiteVector (velocity s)) e in
+    record {
+      inside = h;
+      position-fine = fine-vector (position s) (two .0) (f .x) (f .y) (f .z);
+      velocity-fine = fine-vector (velocity s) (two .1) (f .vx) (f .vy) (f .vz);
+    }
+
+-- ---- line by line
+
+kinds-line : (l rest : List ℕ) → Plain l → kindsOf (l ++ (10 ∷ []) ++ rest) ≡ kindOf l ∷ kindsOf rest
+unfolding kindsOf
+kinds-line l rest p = ap (λ (t : List ℕ). map kindOf (linesOf t)) (append-assoc l (10 ∷ []) rest) ∙ ap (map kindOf) (feed-lines l rest p)
+
+kinds-none : kindsOf [] ≡ []
+unfolding kindsOf linesOf
+kinds-none = refl
+
+last-kind : (l : List ℕ) → Plain l → kindsOf (l ++ (10 ∷ [])) ≡ kindOf l ∷ []
+last-kind l p = ap kindsOf (sym (append-nil (l ++ (10 ∷ [])))) ∙ kinds-line l [] p ∙ ap (λ (ks : List Line). kindOf l ∷ ks) kinds-none
+
+outcome-ends : (t n : ℕ) → refusedFrom (After t) n (line.Outcome ∷ []) ≡ 0
+unfolding refusedFrom
+outcome-ends t n = refl
+
+lone-ends : refusedFrom Top 1 (line.Lone ∷ []) ≡ 0
+unfolding refusedFrom
+lone-ends = refl
+
+state-on : (t n : ℕ) (s : State) (ls : List Line) → t < s .moment → refusedFrom (After t) n (line.State (rowFor s) ∷ ls) ≡ refusedFrom (After (s .moment)) (n + 1) ls
+unfolding refusedFrom
+state-on t n s ls h = rw (lt-ltb t (s .moment) h)
+
+state-first : (n : ℕ) (s : State) (ls : List Line) → refusedFrom First n (line.State (rowFor s) ∷ ls) ≡ refusedFrom (After (s .moment)) (n + 1) ls
+unfolding refusedFrom
+state-first n s ls = refl
+
+header-first : (ls : List Line) → refusedFrom Top 1 (line.Header ∷ ls) ≡ refusedFrom First 2 ls
+unfolding refusedFrom
+header-first ls = refl
+
+kinds-state : (s : State) (rest : List ℕ) → FineState s → kindsOf (stateLine s ++ rest) ≡ line.State (rowFor s) ∷ kindsOf rest
+unfolding stateLine
+kinds-state s rest f = kinds-line (stateText s) rest (state-plain s f) ∙ ap (λ (k : Line). k ∷ kindsOf rest) (state-line-kind s f)
+
+kinds-arrived : (n : ℕ) → kindsOf (arrivedLine n) ≡ line.Outcome ∷ []
+unfolding arrivedLine
+kinds-arrived n = last-kind (arrivedWord ++ decimalOf n) (numbered-plain arrivedWord n arrived-plain) ∙ ap (λ (k : Line). k ∷ []) (arrived-kind n)
+
+kinds-lone : (k : ℕ) → kindsOf (loneRefusal k) ≡ line.Lone ∷ []
+unfolding loneRefusal
+kinds-lone k = last-kind (refusedWord ++ decimalOf k) (numbered-plain refusedWord k refused-plain) ∙ ap (λ (l : Line). l ∷ []) (lone-kind k)
+
+kinds-header : (h : ℕ) (rest : List ℕ) → kindsOf (headerLine h ++ rest) ≡ line.Header ∷ kindsOf rest
+unfolding headerLine
+kinds-header h rest = kinds-line (stripWord ++ decimalOf h) rest (numbered-plain stripWord h strip-plain) ∙ ap (λ (k : Line). k ∷ kindsOf rest) (header-kind h)
+
+kinds-refused : (k n : ℕ) → kindsOf (refusedLine k n) ≡ line.Outcome ∷ []
+unfolding refusedLine
+kinds-refused k n =
+    let behind : List ℕ = 32 ∷ decimalOf n in
+    ap kindsOf (sym (append-assoc (refusedWord ++ decimalOf k) behind (10 ∷ [])) ∙ ap (λ (l : List ℕ). l ++ (10 ∷ [])) (append-assoc refusedWord (decimalOf k) behind))
+    ∙ last-kind (refusedWord ++ (decimalOf k ++ behind))
+    (plain-append refusedWord (decimalOf k ++ behind) refused-plain (plain-append (decimalOf k) behind (decimal-plain k k (omega arith)) (numbered-plain (32 ∷ []) n space-plain)))
+    ∙ ap (λ (l : Line). l ∷ []) (refused-kind k n)
+
+-- ---- the states of a run, and its outcome
+
+module _ (b : List ℕ) (setting : Setting) (h : ℕ) (some : 1 ≤ h) where
+  course-form : (left did n : ℕ) (s : State) → s .moment + left * h < endOfTime → refusedFrom (After (s .moment)) n (kindsOf (courseText (step b setting h) left did s)) ≡ 0
+  unfolding courseText
+  course-form zero did n s reach = ap (refusedFrom (After (s .moment)) n) (kinds-arrived did) ∙ outcome-ends (s .moment) n
+  course-form (suc left) did n s reach = go (step b setting h s) refl (course-form left)
+    where
+      go : (m : Moved) → step b setting h s ≡ m
+          → ((did n : ℕ) (s : State) → s .moment + left * h < endOfTime → refusedFrom (After (s .moment)) n (kindsOf (courseText (step b setting h) left did s)) ≡ 0)
+          → refusedFrom (After (s .moment)) n (kindsOf (afterStep (courseText (step b setting h) left (did + 1)) did m)) ≡ 0
+      go (Off k) e later = ap (refusedFrom (After (s .moment)) n) (kinds-refused k did) ∙ outcome-ends (s .moment) n
+      go (On next) e later =
+          let d = done b setting h s next e in
+          let clock = d .moment in
+          let long : suc left * h ≡ left * h + h = suc-mul left h in
+          let f = fine-state next (omega arith) (d .finite) (step-fits b setting h s next e) in
+          ap (refusedFrom (After (s .moment)) n) (kinds-state next (courseText (step b setting h) left (did + 1) next) f)
+          ∙ state-on (s .moment) n next (kindsOf (courseText (step b setting h) left (did + 1) next)) (omega arith)
+          ∙ later (did + 1) (n + 1) next (omega arith)
+
+order-form : (b : List ℕ) (o : Order) → Fits (o .state) → startRefusal b (o .setting) (o .state) (o .h) (o .target) ≡ 0 → formRefusal (orderText b o) ≡ 0
+unfolding formRefusal
+order-form b o f e =
+    let may = mayWalk b (o .setting) (o .state) (o .h) (o .target) e in
+    let long = may .long in
+    let p = passed b (o .setting) (o .state) (o .h) (o .target) e in
+    let inside = starts b o may .inside in
+    let fine = fine-state (o .state) (ltb-true (o .state .moment) endOfTime (p .begins)) (p .finite) f in
+    let course = courseText (step b (o .setting) (o .h)) (startOf b o .left) 0 (o .state) in
+    ap (λ (t : List ℕ). refusedFrom Top 1 (kindsOf t)) (order-course b o e)
+    ∙ ap (refusedFrom Top 1) (kinds-header (o .h) (stateLine (o .state) ++ course) ∙ ap (λ (ls : List Line). line.Header ∷ ls) (kinds-state (o .state) course fine))
+    ∙ header-first (line.State (rowFor (o .state)) ∷ kindsOf course)
+    ∙ state-first 2 (o .state) (kindsOf course)
+    ∙ course-form b (o .setting) (o .h) (omega arith) (startOf b o .left) 0 (2 + 1) (o .state) inside
+
+lone-form : (k : ℕ) → formRefusal (loneRefusal k) ≡ 0
+unfolding formRefusal
+lone-form k = ap (refusedFrom Top 1) (kinds-lone k) ∙ lone-ends
+
+order-fits : (input : List ℕ) → Fits (orderOf input .state)
+order-fits input = record { x = ofBits-fits binary64 _; y = ofBits-fits binary64 _; z = ofBits-fits binary64 _; vx = ofBits-fits binary64 _; vy = ofBits-fits binary64 _; vz = ofBits-fits binary64 _ }
+
+not-started : (b : List ℕ) (o : Order) → eqb (startRefusal b (o .setting) (o .state) (o .h) (o .target)) 0 ≡ false
+    → orderText b o ≡ loneRefusal (startRefusal b (o .setting) (o .state) (o .h) (o .target))
+unfolding orderText
+not-started b o e = rw e
+
+any-order : (b : List ℕ) (o : Order) → Fits (o .state) → formRefusal (orderText b o) ≡ 0
+any-order b o f = go (eqb (startRefusal b (o .setting) (o .state) (o .h) (o .target)) 0) refl
+  where
+    go : (t : Bool) → eqb (startRefusal b (o .setting) (o .state) (o .h) (o .target)) 0 ≡ t → formRefusal (orderText b o) ≡ 0
+    go true e = order-form b o f (eqb-true _ 0 e)
+    go false e = ap formRefusal (not-started b o e) ∙ lone-form _
+
+-- for every input: a lone refusal, or a header, states whose moments rise and whose components are finite, and an outcome
+pub strip-of-the-form : (input : List ℕ) → formRefusal (stripText input) ≡ 0
+unfolding stripText readOrder
+strip-of-the-form input = go (ltb (length input) orderLength) refl
+  where
+    go : (t : Bool) → ltb (length input) orderLength ≡ t → formRefusal (stripText input) ≡ 0
+    go true e = rw e (lone-form 1)
+    go false e = rw e (any-order (drop orderLength input) (orderOf input) (order-fits input))
