@@ -2,6 +2,8 @@
 //! run hands back, bit by bit.
 
 use belfrywool as proved;
+use reference::hour::CIRCLE;
+use reference::sphere::QUARTER;
 use reference::trial::chance::Chance;
 use reference::trial::floats::{flight, one_not_finite, wild};
 use reference::trial::mends::made;
@@ -10,7 +12,7 @@ use reference::trial::runs::RUN;
 use reference::trial::times::{bad_dut, bad_moment, moment_dut};
 use reference::trial::trip::Trip;
 use reference::trial::world::World;
-use reference::{book, calendar, conic, fixed, hour, motion, repair, root, sine};
+use reference::{book, calendar, conic, fixed, hour, motion, repair, root, sine, sphere};
 
 const TIMES: usize = 20_000;
 
@@ -78,6 +80,36 @@ fn states() {
         });
         assert_eq!(got, expected);
     }
+}
+
+/// An angle with a sign: allowed, at an end, just out of range, or any 64 bits.
+fn signed(c: &mut Chance) -> i64 {
+    let any = c.any_bits().to_bits() as i64;
+    let within = c.below(QUARTER + 1) as i64;
+    let end = QUARTER as i64;
+    c.pick(&[within, -within, within, -within, end, -end, end + 1, -end - 1, 0, any])
+}
+
+#[test]
+fn injections() {
+    let mut c = Chance::new(5);
+    let mut accepted = 0;
+    for _ in 0..TIMES {
+        let (moment, dut) = moment_dut(&mut c);
+        let (latitude, path) = (signed(&mut c), signed(&mut c));
+        let (any, round) = (c.any_bits().to_bits(), c.below(CIRCLE));
+        let (longitude, azimuth) = (c.pick(&[round, round, round, CIRCLE, any]), c.below(CIRCLE + 2));
+        let radius = if c.one_in(8) { c.any_bits() } else { c.sized(-20, 40).abs() };
+        let speed = if c.one_in(8) { c.any_bits() } else { c.sized(-20, 40) };
+        let other = sphere::Sphere { radius, latitude: latitude.into(), longitude, speed, path: path.into(), azimuth };
+        let (longitude, azimuth) = (longitude as i64, azimuth as i64);
+        let own = proved::Sphere { radius, latitude, longitude, speed, path, azimuth };
+        let expected = sphere::from_sphere(dut, moment, &other).map(|(p, v)| bits(joined(p, v)));
+        let got = proved::from_sphere(&own, moment, dut).map(|s| bits(s.coordinates));
+        assert_eq!(got, expected, "{own:?}");
+        accepted += u32::from(got.is_ok());
+    }
+    assert!(accepted > TIMES as u32 / 8);
 }
 
 /// What a run hands back.

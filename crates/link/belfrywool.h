@@ -107,6 +107,12 @@ uint64_t belfry_single_step(const uint8_t *book, size_t length, const double coe
 /* turned: the state's six coordinates in axes that turn with the Earth. */
 uint64_t belfry_earth_fixed(uint64_t moment, const double coordinates[6], uint32_t dut, double turned[6]);
 
+/* An injection as launch crews speak it, Earth-fixed, to a state's six coordinates in 1950.0 axes at the moment. sizes: radius
+   in km and speed in km/s. angles, in parts of 10^-10 degree: latitude and path angle from -90 to 90 degrees, longitude
+   (eastward) and azimuth (from the north) within one circle; in the order latitude, longitude, path angle, azimuth. */
+uint64_t belfry_from_sphere(uint64_t moment, uint32_t dut, const double sizes[2], const int64_t angles[4],
+                            double coordinates[6]);
+
 /* The conic of a state about a centre of coefficient m. names: the number of the centre, and the kind.
    figures: a, e, p, q, and the far distance of an ellipse or the root of c3 of a hyperbola. */
 uint64_t belfry_conic(double m, uint64_t moment, const double coordinates[6], uint64_t names[2], double figures[5]);

@@ -192,6 +192,26 @@ static void states(void) {
     floats(turned + 2, 1);
 }
 
+/* A launch from the Cape, level and to the east, and an hour's flight under the Earth alone. */
+static void launch(void) {
+    const double sizes[2] = {6570, 7.8}, mass[6] = {398600.63};
+    int64_t angles[4] = {283090000000, 2794570000000, 0, 900000000000};
+    const uint64_t moment = UINT64_C(411264035000), guesses[5] = {0};
+    double coordinates[6], there[6];
+    uint64_t reached, entries[5];
+    uint32_t steps;
+    belfry_from_sphere(moment, 35000, sizes, angles, coordinates);
+    printf("launch:");
+    floats(coordinates, 6);
+    belfry_run(empty, 8, mass, 35000, moment, coordinates, 60000, moment + 3600000, 100, guesses, &reached, there, entries,
+               &steps);
+    printf("after an hour, steps %" PRIu32 ":", steps);
+    floats(there, 6);
+    angles[2] = -900000000001;
+    printf("path angle below -90 degrees:");
+    refused(belfry_from_sphere(moment, 35000, sizes, angles, coordinates));
+}
+
 int main(void) {
     calendar();
     angles();
@@ -200,5 +220,6 @@ int main(void) {
     accelerations();
     runs();
     states();
+    launch();
     return 0;
 }

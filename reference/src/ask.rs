@@ -1,5 +1,6 @@
 //! The question line: one call a line in, one answer a line out.
 
+use crate::sphere::{from_sphere, Sphere};
 use crate::conic::{conic, Kind};
 use crate::motion::{acceleration, run, Outcome, Ran, Setting, State};
 use crate::vector::Vector;
@@ -124,6 +125,29 @@ pub fn ask_fixed(f: &[&[u8]]) -> Option<String> {
     Some(told(answer.map(|(p, v)| all_shown(&two(p, v)))))
 }
 
+/// A decimal that may carry a minus sign.
+pub fn signed(field: &[u8]) -> Option<i128> {
+    match field.strip_prefix(b"-") {
+        Some(rest) => Some(-i128::from(decimal(rest)?)),
+        None => Some(i128::from(decimal(field)?)),
+    }
+}
+
+pub fn ask_sphere(f: &[&[u8]]) -> Option<String> {
+    let [dut, moment, radius, latitude, longitude, speed, path, azimuth] = f else { return None };
+    let (dut, moment) = (small(dut)?, decimal(moment)?);
+    let sphere = Sphere {
+        radius: float(radius)?,
+        latitude: signed(latitude)?,
+        longitude: decimal(longitude)?,
+        speed: float(speed)?,
+        path: signed(path)?,
+        azimuth: decimal(azimuth)?,
+    };
+    let answer = from_sphere(dut, moment, &sphere);
+    Some(told(answer.map(|(p, v)| format!("{moment} {}", all_shown(&two(p, v))))))
+}
+
 pub fn ask_conic(f: &[&[u8]]) -> Option<String> {
     let m = float(f.first()?)?;
     let (position, velocity) = halves(floats(f.get(1..)?)?);
@@ -191,6 +215,7 @@ pub fn readable(book: &[u8], line: &[u8]) -> Option<String> {
         b"date" => ask_date(rest),
         b"day" => ask_day(rest),
         b"fixed" => ask_fixed(rest),
+        b"sphere" => ask_sphere(rest),
         b"conic" => ask_conic(rest),
         b"body" => ask_body(book, rest),
         b"accel" => ask_accel(book, rest),

@@ -12,6 +12,7 @@ pub mod parting;
 pub mod repair;
 pub mod root;
 pub mod sine;
+pub mod sphere;
 pub mod strip;
 pub mod trial;
 pub mod vector;

@@ -9,6 +9,7 @@ use reference::hour::{angle_at, hour_angle, DAY, END};
 use reference::motion::{acceleration, start_checks, run, Outcome, Setting, State};
 use reference::root::root;
 use reference::sine::{sine_cosine, OCTANT};
+use reference::sphere::{from_sphere, Sphere};
 use reference::strip::strip;
 use reference::trial::books::entries;
 use reference::trial::times::WHOLE_OCTANTS;
@@ -138,6 +139,35 @@ fn ground_points() {
         let (p, _) = earth_fixed(35_000, moment, position, [0.0; 3]).unwrap();
         let (lat, lon) = ground(p);
         assert!((lat - latitude).abs() < 0.003 && (lon - longitude).abs() < 0.003, "{lat} {lon}");
+    }
+}
+
+/// Check cases 3 and 4: the injection as document 000 prints it, spherical and Earth-fixed, beside the
+/// same in 1950.0 coordinates. Nutation is left out: 0.002 degrees, a quarter of a kilometre. The azimuth
+/// of case 4 is read 121.16659, as its velocity asks for; the copy at hand has 127.11659.
+#[test]
+fn injections() {
+    let parts = |degrees: f64| (degrees * 1e10).round() as i128;
+    let cases = [
+        (5428, 59_963_043, [6573.8097, -29.706737, 77.658181, 11.027283, 1.9751097, 84.157781],
+            [5420.6087, 1780.2719, -3265.3654, -2.7051733, 11.088835, 0.78981014]),
+        (4965, 61_495_707, [6570.9251, -4.8322111, 350.40180, 10.531934, 1.6812886, 121.16659],
+            [-6114.3780, -2343.8636, -545.66108, 3.5295397, -8.8027116, -5.4594941]),
+    ];
+    for (day, ut, [radius, latitude, longitude, speed, path, azimuth], expected) in cases {
+        let (latitude, path) = (parts(latitude), parts(path));
+        let (longitude, azimuth) = (parts(longitude) as u64, parts(azimuth) as u64);
+        let sphere = Sphere { radius, latitude, longitude, speed, path, azimuth };
+        let moment = day * DAY + ut + 35_000;
+        let (p, v) = from_sphere(35_000, moment, &sphere).unwrap();
+        for i in 0..3 {
+            assert!((p[i] - expected[i]).abs() < 0.25, "{p:?}");
+            assert!((v[i] - expected[3 + i]).abs() < 0.0006, "{v:?}");
+        }
+        let refused = |s| from_sphere(35_000, moment, &s).unwrap_err();
+        assert_eq!(refused(Sphere { latitude: parts(90.0) + 1, radius: -1.0, ..sphere }), 12);
+        assert_eq!(refused(Sphere { radius: 0.0, ..sphere }), 7);
+        assert!(from_sphere(35_000, moment, &Sphere { latitude: parts(-90.0), speed: -1.0, ..sphere }).is_ok());
     }
 }
 

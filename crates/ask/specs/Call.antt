@@ -1,5 +1,5 @@
 -- A call's line: a name, and then one field for each kind of the call, each behind one space.
-use Prim.Native.Nat.{ℕ, _+_}
+use Prim.Native.Nat.{ℕ, _+_, _-_}
 use mathlib.Core.Bool.{Bool, true, false, _&&_}
 use mathlib.Core.List.{List, [], _∷_}
 use lib.ListN.{length, getD}
@@ -13,11 +13,32 @@ abbrev pub below32 : Field → Field
 below32 Bad = Bad
 below32 (Value n next) = if n <? 0x1_0000_0000 then Value n next else Bad
 
--- the number at a place: F (70) is a float, as its bits, S (83) a decimal of 32 bits, any other kind one of 64
+-- an angle that may carry a minus sign stands as 64 bits with a sign; from 2^62 on a number counts as 2^62, which no angle reaches
+abbrev pub cap : ℕ → ℕ
+cap n = if n <? 0x4000_0000_0000_0000 then n else 0x4000_0000_0000_0000
+
+abbrev pub aboveZero : Field → Field
+aboveZero Bad = Bad
+aboveZero (Value n next) = Value (cap n) next
+
+abbrev pub belowZero : Field → Field
+belowZero Bad = Bad
+belowZero (Value n next) = Value (if n =? 0 then 0 else 0x1_0000_0000_0000_0000 - cap n) next
+
+-- a minus sign is 45
+unfoldable pub readSigned : List ℕ → ℕ → Field
+readSigned line at =
+    if at <? length line
+    then (if getD line at 0 =? 45 then belowZero (readDecimal line (at + 1)) else aboveZero (readDecimal line at))
+    else Bad
+
+-- the number at a place: F (70) is a float, as its bits, S (83) a decimal of 32 bits, N (78) one that may carry a minus sign, any other
+-- kind one of 64
 abbrev pub numberAt : ℕ → List ℕ → ℕ → Field
 numberAt kind line at =
     if kind =? 70 then readHex16 line at else
-    if kind =? 83 then below32 (readDecimal line at) else readDecimal line at
+    if kind =? 83 then below32 (readDecimal line at) else
+    if kind =? 78 then readSigned line at else readDecimal line at
 
 -- the same behind a space
 unfoldable pub fieldAt : ℕ → List ℕ → ℕ → Field

@@ -20,6 +20,9 @@ use motion::Outcome;
 use motion::RunAnswer;
 use root::RootAnswer;
 use sine::SineCosineAnswer;
+use sphere::Signed;
+use sphere::Sphere;
+use sphere::SphereAnswer;
 use state::Setting;
 use state::State;
 use state::Vector;
@@ -108,6 +111,47 @@ fn fixed_answer(v: &Numbers, out: &mut Out, at: usize) -> usize
     match fixed::earth_fixed(state_from(v, v[1], 2), narrowed(v[0])) {
         FixedAnswer::Fixed(f) => put_floats(out, at, &[f.x, f.y, f.z, f.vx, f.vy, f.vz]),
         FixedAnswer::Refused(number) => put_refused(out, at, number),
+    }
+}
+
+// 64 bits with a sign, as an angle of an injection.
+fn signed_of(bits: u64) -> Signed {
+    if bits < 0x8000_0000_0000_0000 {
+        return Signed {
+            below: false,
+            parts: bits,
+        };
+    }
+    Signed {
+        below: true,
+        parts: 0xffff_ffff_ffff_ffff - bits + 1,
+    }
+}
+
+// After DUT and the moment come radius, latitude, longitude, speed, path angle and azimuth.
+fn sphere_of(v: &Numbers) -> Sphere {
+    let latitude = signed_of(v[3]);
+    let path = signed_of(v[6]);
+    Sphere {
+        radius: nth_float(v, 2),
+        latitude,
+        longitude: v[4],
+        speed: nth_float(v, 5),
+        path,
+        azimuth: v[7],
+    }
+}
+
+fn sphere_answer(v: &Numbers, out: &mut Out, from: usize) -> usize
+    requires { ⌜ from + 512 ≤ 65_536 ⌝ }
+    ensures { λ r. ⌜ Between from 1 512 r ⌝ }
+{
+    match sphere::from_sphere(sphere_of(v), v[1], narrowed(v[0])) {
+        SphereAnswer::Injected(s) => {
+            let at = put_numbers(out, from, &[s.moment]);
+            put_floats(out, at, &[s.x, s.y, s.z, s.vx, s.vy, s.vz])
+        }
+        SphereAnswer::Refused(number) => put_refused(out, from, number),
     }
 }
 
@@ -260,7 +304,7 @@ fn book_call(book: &[u8], line: &[u8], out: &mut Out, at: usize) -> usize
     text::put_bytes(out, at, b"UNREADABLE ")
 }
 
-// fixed or conic, or a call of a book.
+// fixed, sphere or conic, or a call of a book.
 fn state_call(book: &[u8], line: &[u8], out: &mut Out, at: usize) -> usize
     requires { ⌜ at + 512 ≤ 65_536 ⌝ }
     ensures { λ r. ⌜ Between at 1 512 r ⌝ }
@@ -268,6 +312,9 @@ fn state_call(book: &[u8], line: &[u8], out: &mut Out, at: usize) -> usize
     let mut v = [0u64; 22];
     if reads(line, b"fixed", b"SDFFFFFF", &mut v) {
         return fixed_answer(&v, out, at);
+    }
+    if reads(line, b"sphere", b"SDFNDFND", &mut v) {
+        return sphere_answer(&v, out, at);
     }
     if reads(line, b"conic", b"FFFFFFF", &mut v) {
         return conic_answer(&v, out, at);

@@ -4,7 +4,7 @@ use text::Field;
 ghost use Prim.Native.Nat.{_≤_};
 ghost use mathlib.Core.Path.{_≡_};
 ghost use lib.ListN.{length, take};
-ghost use Rattle.ask.specs.Call.{below32, fieldAt, fieldsFrom, startsWith, callOf, told};
+ghost use Rattle.ask.specs.Call.{below32, cap, aboveZero, belowZero, readSigned, fieldAt, fieldsFrom, startsWith, callOf, told};
 
 // As many as the longest call has. A float stands as its bits.
 pub type Numbers = [u64; 22];
@@ -35,7 +35,50 @@ fn small(field: Field) -> Field
     Field::Bad
 }
 
-// The field behind a space: D is a decimal, S one of 32 bits, and F a float.
+// No angle is as large as that.
+fn capped(number: u64) -> u64
+    ensures { λ r. ⌜ (r ≡ cap number) × (r ≤ 0x4000_0000_0000_0000) ⌝ }
+{
+    if number < 0x4000_0000_0000_0000 {
+        return number;
+    }
+    0x4000_0000_0000_0000
+}
+
+fn above_zero(field: Field) -> Field
+    ensures { λ r. ⌜ r ≡ aboveZero field ⌝ }
+{
+    let Field::Value(number, next) = field else {
+        return Field::Bad;
+    };
+    Field::Value(capped(number), next)
+}
+
+fn below_zero(field: Field) -> Field
+    ensures { λ r. ⌜ r ≡ belowZero field ⌝ }
+{
+    let Field::Value(number, next) = field else {
+        return Field::Bad;
+    };
+    if number == 0 {
+        return Field::Value(0, next);
+    }
+    Field::Value(0xffff_ffff_ffff_ffff - capped(number) + 1, next)
+}
+
+fn read_signed(line: &[u8], at: usize) -> Field
+    ensures { λ r. ⌜ r ≡ readSigned (now (line .entry)) at ⌝ }
+{
+    if line.len() <= at {
+        return Field::Bad;
+    }
+    if line[at] == b'-' {
+        return below_zero(text::read_decimal(line, at + 1));
+    }
+    above_zero(text::read_decimal(line, at))
+}
+
+// The field behind a space: D is a decimal, N one that may carry a minus sign, S one of 32 bits, and F a float.
 fn field_at(kind: u8, line: &[u8], at: usize) -> Field
     ensures { λ r. ⌜ r ≡ fieldAt kind (now (line .entry)) at ⌝ }
 {
@@ -48,6 +91,7 @@ fn field_at(kind: u8, line: &[u8], at: usize) -> Field
     match kind {
         b'F' => text::read_hex16(line, at + 1),
         b'S' => small(text::read_decimal(line, at + 1)),
+        b'N' => read_signed(line, at + 1),
         _ => text::read_decimal(line, at + 1),
     }
 }

@@ -2,7 +2,6 @@
 
 use hour::HourAnswer;
 use sine::SineCosine;
-use sine::SineCosineAnswer;
 use state::State;
 use state::Vector;
 ghost use mathlib.Core.Path.{_≡_};
@@ -10,7 +9,7 @@ ghost use Prim.Native.Nat.{_≤_};
 ghost use Rattle.basis.specs.Limits.{lastDay};
 ghost use Rattle.hour.specs.declared.HourAnswer.the-variants.{Parts};
 ghost use Rattle.hour.specs.Hour.{hourAnswer};
-ghost use Rattle.fixed.specs.Fixed.{turn, rowTimes, times, rowProduct, product, rate, turned, finiteFixed, finiteAnswer, fixedAnswer};
+ghost use Rattle.fixed.specs.Fixed.{turn, rowTimes, times, rowProduct, product, rate, rotation, turned, finiteFixed, finiteAnswer, fixedAnswer};
 
 // Position in km and velocity in km/s, in axes that turn with the Earth.
 pub struct EarthFixed {
@@ -43,7 +42,7 @@ fn row_times(row: [f64; 3], v: Vector) -> f64
     (row[0] * v.x + row[1] * v.y) + row[2] * v.z
 }
 
-fn table_times(table: [[f64; 3]; 3], v: Vector) -> Vector
+pub fn table_times(table: [[f64; 3]; 3], v: Vector) -> Vector
     ensures { λ r. ⌜ r ≡ times table v ⌝ }
 {
     Vector {
@@ -131,19 +130,31 @@ fn fixed_is_finite(f: EarthFixed) -> bool
     false
 }
 
-// At a moment whose hour angle is `parts`. The sine never refuses it, since it is below one circle.
+// The table that is applied to 1950.0 coordinates at a moment whose hour angle is `parts`, and the Earth's rate then: not public
+// calls, but what the crates above use too.
+pub fn table_on(moment: u64, dut: u32, parts: u64) -> [[f64; 3]; 3]
+    requires { ⌜ hourAnswer moment dut ≡ Parts parts ⌝ }
+    ensures { λ r. ⌜ r ≡ rotation moment dut .table ⌝ }
+{
+    let of = sine::of_parts(parts);
+    table_product(turn_table(of), precession::known::table_at(moment))
+}
+
+pub fn rate_on(moment: u64, dut: u32, parts: u64) -> f64
+    requires { ⌜ hourAnswer moment dut ≡ Parts parts ⌝ }
+    ensures { λ r. ⌜ r ≡ rotation moment dut .w ⌝ }
+{
+    let ut = moment - dut as u64;
+    turning_rate(ut / basis::DAY_LENGTH)
+}
+
 fn fixed_at(state: State, dut: u32, parts: u64) -> FixedAnswer
     requires { ⌜ hourAnswer (state .moment) dut ≡ Parts parts ⌝ }
     ensures { λ r. ⌜ r ≡ finiteAnswer state dut ⌝ }
 {
     if state::state_is_finite(state) {
-        let SineCosineAnswer::Both(of) = sine::sine_cosine(parts) else {
-            return FixedAnswer::Refused(12);
-        };
-        let moment = state.moment;
-        let ut = moment - dut as u64;
-        let w = turning_rate(ut / basis::DAY_LENGTH);
-        let table = table_product(turn_table(of), precession::known::table_at(moment));
+        let table = table_on(state.moment, dut, parts);
+        let w = rate_on(state.moment, dut, parts);
         let fixed = turned_state(table, w, state);
         if fixed_is_finite(fixed) {
             return FixedAnswer::Fixed(fixed);

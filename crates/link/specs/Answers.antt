@@ -13,6 +13,7 @@ use Rattle.gravity.specs.declared.AccelerationAnswer.{AccelerationAnswer}
 use Rattle.motion.specs.declared.Outcome.{Outcome}
 use Rattle.motion.specs.declared.RunAnswer.{RunAnswer}
 use Rattle.fixed.specs.declared.FixedAnswer.{FixedAnswer}
+use Rattle.sphere.specs.declared.SphereAnswer.{SphereAnswer}
 use Rattle.conic.specs.declared.ConicAnswer.{ConicAnswer}
 use Rattle.link.specs.Lent.{dateIn, sineCosineIn, motionIn, vectorIn, coordinatesIn, guessesIn, fixedIn, Both, bothIn, namesIn, figuresIn}
 
@@ -65,6 +66,10 @@ ofPosition (PositionAnswer.Refused k) = Refused k
 abbrev pub ofAcceleration : AccelerationAnswer → Answer (List Float)
 ofAcceleration (AccelerationAnswer.Is a) = Accepted (vectorIn a)
 ofAcceleration (AccelerationAnswer.Refused k) = Refused k
+
+abbrev pub ofSphere : SphereAnswer → Answer (List Float)
+ofSphere (SphereAnswer.Injected s) = Accepted (coordinatesIn s)
+ofSphere (SphereAnswer.Refused k) = Refused k
 
 abbrev pub ofFixed : FixedAnswer → Answer (List Float)
 ofFixed (FixedAnswer.Fixed f) = Accepted (fixedIn f)

@@ -1,9 +1,11 @@
 -- How groups of numbers lie in lent memory. Every array has the length that its type says, so that nan and 0 never come in
 -- where an element is read.
-use Prim.Native.Nat.{ℕ}
+use Prim.Native.Nat.{ℕ, _-_}
+use mathlib.Core.Bool.{true, false}
 use mathlib.Core.List.{List, [], _∷_}
 use lib.ListN.{getD}
 use lib.Ieee.{Float, nan}
+use Rattle.basis.specs.Choice.{if_then_else_, _<?_}
 use Rattle.calendar.specs.declared.Calendar.{Calendar}
 use Rattle.sine.specs.declared.SineCosine.{SineCosine}
 use Rattle.state.specs.declared.Vector.{Vector}
@@ -12,6 +14,8 @@ use Rattle.state.specs.declared.Setting.{Setting}
 use Rattle.book.specs.declared.Motion.{Motion}
 use Rattle.gravity.specs.declared.Guesses.{Guesses}
 use Rattle.fixed.specs.declared.EarthFixed.{EarthFixed}
+use Rattle.sphere.specs.declared.Signed.{Signed}
+use Rattle.sphere.specs.declared.Sphere.{Sphere}
 use Rattle.conic.specs.declared.Conic.{Conic}
 use Rattle.conic.specs.declared.Conic.the-variants.{Ellipse, Hyperbola}
 use Rattle.conic.specs.declared.CentredConic.{CentredConic}
@@ -27,6 +31,25 @@ settingOf m dut =
       mars = getD m 4 nan;
       jupiter = getD m 5 nan;
       dut = dut;
+    }
+
+-- read: 64 bits as a number with a sign, as C has it
+abbrev pub signedOf : ℕ → Signed
+signedOf bits =
+    if bits <? 0x8000_0000_0000_0000
+    then record { below = false; parts = bits }
+    else record { below = true; parts = 0x1_0000_0000_0000_0000 - bits }
+
+-- read: radius and speed; latitude, longitude, path angle and azimuth
+abbrev pub sphereOf : List Float → List ℕ → Sphere
+sphereOf sizes angles =
+    record {
+      radius = getD sizes 0 nan;
+      latitude = signedOf (getD angles 0 0);
+      longitude = getD angles 1 0;
+      speed = getD sizes 1 nan;
+      path = signedOf (getD angles 2 0);
+      azimuth = getD angles 3 0;
     }
 
 abbrev pub vectorOf : List Float → Vector

@@ -4,11 +4,13 @@ use conic::Conic;
 use gravity::Guesses;
 use motion::Outcome;
 use motion::RunAnswer;
+use sphere::Signed;
+use sphere::Sphere;
 use state::Setting;
 use state::State;
 use state::Vector;
 ghost use mathlib.Core.Path.{_≡_};
-ghost use Rattle.link.specs.Lent.{settingOf, vectorOf, stateOf, guessesOf, kindOf, figuresOf};
+ghost use Rattle.link.specs.Lent.{settingOf, signedOf, sphereOf, vectorOf, stateOf, guessesOf, kindOf, figuresOf};
 ghost use Rattle.link.specs.Answers.{outcomeNumber, handedBack, ofRun};
 
 const GOING: u64 = 100;
@@ -24,6 +26,37 @@ pub fn setting_of(m: [f64; 6], dut: u32) -> Setting
         mars: m[4],
         jupiter: m[5],
         dut,
+    }
+}
+
+// A number of 64 bits with a sign, as C has it.
+fn signed_of(bits: u64) -> Signed
+    ensures { λ r. ⌜ r ≡ signedOf bits ⌝ }
+{
+    if bits < 0x8000_0000_0000_0000 {
+        return Signed {
+            below: false,
+            parts: bits,
+        };
+    }
+    Signed {
+        below: true,
+        parts: 0xffff_ffff_ffff_ffff - bits + 1,
+    }
+}
+
+pub fn sphere_of(sizes: [f64; 2], angles: [u64; 4]) -> Sphere
+    ensures { λ r. ⌜ r ≡ sphereOf sizes angles ⌝ }
+{
+    let latitude = signed_of(angles[0]);
+    let path = signed_of(angles[2]);
+    Sphere {
+        radius: sizes[0],
+        latitude,
+        longitude: angles[1],
+        speed: sizes[1],
+        path,
+        azimuth: angles[3],
     }
 }
 

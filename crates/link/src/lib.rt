@@ -14,6 +14,7 @@ use gravity::AccelerationAnswer;
 use hour::HourAnswer;
 use root::RootAnswer;
 use sine::SineCosineAnswer;
+use sphere::SphereAnswer;
 ghost use mathlib.Core.Path.{_≡_};
 ghost use Rattle.basis.specs.Choice.{if_then_else_};
 ghost use Rattle.calendar.specs.Answers.{dateAnswer, dayAnswer, julianAnswer};
@@ -25,9 +26,10 @@ ghost use Rattle.book.specs.Position.{positionAnswer};
 ghost use Rattle.gravity.specs.Acceleration.{accelerationAnswer};
 ghost use Rattle.motion.specs.Run.{runAnswer, singleStepAnswer};
 ghost use Rattle.fixed.specs.Fixed.{fixedAnswer};
+ghost use Rattle.sphere.specs.Sphere.{sphereAnswer};
 ghost use Rattle.conic.specs.Conic.{conicAnswer};
-ghost use Rattle.link.specs.Lent.{settingOf, vectorOf, stateOf, guessesOf, bothIn};
-ghost use Rattle.link.specs.Answers.{handed, answered, ofDate, ofDay, ofJulian, ofHour, ofRoot, ofSineCosine, ofPosition, ofAcceleration, ofFixed, ofConic, handedBack, ofRun};
+ghost use Rattle.link.specs.Lent.{settingOf, vectorOf, stateOf, guessesOf, bothIn, sphereOf};
+ghost use Rattle.link.specs.Answers.{handed, answered, ofDate, ofDay, ofJulian, ofHour, ofRoot, ofSineCosine, ofPosition, ofAcceleration, ofFixed, ofConic, handedBack, ofRun, ofSphere};
 
 #[no_mangle]
 pub extern "C" fn belfry_date(day: u64, date: &mut [u64; 3]) -> u64
@@ -231,6 +233,26 @@ pub extern "C" fn belfry_earth_fixed(
             0
         }
         FixedAnswer::Refused(k) => k,
+    }
+}
+
+#[no_mangle]
+pub extern "C" fn belfry_from_sphere(
+    moment: u64,
+    dut: u32,
+    sizes: &[f64; 2],
+    angles: &[u64; 4],
+    coordinates: &mut [f64; 6],
+) -> u64
+    ensures { λ r. ⌜ handed r (now (coordinates .exit)) ≡ answered (now (coordinates .entry))
+        (ofSphere (sphereAnswer (sphereOf (now (sizes .entry)) (now (angles .entry))) moment dut)) ⌝ }
+{
+    match sphere::from_sphere(lent::sphere_of(*sizes, *angles), moment, dut) {
+        SphereAnswer::Injected(s) => {
+            *coordinates = [s.x, s.y, s.z, s.vx, s.vy, s.vz];
+            0
+        }
+        SphereAnswer::Refused(k) => k,
     }
 }
 

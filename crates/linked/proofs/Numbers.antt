@@ -31,10 +31,14 @@ use Rattle.motion.specs.Run.{runAnswer, singleStepAnswer}
 use Rattle.motion.specs.declared.Outcome.{Outcome}
 use Rattle.journey.proofs.Refused as journey
 use Rattle.fixed.specs.declared.FixedAnswer.{FixedAnswer}
+use Rattle.sphere.specs.Sphere as sphere
+use Rattle.sphere.specs.Sphere.{anglesAllowed, sizesAllowed, injected, injectionAnswer, sphereAnswer}
+use Rattle.sphere.specs.declared.Sphere.{Sphere}
+use Rattle.sphere.specs.declared.SphereAnswer.{SphereAnswer}
 use Rattle.fixed.specs.Fixed.{afterHour, finiteFixed, finiteAnswer, fixedAnswer, turned, rotation}
 use Rattle.conic.specs.Conic.{unfit, _before_, refusal, orbitAnswer, orbit, conicAnswer}
 use Rattle.conic.specs.declared.ConicAnswer.{ConicAnswer}
-use Rattle.link.specs.Answers.{ofDate, ofDay, ofJulian, ofHour, ofRoot, ofSineCosine, ofPosition, ofAcceleration, ofFixed, ofConic}
+use Rattle.link.specs.Answers.{ofDate, ofDay, ofJulian, ofHour, ofRoot, ofSineCosine, ofPosition, ofAcceleration, ofFixed, ofSphere, ofConic}
 use Rattle.linked.specs.Table.{tabled, told, outcomeTold}
 
 -- 0 for none, or a number of the table
@@ -121,6 +125,25 @@ pub fixed-told : (state : State) (dut : ℕ) → told (ofFixed (fixedAnswer stat
 unfolding fixedAnswer
 fixed-told state dut =
     after-hour-told (hourAnswer (state .moment) dut) (finiteAnswer state dut) (hour-told (state .moment) dut) (finite-told state dut)
+
+sphere-told : (s : Sphere) (moment dut : ℕ) → told (ofSphere (injectionAnswer s moment dut)) ≡ true
+unfolding injectionAnswer
+sphere-told s moment dut =
+    let p : SphereAnswer → Bool = λ a. told (ofSphere a) in
+    by-if p (not (anglesAllowed s)) refl (by-if p (not (sizesAllowed s)) refl (by-if p (finiteState (injected s moment dut)) refl refl))
+
+sphere-after-hour :
+    (hour : HourAnswer) (answer : SphereAnswer)
+    → told (ofHour hour) ≡ true
+    → told (ofSphere answer) ≡ true
+    → told (ofSphere (sphere.afterHour hour answer)) ≡ true
+sphere-after-hour (HourAnswer.Parts parts) answer first rest = rest
+sphere-after-hour (HourAnswer.Refused k) answer first rest = first
+
+pub from-sphere-told : (s : Sphere) (moment dut : ℕ) → told (ofSphere (sphereAnswer s moment dut)) ≡ true
+unfolding sphereAnswer
+from-sphere-told s moment dut =
+    sphere-after-hour (hourAnswer moment dut) (injectionAnswer s moment dut) (hour-told moment dut) (sphere-told s moment dut)
 
 unfit-told : (x : Float) (own : ℕ) → none-or-tabled own ≡ true → none-or-tabled (unfit x own) ≡ true
 unfolding unfit

@@ -17,9 +17,10 @@ use Rattle.book.specs.Position.{positionAnswer}
 use Rattle.gravity.specs.Acceleration.{accelerationAnswer}
 use Rattle.motion.specs.Run.{runAnswer, singleStepAnswer}
 use Rattle.fixed.specs.Fixed.{fixedAnswer}
+use Rattle.sphere.specs.Sphere.{sphereAnswer}
 use Rattle.conic.specs.Conic.{conicAnswer}
-use Rattle.link.specs.Lent.{settingOf, vectorOf, stateOf, guessesOf, Both, bothIn}
-use Rattle.link.specs.Answers.{Handed, handed, answered, ofDate, ofDay, ofJulian, ofHour, ofRoot, ofSineCosine, ofPosition, ofAcceleration, ofFixed, ofConic, RunMemory, handedBack, ofRun}
+use Rattle.link.specs.Lent.{settingOf, vectorOf, stateOf, guessesOf, Both, bothIn, sphereOf}
+use Rattle.link.specs.Answers.{Handed, handed, answered, ofDate, ofDay, ofJulian, ofHour, ofRoot, ofSineCosine, ofPosition, ofAcceleration, ofFixed, ofConic, RunMemory, handedBack, ofRun, ofSphere}
 use Rattle.link.proofs.belfry_date as date
 use Rattle.link.proofs.belfry_day as day
 use Rattle.link.proofs.belfry_twice_julian_date as twice-julian-date
@@ -29,6 +30,7 @@ use Rattle.link.proofs.belfry_sine_cosine as sine-cosine
 use Rattle.link.proofs.belfry_position as position
 use Rattle.link.proofs.belfry_acceleration as acceleration
 use Rattle.link.proofs.belfry_earth_fixed as earth-fixed
+use Rattle.link.proofs.belfry_from_sphere as from-sphere
 use Rattle.link.proofs.belfry_book_passes as book-passes
 use Rattle.link.proofs.belfry_run as run
 use Rattle.link.proofs.belfry_single_step as single-step
@@ -105,6 +107,15 @@ acceleration-answers-once =
     one-outcome (λ κs. Handed (List Float)) tell-acceleration
     (λ κs inputs. answered (now (inputs .1 .1 .1 .1 .1 .0)) (ofAcceleration (accelerationAnswer (now (inputs .0)) (settingOf (now (inputs .1 .0)) (inputs .1 .1 .0)) (inputs .1 .1 .1 .0) (vectorOf (now (inputs .1 .1 .1 .1 .0))))))
     (λ M 𝓤 H A mem run″ κs inputs g r after. refl)
+
+abbrev tell-from-sphere : Tell from-sphere.ended (λ κs. Handed (List Float))
+tell-from-sphere κs r after = handed r (now (after .1 .1 .1 .1 .0))
+
+pub from-sphere-answers-once : OneOutcome from-sphere.ended (λ M. from-sphere.clauses) (λ κs. Handed (List Float)) tell-from-sphere
+from-sphere-answers-once =
+    one-outcome (λ κs. Handed (List Float)) tell-from-sphere
+    (λ κs inputs. answered (now (inputs .1 .1 .1 .1 .0)) (ofSphere (sphereAnswer (sphereOf (now (inputs .1 .1 .0)) (now (inputs .1 .1 .1 .0))) (inputs .0) (inputs .1 .0))))
+    (λ M 𝓤 H A mem run κs inputs g r after. refl)
 
 abbrev tell-earth-fixed : Tell earth-fixed.ended (λ κs. Handed (List Float))
 tell-earth-fixed κs r after = handed r (now (after .1 .1 .1 .0))

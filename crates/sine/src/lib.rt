@@ -3,7 +3,8 @@
 use basis::CIRCLE;
 ghost use mathlib.Core.Path.{_≡_};
 ghost use Prim.Native.Nat.{_≤_, _<_};
-ghost use Rattle.sine.specs.Sine.{within, angle, S, C, column, sineCosineAnswer};
+ghost use Rattle.basis.specs.Limits.{circle};
+ghost use Rattle.sine.specs.Sine.{within, angle, S, C, column, sineCosine, sineCosineAnswer};
 
 pub struct SineCosine {
     pub sine: f64,
@@ -86,13 +87,21 @@ fn of_octant(q: u64, s: f64, c: f64) -> SineCosine
     }
 }
 
+// Of an angle that is known to lie within one circle: not a public call, but what the crates above use.
+pub fn of_parts(parts: u64) -> SineCosine
+    requires { ⌜ parts < circle ⌝ }
+    ensures { λ r. ⌜ r ≡ sineCosine parts ⌝ }
+{
+    let q = parts / OCTANT;
+    let a = radians(from_axis(q, parts % OCTANT));
+    of_octant(q, sine_of(a), cosine_of(a))
+}
+
 pub fn sine_cosine(parts: u64) -> SineCosineAnswer
     ensures { λ r. ⌜ r ≡ sineCosineAnswer parts ⌝ }
 {
     if parts < CIRCLE {
-        let q = parts / OCTANT;
-        let a = radians(from_axis(q, parts % OCTANT));
-        return SineCosineAnswer::Both(of_octant(q, sine_of(a), cosine_of(a)));
+        return SineCosineAnswer::Both(of_parts(parts));
     }
     SineCosineAnswer::Refused(12)
 }

@@ -35,6 +35,9 @@ extern "C" {
     fn belfry_earth_fixed(
         moment: u64, coordinates: &[f64; 6], dut: u32, turned: &mut [f64; 6],
     ) -> u64;
+    fn belfry_from_sphere(
+        moment: u64, dut: u32, sizes: &[f64; 2], angles: &[i64; 4], coordinates: &mut [f64; 6],
+    ) -> u64;
     fn belfry_conic(
         m: f64, moment: u64, coordinates: &[f64; 6], names: &mut [u64; 2], figures: &mut [f64; 5],
     ) -> u64;
@@ -216,6 +219,26 @@ pub fn single_step(
             &state.coordinates, h, guesses, reached, there, entries, steps,
         )
     })
+}
+
+/// An injection as launch crews speak it, Earth-fixed: radius in km, speed in km/s, angles in parts.
+#[derive(Clone, Copy, Debug)]
+pub struct Sphere {
+    pub radius: f64,
+    pub latitude: i64,
+    pub longitude: i64,
+    pub speed: f64,
+    pub path: i64,
+    pub azimuth: i64,
+}
+
+/// Its state in 1950.0 axes.
+pub fn from_sphere(sphere: &Sphere, moment: u64, dut: u32) -> Result<State, u64> {
+    let mut coordinates = [0.0; 6];
+    let sizes = [sphere.radius, sphere.speed];
+    let angles = [sphere.latitude, sphere.longitude, sphere.path, sphere.azimuth];
+    let number = unsafe { belfry_from_sphere(moment, dut, &sizes, &angles, &mut coordinates) };
+    answer(number, State { moment, coordinates })
 }
 
 /// The state's coordinates in axes that turn with the Earth.

@@ -128,6 +128,26 @@ fn conic_told((centre, conic): (u64, Conic)) -> String {
     format!(" centre {centre}, {kind}{}", bits(&figures))
 }
 
+fn launch() -> Result<(), u64> {
+    let mut sphere = Sphere {
+        radius: 6570.0,
+        latitude: 283_090_000_000,
+        longitude: 2_794_570_000_000,
+        speed: 7.8,
+        path: 0,
+        azimuth: 900_000_000_000,
+    };
+    let moment = 411_264_035_000;
+    let state = from_sphere(&sphere, moment, 35_000)?;
+    println!("launch:{}", bits(&state.coordinates));
+    let setting = Setting { coefficients: [398_600.63, 0.0, 0.0, 0.0, 0.0, 0.0], dut: 35_000 };
+    let ran = run(&[8, 0, 0, 0, 0, 0, 0, 0], &setting, &state, 60_000, moment + 3_600_000, 100, &[0; 5]);
+    println!("after an hour, steps {}:{}", ran.steps, bits(&ran.state.coordinates));
+    sphere.path = -900_000_000_001;
+    println!("path angle below -90 degrees:{}", told(from_sphere(&sphere, moment, 35_000), |s| bits(&s.coordinates)));
+    Ok(())
+}
+
 fn states() -> Result<(), u64> {
     for (vx, vy) in [(0.0, 2.0), (0.0, 4.0), (2.0, 2.0), (2.0, 0.0)] {
         println!("conic:{}", told(conic(8.0, &at(vx, vy)), conic_told));
@@ -145,5 +165,6 @@ fn main() -> Result<(), u64> {
     repairs()?;
     accelerations()?;
     runs();
-    states()
+    states()?;
+    launch()
 }

@@ -19,6 +19,7 @@ pub mod mends;
 pub mod pairs;
 pub mod runs;
 pub mod sizes;
+pub mod spheres;
 pub mod states;
 pub mod strips;
 pub mod unreadable;

@@ -4,12 +4,12 @@ use super::books::{build, entries, pieces, special, sturdy};
 use super::chance::Chance;
 use super::strips::{journey, strip, Strip};
 use super::world::{Case, World};
-use super::{damage, leaves, lookups, runs, states, unreadable};
+use super::{damage, leaves, lookups, runs, spheres, states, unreadable};
 
 /// All kinds of call, with their share of 100.
-pub const KINDS: [(&str, usize); 11] = [
-    ("root", 12), ("sincos", 7), ("hour", 8), ("date", 4), ("day", 5), ("fixed", 8),
-    ("conic", 13), ("unreadable", 5), ("body", 8), ("accel", 9), ("run", 21),
+pub const KINDS: [(&str, usize); 12] = [
+    ("root", 11), ("sincos", 6), ("hour", 7), ("date", 4), ("day", 5), ("fixed", 8), ("sphere", 7),
+    ("conic", 9), ("unreadable", 5), ("body", 8), ("accel", 9), ("run", 21),
 ];
 
 #[derive(Clone, Debug)]
@@ -36,6 +36,7 @@ pub fn cases(kind: &str) -> &'static [Case] {
         "date" => leaves::DATE,
         "day" => leaves::DAY_OF,
         "fixed" => states::FIXED,
+        "sphere" => spheres::SPHERE,
         "conic" => states::CONIC,
         "body" => lookups::BODY,
         _ => lookups::ACCEL,

@@ -1,50 +1,16 @@
 -- `sine::sine_cosine` meets its contract. Assumes nothing.
-use borrow.Author.Needs.{needs}
 use borrow.Author.Tests.{lt-ltb, le-ltb}
-use Rattle.sine.specs.Sine.{sineCosine, sineCosineAnswer}
-use Rattle.sine.proofs.Octants.{within-le}
+use Rattle.sine.specs.Sine.{sineCosineAnswer}
 use Rattle.sine.proofs.sine_cosine.Statement.{statement}
 use Rattle.sine.proofs.sine_cosine.Tie as tie
 
-from-axis-requires : tie.Need-from-axis-requires
-from-axis-requires c κs = search needs
-
-radians-requires : tie.Need-radians-requires
-radians-requires c κs = rw (c .from-axis .ensures) (within-le _ _ (search needs))
-
-sine-of-requires : tie.Need-sine-of-requires
-sine-of-requires c κs = search needs
-
-cosine-of-requires : tie.Need-cosine-of-requires
-cosine-of-requires c κs = search needs
-
-of-octant-requires : tie.Need-of-octant-requires
-of-octant-requires c κs = search needs
-
 returns : tie.Need-returns
-unfolding sineCosineAnswer sineCosine
-returns c =
-    simp (
-      lt-ltb _ _ (c .before .before .before .before .before .if1 .taken),
-      c .of-octant .ensures,
-      c .before .cosine-of .ensures,
-      c .before .before .sine-of .ensures,
-      c .before .before .before .radians .ensures,
-      c .before .before .before .before .from-axis .ensures,
-    )
+unfolding sineCosineAnswer
+returns c = simp (lt-ltb _ _ (c .before .if1 .taken), c .of-parts .ensures)
 
 returns-2 : tie.Need-returns-2
 unfolding sineCosineAnswer
 returns-2 c = simp (le-ltb _ _ (c .if1 .left))
 
 pub sine-cosine-spec : {M : Type 1} → statement M
-sine-cosine-spec =
-    tie.close
-    (tie.spec
-    from-axis-requires
-    radians-requires
-    sine-of-requires
-    cosine-of-requires
-    of-octant-requires
-    returns
-    returns-2)
+sine-cosine-spec = tie.close (tie.spec (λ c κs. c .if1 .taken) returns returns-2)

@@ -32,6 +32,12 @@ read-decimal-requires c κs = search needs
 small-requires : tie.Need-small-requires
 small-requires c κs = search needs
 
+add-read-signed : tie.Need-add-read-signed
+add-read-signed c = search needs
+
+read-signed-requires : tie.Need-read-signed-requires
+read-signed-requires c κs = search needs
+
 add-read-decimal-2 : tie.Need-add-read-decimal-2
 add-read-decimal-2 c = search needs
 
@@ -48,7 +54,18 @@ returns-4 c = rw (lt-ltb _ _ (c .before .before .before .before .before .if1 .le
 
 returns-5 : tie.Need-returns-5
 unfolding fieldAt
-returns-5 c = rw (lt-ltb _ _ (c .before .before .before .before .if1 .left), eq-eqb _ _ (c .before .before .if2 .left), ne-eqb _ _ (c .before .match .rest .0 .1), ne-eqb _ _ (c .before .match .rest .1)) (c .read-decimal2 .ensures)
+returns-5 c = rw (lt-ltb _ _ (c .before .before .before .before .if1 .left), eq-eqb _ _ (c .before .before .if2 .left), c .before .match .keys3) (c .read-signed .ensures)
+
+returns-6 : tie.Need-returns-6
+unfolding fieldAt
+returns-6 c =
+    rw (
+      lt-ltb _ _ (c .before .before .before .before .if1 .left),
+      eq-eqb _ _ (c .before .before .if2 .left),
+      ne-eqb _ _ (c .before .match .rest .0 .0 .1),
+      ne-eqb _ _ (c .before .match .rest .0 .1),
+      ne-eqb _ _ (c .before .match .rest .1),
+    ) (c .read-decimal2 .ensures)
 
 pub field-at-spec : {M : Type 1} → statement M
 field-at-spec =
@@ -62,8 +79,11 @@ field-at-spec =
     add-read-decimal
     read-decimal-requires
     small-requires
+    add-read-signed
+    read-signed-requires
     add-read-decimal-2
     read-decimal-requires-2
     returns-3
     returns-4
-    returns-5)
+    returns-5
+    returns-6)

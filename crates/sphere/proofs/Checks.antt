@@ -1,0 +1,48 @@
+-- The checks of an injection: a number that is not 0 is its refusal, and 0 leaves the conversion. Assumes nothing.
+use mathlib.Core.Bool.{Bool, true, false, not}
+use mathlib.Core.Path.{_≡_, refl}
+use Prim.Native.Nat.{ℕ}
+use native.Mathlib.Omega.{arith}
+use Rattle.basis.specs.Choice.{if_then_else_}
+use Rattle.state.specs.State.{finiteState}
+use Rattle.sphere.specs.declared.Sphere.{Sphere}
+use Rattle.sphere.specs.declared.SphereAnswer.the-variants.{Injected, Refused}
+use Rattle.sphere.specs.Sphere.{anglesAllowed, sizesAllowed, injected, injectionAnswer}
+
+abbrev pub checks : Bool → Bool → ℕ
+checks angles sizes = if not angles then 12 else if not sizes then 7 else 0
+
+pub angles-pass : (angles sizes : Bool) → checks angles sizes ≡ 0 → angles ≡ true
+angles-pass true sizes e = refl
+angles-pass false sizes e = absurd (omega arith)
+
+sizes-pass : (angles sizes : Bool) → checks angles sizes ≡ 0 → sizes ≡ true
+sizes-pass true true e = refl
+sizes-pass true false e = absurd (omega arith)
+sizes-pass false sizes e = absurd (omega arith)
+
+module _ (s : Sphere) (moment dut : ℕ) (angles sizes : Bool) (a : angles ≡ anglesAllowed s) (z : sizes ≡ sizesAllowed s) where
+  pub refused : (k : ℕ) → k ≡ checks angles sizes → (k ≡ 0 → ⊥) → Refused k ≡ injectionAnswer s moment dut
+  unfolding injectionAnswer
+  refused k e some = rw (← a, ← z, e) (go angles sizes (λ h. some (rw (e, h))))
+    where
+      go : (angles sizes : Bool) → (checks angles sizes ≡ 0 → ⊥)
+          → Refused (checks angles sizes)
+          ≡ (if not angles then Refused 12 else
+          if not sizes then Refused 7 else
+          if finiteState (injected s moment dut) then Injected (injected s moment dut) else Refused 7)
+      go true true some = absurd (some refl)
+      go true false some = refl
+      go false sizes some = refl
+
+  module _ (k : ℕ) (e : k ≡ checks angles sizes) (none : k ≡ 0) where
+    pass : checks angles sizes ≡ 0
+    pass = rw (← e) none
+
+    pub accepted : (x : _) → x ≡ injected s moment dut → finiteState x ≡ true → Injected x ≡ injectionAnswer s moment dut
+    unfolding injectionAnswer
+    accepted x i f = rw (← a, ← z, angles-pass angles sizes pass, sizes-pass angles sizes pass, ← i, f)
+
+    pub not-finite : (x : _) → x ≡ injected s moment dut → finiteState x ≡ false → Refused 7 ≡ injectionAnswer s moment dut
+    unfolding injectionAnswer
+    not-finite x i f = rw (← a, ← z, angles-pass angles sizes pass, sizes-pass angles sizes pass, ← i, f)

@@ -1,0 +1,28 @@
+-- `sphere::fixed_place` meets its contract: the sine takes each angle. Assumes nothing.
+use Rattle.sphere.proofs.Angles.{angles, within-circle}
+use Rattle.sphere.specs.Sphere.{placeOf}
+use Rattle.sphere.proofs.fixed_place.Statement.{statement}
+use Rattle.sphere.proofs.fixed_place.Tie as tie
+
+parts-of-requires : tie.Need-parts-of-requires
+parts-of-requires c κs = angles (c .before .args .s) (c .before .pre) .latitude
+
+of-parts-requires : tie.Need-of-parts-requires
+of-parts-requires c κs = rw (c .parts-of .ensures) (within-circle (c .before .before .args .s .latitude) (angles (c .before .before .args .s) (c .before .before .pre) .latitude))
+
+of-parts-requires-2 : tie.Need-of-parts-requires-2
+of-parts-requires-2 c κs = angles (c .before .before .before .args .s) (c .before .before .before .pre) .longitude
+
+returns : tie.Need-returns
+unfolding placeOf
+returns c = rw (c .place-on .ensures, c .before .of-parts2 .ensures, c .before .before .of-parts .ensures, c .before .before .before .parts-of .ensures)
+
+pub fixed-place-spec : {M : Type 1} → statement M
+fixed-place-spec =
+    tie.close
+    (tie.spec
+    parts-of-requires
+    of-parts-requires
+    of-parts-requires-2
+    (λ c κs. tt)
+    returns)

@@ -1,0 +1,34 @@
+-- `sphere::from_sphere` meets its contract. Assumes nothing.
+use mathlib.Core.Path.{sym, _∙_}
+use borrow.Author.Needs.{needs}
+use Rattle.sphere.specs.Sphere.{sphereAnswer}
+use Rattle.sphere.proofs.from_sphere.Statement.{statement}
+use Rattle.sphere.proofs.from_sphere.Tie as tie
+
+enum-known-parts : tie.Need-enum-known-parts
+enum-known-parts c = search needs
+
+enum-known-number : tie.Need-enum-known-number
+enum-known-number c = search needs
+
+injection-requires : tie.Need-injection-requires
+injection-requires c κs = sym (c .before .before .before .hour-angle .ensures) ∙ c .before .parts .given .1
+
+returns : tie.Need-returns
+unfolding sphereAnswer
+returns c = rw (sym (c .before .before .before .before .hour-angle .ensures) ∙ c .before .before .parts .given .1) (c .injection .ensures)
+
+returns-2 : tie.Need-returns-2
+unfolding sphereAnswer
+returns-2 c = rw (sym (c .before .before .before .hour-angle .ensures) ∙ c .before .number .given .1)
+
+pub from-sphere-spec : {M : Type 1} → statement M
+from-sphere-spec =
+    tie.close
+    (tie.spec
+    (λ c κs. tt)
+    enum-known-parts
+    injection-requires
+    enum-known-number
+    returns
+    returns-2)

@@ -1,0 +1,12 @@
+-- `sphere::turns::horizontal_velocity` meets its contract, operation by operation. Assumes nothing.
+use mathlib.Core.Path.{refl}
+use Rattle.sphere.specs.Sphere.{horizontal}
+use Rattle.sphere.proofs.turns.horizontal_velocity.Statement.{statement}
+use Rattle.sphere.proofs.turns.horizontal_velocity.Tie as tie
+
+returns : tie.Need-returns
+unfolding horizontal
+returns c = refl
+
+pub horizontal-velocity-spec : {M : Type 1} → statement M
+horizontal-velocity-spec = tie.close (tie.spec returns)

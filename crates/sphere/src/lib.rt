@@ -1,0 +1,142 @@
+// An injection as launch crews speak it, taken to a state in 1950.0 axes (02, R-4).
+
+mod turns;
+
+use basis::CIRCLE;
+use basis::unless;
+use hour::HourAnswer;
+use state::State;
+use state::Vector;
+use turns::horizontal_velocity;
+use turns::place_on;
+use turns::relative_velocity;
+use turns::returned_state;
+ghost use mathlib.Core.Bool.{true, _&&_};
+ghost use mathlib.Core.Path.{_≡_};
+ghost use Prim.Native.Nat.{_≤_};
+ghost use Rattle.hour.specs.declared.HourAnswer.the-variants.{Parts};
+ghost use Rattle.hour.specs.Hour.{hourAnswer};
+ghost use Rattle.sphere.specs.Sphere.{quarter, anglesAllowed, partsOf, placeOf, velocityOf, injected, sizesAllowed, injectionAnswer, sphereAnswer};
+
+// 90 degrees in parts.
+const QUARTER: u64 = 900_000_000_000;
+
+// An angle in parts, below zero where it says so.
+pub struct Signed {
+    pub below: bool,
+    pub parts: u64,
+}
+
+// Earth-fixed: radius in km and speed in km/s, angles in parts; longitude is counted eastward, azimuth from the north.
+pub struct Sphere {
+    pub radius: f64,
+    pub latitude: Signed,
+    pub longitude: u64,
+    pub speed: f64,
+    pub path: Signed,
+    pub azimuth: u64,
+}
+
+pub enum SphereAnswer {
+    Injected(State),
+    Refused(u64),
+}
+
+fn parts_of(a: Signed) -> u64
+    requires { ⌜ a .parts ≤ quarter ⌝ }
+    ensures { λ r. ⌜ r ≡ partsOf a ⌝ }
+{
+    if a.below {
+        if a.parts == 0 {
+            return 0;
+        }
+        return CIRCLE - a.parts;
+    }
+    a.parts
+}
+
+fn angles_allowed(s: Sphere) -> bool
+    ensures { λ r. ⌜ r ≡ anglesAllowed s ⌝ }
+{
+    let latitude = s.latitude;
+    let path = s.path;
+    if latitude.parts <= QUARTER {
+        if s.longitude < CIRCLE {
+            if path.parts <= QUARTER {
+                return s.azimuth < CIRCLE;
+            }
+        }
+    }
+    false
+}
+
+fn sizes_allowed(s: Sphere) -> bool
+    ensures { λ r. ⌜ r ≡ sizesAllowed s ⌝ }
+{
+    if basis::is_finite(s.radius) {
+        if basis::is_finite(s.speed) {
+            return 0.0 < s.radius;
+        }
+    }
+    false
+}
+
+fn fixed_place(s: Sphere) -> Vector
+    requires { ⌜ anglesAllowed s ≡ true ⌝ }
+    ensures { λ r. ⌜ r ≡ placeOf s ⌝ }
+{
+    let latitude = s.latitude;
+    let f = sine::of_parts(parts_of(latitude));
+    let t = sine::of_parts(s.longitude);
+    place_on(s.radius, f, t)
+}
+
+fn fixed_velocity(s: Sphere) -> Vector
+    requires { ⌜ anglesAllowed s ≡ true ⌝ }
+    ensures { λ r. ⌜ r ≡ velocityOf s ⌝ }
+{
+    let latitude = s.latitude;
+    let path = s.path;
+    let f = sine::of_parts(parts_of(latitude));
+    let t = sine::of_parts(s.longitude);
+    let g = sine::of_parts(parts_of(path));
+    let z = sine::of_parts(s.azimuth);
+    relative_velocity(f, t, horizontal_velocity(s.speed, g, z))
+}
+
+fn injected_state(s: Sphere, moment: u64, dut: u32, parts: u64) -> State
+    requires { ⌜ (hourAnswer moment dut ≡ Parts parts) × (anglesAllowed s ≡ true) ⌝ }
+    ensures { λ r. ⌜ r ≡ injected s moment dut ⌝ }
+{
+    let table = fixed::table_on(moment, dut, parts);
+    let w = fixed::rate_on(moment, dut, parts);
+    let place = fixed_place(s);
+    let velocity = fixed_velocity(s);
+    returned_state(moment, table, w, place, velocity)
+}
+
+fn injection(s: Sphere, moment: u64, dut: u32, parts: u64) -> SphereAnswer
+    requires { ⌜ hourAnswer moment dut ≡ Parts parts ⌝ }
+    ensures { λ r. ⌜ r ≡ injectionAnswer s moment dut ⌝ }
+{
+    let angles = angles_allowed(s);
+    let sizes = sizes_allowed(s);
+    let refusal = unless(angles, 12, unless(sizes, 7, 0));
+    if refusal == 0 {
+        let state = injected_state(s, moment, dut, parts);
+        if state::state_is_finite(state) {
+            return SphereAnswer::Injected(state);
+        }
+        return SphereAnswer::Refused(7);
+    }
+    SphereAnswer::Refused(refusal)
+}
+
+pub fn from_sphere(s: Sphere, moment: u64, dut: u32) -> SphereAnswer
+    ensures { λ r. ⌜ r ≡ sphereAnswer s moment dut ⌝ }
+{
+    match hour::hour_angle(moment, dut) {
+        HourAnswer::Parts(parts) => injection(s, moment, dut, parts),
+        HourAnswer::Refused(number) => SphereAnswer::Refused(number),
+    }
+}
