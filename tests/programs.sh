@@ -11,3 +11,9 @@ need() { # COMMAND PACKAGE
     command -v "$1" >/dev/null 2>&1 && return
     apt-get update -qq && apt-get install -y -qq "$2" >/dev/null
 }
+
+# The same for a package that brings a file and no command.
+need_file() { # FILE PACKAGE
+    [ -e "$1" ] && return
+    apt-get update -qq && apt-get install -y -qq "$2" >/dev/null
+}

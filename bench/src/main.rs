@@ -32,7 +32,7 @@ impl Flight {
     }
 
     fn by_proved(&self) -> belfrywool::Ran {
-        let Setting { coefficients, dut } = self.setting;
+        let Setting { coefficients, dut, .. } = self.setting;
         let setting = belfrywool::Setting { coefficients, dut };
         let ([x, y, z], [vx, vy, vz]) = (self.start.position, self.start.velocity);
         let moment = self.start.moment;
@@ -96,6 +96,25 @@ fn roots(times: u32) {
     told("a root (Rust: the machine's instruction)", time.map(|t| t / each));
 }
 
+/// The hour angle by both rules, over times of every other day.
+fn angles(times: u32) {
+    let moments: Vec<u64> = (0..1000).map(|i| i * 3_155_755_553).collect();
+    let all = |rule: u64, angle: fn(u64, u64, u32) -> Result<u64, u64>| {
+        for &moment in &moments {
+            took(angle(black_box(rule), black_box(moment), 35_000));
+        }
+    };
+    let each = moments.len() as f64;
+    let rule = |rule| {
+        let proved = || all(rule, belfrywool::sidereal);
+        least(times, 200, proved, || all(rule, reference::hour::sidereal)).map(|t| t / each)
+    };
+    told("an hour angle, document 01's rule", rule(0));
+    told("an hour angle, the 1982 rule", rule(1));
+    let both = least(times, 200, || all(1, belfrywool::sidereal), || all(0, belfrywool::sidereal));
+    println!("the 1982 rule over document 01's: {:.2}", both[0] / both[1]);
+}
+
 /// The book's check, and the Moon's position behind it: an exported position checks its book.
 fn books(times: u32, book: &[u8], moment: u64) {
     let given = || black_box(book);
@@ -116,7 +135,7 @@ fn bench(words: &[String]) -> Result<(), String> {
     let read = |file| std::fs::read(file).map_err(|error| format!("{file}: {error}"));
     let order = read_order(&read(order)?).ok_or("the order is too short")?;
     let [earth, moon, sun, ..] = order.setting.coefficients;
-    let setting = Setting { coefficients: [earth, moon, sun, 0.0, 0.0, 0.0], dut: order.setting.dut };
+    let setting = Setting { coefficients: [earth, moon, sun, 0.0, 0.0, 0.0], dut: order.setting.dut, rule: 0 };
     let flight = Flight { book: read(book)?, setting, start: order.state };
     if !flight.same() {
         return Err("the two walks differ, or do not arrive".to_string());
@@ -125,6 +144,7 @@ fn bench(words: &[String]) -> Result<(), String> {
     told("thirty days", least(times, 1, || took(flight.by_proved()), || took(flight.by_reference())));
     books(times, &flight.book, flight.target());
     roots(times);
+    angles(times);
     Ok(())
 }
 

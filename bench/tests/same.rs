@@ -9,7 +9,7 @@ use reference::trial::floats::{flight, one_not_finite, wild};
 use reference::trial::mends::made;
 use reference::trial::plan::worlds;
 use reference::trial::runs::RUN;
-use reference::trial::times::{bad_dut, bad_moment, moment_dut};
+use reference::trial::times::{bad_dut, bad_moment, hard_ut, moment_dut, some_rule};
 use reference::trial::trip::Trip;
 use reference::trial::world::World;
 use reference::{book, calendar, conic, fixed, hour, motion, repair, root, sine, sphere};
@@ -46,11 +46,27 @@ fn calendar_and_angles() {
             dut = bad_dut(&mut c);
         }
         assert_eq!(proved::hour_angle(moment, dut), hour::hour_angle(moment, dut));
+        let rule = some_rule(&mut c);
+        assert_eq!(proved::sidereal(rule, moment, dut), hour::sidereal(rule, moment, dut));
+        let hard = hard_ut(&mut c);
+        assert_eq!(proved::sidereal(1, hard, 0), hour::sidereal(1, hard, 0));
         let parts = c.below(3_700_000_000_000);
         let both = sine::sine_cosine(parts).map(|(s, c)| bits([s, c]));
         assert_eq!(proved::sine_cosine(parts).map(bits), both);
         let x = if c.one_in(4) { c.edge() } else { c.any_bits() };
         assert_eq!(proved::root(x).map(f64::to_bits), root::root(x).map(f64::to_bits));
+    }
+}
+
+/// Every day at both its ends, by both rules.
+#[test]
+fn every_day() {
+    for day in 0..36_525 {
+        for ut in [day * hour::DAY, day * hour::DAY + hour::DAY - 1] {
+            for rule in [0, 1] {
+                assert_eq!(proved::sidereal(rule, ut, 0), hour::sidereal(rule, ut, 0));
+            }
+        }
     }
 }
 
@@ -67,8 +83,10 @@ fn states() {
         let coordinates = some_state(&mut c);
         let (p, v) = halves(coordinates);
         let state = proved::State { moment, coordinates };
-        let turned = fixed::earth_fixed(dut, moment, p, v).map(|(p, v)| bits(joined(p, v)));
-        assert_eq!(proved::earth_fixed(&state, dut).map(bits), turned);
+        let turned = |rule| fixed::earth_fixed(rule, dut, moment, p, v).map(|(p, v)| bits(joined(p, v)));
+        assert_eq!(proved::earth_fixed(&state, dut).map(bits), turned(0));
+        let rule = some_rule(&mut c);
+        assert_eq!(proved::turn(rule, dut, &state).map(bits), turned(rule));
         let m = if c.one_in(8) { c.any_bits() } else { c.sized(-2, 20).abs() };
         let expected = conic::conic(m, p, v).map(|x| match x.kind {
             conic::Kind::Ellipse { a, e, p, q, far } => (x.centre, 0, bits([a, e, p, q, far])),
@@ -96,6 +114,7 @@ fn injections() {
     let mut accepted = 0;
     for _ in 0..TIMES {
         let (moment, dut) = moment_dut(&mut c);
+        let rule = c.pick(&[0, 1, 0, 1, 0, 1, 2]);
         let (latitude, path) = (signed(&mut c), signed(&mut c));
         let (any, round) = (c.any_bits().to_bits(), c.below(CIRCLE));
         let (longitude, azimuth) = (c.pick(&[round, round, round, CIRCLE, any]), c.below(CIRCLE + 2));
@@ -104,8 +123,8 @@ fn injections() {
         let other = sphere::Sphere { radius, latitude: latitude.into(), longitude, speed, path: path.into(), azimuth };
         let (longitude, azimuth) = (longitude as i64, azimuth as i64);
         let own = proved::Sphere { radius, latitude, longitude, speed, path, azimuth };
-        let expected = sphere::from_sphere(dut, moment, &other).map(|(p, v)| bits(joined(p, v)));
-        let got = proved::from_sphere(&own, moment, dut).map(|s| bits(s.coordinates));
+        let expected = sphere::from_sphere(rule, dut, moment, &other).map(|(p, v)| bits(joined(p, v)));
+        let got = proved::from_sphere(&own, rule, moment, dut).map(|s| bits(s.coordinates));
         assert_eq!(got, expected, "{own:?}");
         accepted += u32::from(got.is_ok());
     }

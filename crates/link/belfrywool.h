@@ -28,7 +28,7 @@ enum {
     BELFRY_BOOK = 1,         /* the book does not pass */
     BELFRY_STEP = 2,         /* h is not allowed */
     BELFRY_MOMENT = 3,       /* a moment or UT is out of range */
-    BELFRY_SETTING = 4,      /* a coefficient or DUT is not allowed */
+    BELFRY_SETTING = 4,      /* a coefficient, DUT or the rule of the hour angle is not allowed */
     BELFRY_TARGET = 5,       /* the target is before the state, or not a whole number of steps away */
     BELFRY_COVER = 6,        /* a body has no cover */
     BELFRY_NOT_FINITE = 7,   /* a given state or a result is not finite */
@@ -65,6 +65,10 @@ uint64_t belfry_twice_julian_date(uint64_t day, uint64_t *twice);
 
 /* parts: the hour angle, in parts of 10^-10 degree. */
 uint64_t belfry_hour_angle(uint64_t moment, uint32_t dut, uint64_t *parts);
+
+/* parts: the same by a rule: 0 is the one above, 1 is the IAU 1982 expression for Greenwich mean sidereal time. Another rule is
+   BELFRY_SETTING. */
+uint64_t belfry_sidereal(uint64_t rule, uint64_t moment, uint32_t dut, uint64_t *parts);
 
 /* value: the square root of x. */
 uint64_t belfry_root(double x, double *value);
@@ -107,10 +111,14 @@ uint64_t belfry_single_step(const uint8_t *book, size_t length, const double coe
 /* turned: the state's six coordinates in axes that turn with the Earth. */
 uint64_t belfry_earth_fixed(uint64_t moment, const double coordinates[6], uint32_t dut, double turned[6]);
 
+/* turned: the same by a rule of the hour angle, as belfry_sidereal takes it. */
+uint64_t belfry_turn(uint64_t rule, uint32_t dut, uint64_t moment, const double coordinates[6], double turned[6]);
+
 /* An injection as launch crews speak it, Earth-fixed, to a state's six coordinates in 1950.0 axes at the moment. sizes: radius
    in km and speed in km/s. angles, in parts of 10^-10 degree: latitude and path angle from -90 to 90 degrees, longitude
-   (eastward) and azimuth (from the north) within one circle; in the order latitude, longitude, path angle, azimuth. */
-uint64_t belfry_from_sphere(uint64_t moment, uint32_t dut, const double sizes[2], const int64_t angles[4],
+   (eastward) and azimuth (from the north) within one circle; in the order latitude, longitude, path angle, azimuth. rule: as belfry_sidereal
+   takes it. */
+uint64_t belfry_from_sphere(uint64_t rule, uint64_t moment, uint32_t dut, const double sizes[2], const int64_t angles[4],
                             double coordinates[6]);
 
 /* The conic of a state about a centre of coefficient m. names: the number of the centre, and the kind.

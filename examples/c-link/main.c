@@ -39,6 +39,10 @@ static void angles(void) {
     printf("hour angle: %" PRIu64 "\n", parts);
     printf("hour angle below 0h UT:");
     refused(belfry_hour_angle(34999, 35000, &parts));
+    belfry_sidereal(1, UINT64_C(4322) * 86400000 + 82951000, 0, &parts);
+    printf("sidereal, 1982: %" PRIu64 "\n", parts);
+    printf("sidereal, a third rule:");
+    refused(belfry_sidereal(2, 0, 0, &parts));
     belfry_sine_cosine(900000000000, both);
     printf("sine and cosine of a quarter:");
     floats(both, 2);
@@ -190,6 +194,9 @@ static void states(void) {
     belfry_earth_fixed(0, coordinates, 0, turned);
     printf("Earth-fixed, 3 km up the axis:");
     floats(turned + 2, 1);
+    belfry_turn(1, 0, 0, coordinates, turned);
+    printf("the same by the 1982 rule:");
+    floats(turned + 2, 1);
 }
 
 /* A launch from the Cape, level and to the east, and an hour's flight under the Earth alone. */
@@ -200,7 +207,7 @@ static void launch(void) {
     double coordinates[6], there[6];
     uint64_t reached, entries[5];
     uint32_t steps;
-    belfry_from_sphere(moment, 35000, sizes, angles, coordinates);
+    belfry_from_sphere(0, moment, 35000, sizes, angles, coordinates);
     printf("launch:");
     floats(coordinates, 6);
     belfry_run(empty, 8, mass, 35000, moment, coordinates, 60000, moment + 3600000, 100, guesses, &reached, there, entries,
@@ -209,7 +216,7 @@ static void launch(void) {
     floats(there, 6);
     angles[2] = -900000000001;
     printf("path angle below -90 degrees:");
-    refused(belfry_from_sphere(moment, 35000, sizes, angles, coordinates));
+    refused(belfry_from_sphere(0, moment, 35000, sizes, angles, coordinates));
 }
 
 int main(void) {

@@ -108,6 +108,12 @@ pub fn ask_hour(f: &[&[u8]]) -> Option<String> {
     Some(told(hour::hour_angle(moment, dut).map(|parts| parts.to_string())))
 }
 
+pub fn ask_sidereal(f: &[&[u8]]) -> Option<String> {
+    let [rule, moment, dut] = f else { return None };
+    let (rule, moment, dut) = (decimal(rule)?, decimal(moment)?, small(dut)?);
+    Some(told(hour::sidereal(rule, moment, dut).map(|parts| parts.to_string())))
+}
+
 pub fn ask_root(f: &[&[u8]]) -> Option<String> {
     let [x] = floats(f)?;
     Some(told(root::root(x).map(shown)))
@@ -118,11 +124,17 @@ pub fn ask_sincos(f: &[&[u8]]) -> Option<String> {
     Some(told(sine::sine_cosine(parts).map(|(s, c)| all_shown(&[s, c]))))
 }
 
-pub fn ask_fixed(f: &[&[u8]]) -> Option<String> {
+/// DUT, moment and state, turned by a rule.
+pub fn turned(rule: u64, f: &[&[u8]]) -> Option<String> {
     let (dut, moment) = (small(f.first()?)?, decimal(f.get(1)?)?);
     let (position, velocity) = halves(floats(f.get(2..)?)?);
-    let answer = fixed::earth_fixed(dut, moment, position, velocity);
+    let answer = fixed::earth_fixed(rule, dut, moment, position, velocity);
     Some(told(answer.map(|(p, v)| all_shown(&two(p, v)))))
+}
+
+pub fn ask_turn(f: &[&[u8]]) -> Option<String> {
+    let (rule, rest) = f.split_first()?;
+    turned(decimal(rule)?, rest)
 }
 
 /// A decimal that may carry a minus sign.
@@ -134,8 +146,8 @@ pub fn signed(field: &[u8]) -> Option<i128> {
 }
 
 pub fn ask_sphere(f: &[&[u8]]) -> Option<String> {
-    let [dut, moment, radius, latitude, longitude, speed, path, azimuth] = f else { return None };
-    let (dut, moment) = (small(dut)?, decimal(moment)?);
+    let [rule, dut, moment, radius, latitude, longitude, speed, path, azimuth] = f else { return None };
+    let (rule, dut, moment) = (decimal(rule)?, small(dut)?, decimal(moment)?);
     let sphere = Sphere {
         radius: float(radius)?,
         latitude: signed(latitude)?,
@@ -144,7 +156,7 @@ pub fn ask_sphere(f: &[&[u8]]) -> Option<String> {
         path: signed(path)?,
         azimuth: decimal(azimuth)?,
     };
-    let answer = from_sphere(dut, moment, &sphere);
+    let answer = from_sphere(rule, dut, moment, &sphere);
     Some(told(answer.map(|(p, v)| format!("{moment} {}", all_shown(&two(p, v))))))
 }
 
@@ -167,7 +179,7 @@ pub fn ask_body(book: &[u8], f: &[&[u8]]) -> Option<String> {
 
 /// The first seven fields: six coefficients and DUT.
 pub fn setting(f: &[&[u8]]) -> Option<Setting> {
-    Some(Setting { coefficients: floats(f.get(..6)?)?, dut: small(f.get(6)?)? })
+    Some(Setting { coefficients: floats(f.get(..6)?)?, dut: small(f.get(6)?)?, rule: 0 })
 }
 
 pub fn ask_accel(book: &[u8], f: &[&[u8]]) -> Option<String> {
@@ -212,9 +224,11 @@ pub fn readable(book: &[u8], line: &[u8]) -> Option<String> {
         b"root" => ask_root(rest),
         b"sincos" => ask_sincos(rest),
         b"hour" => ask_hour(rest),
+        b"sidereal" => ask_sidereal(rest),
         b"date" => ask_date(rest),
         b"day" => ask_day(rest),
-        b"fixed" => ask_fixed(rest),
+        b"fixed" => turned(0, rest),
+        b"turn" => ask_turn(rest),
         b"sphere" => ask_sphere(rest),
         b"conic" => ask_conic(rest),
         b"body" => ask_body(book, rest),

@@ -1,6 +1,6 @@
 //! The Earth-fixed turn: precession from 1950.0 to the mean equator of date, then the turn.
 
-use crate::hour::{angle_at, universal, DAY};
+use crate::hour::{sidereal, universal, DAY};
 use crate::sine::{sine_cosine, C};
 use crate::vector::{finite, Vector};
 
@@ -45,15 +45,16 @@ pub fn rate(day: u64) -> f64 {
     (0.00417807417 / (1.0 + 0.000000000000521 * day as f64)) * C
 }
 
-/// The Earth-fixed call: 4 (DUT), 3, 7 (state, then result).
+/// The Earth-fixed call: 4 (DUT, rule), 3, 7 (state, then result).
 pub fn earth_fixed(
-    dut: u32, moment: u64, position: Vector, velocity: Vector,
+    rule: u64, dut: u32, moment: u64, position: Vector, velocity: Vector,
 ) -> Result<(Vector, Vector), u64> {
+    let angle = sidereal(rule, moment, dut)?;
     let ut = universal(moment, dut)?;
     if !finite(position) || !finite(velocity) {
         return Err(7);
     }
-    let (sine, cosine) = sine_cosine(angle_at(ut)?)?;
+    let (sine, cosine) = sine_cosine(angle)?;
     let rows = product(turn(sine, cosine), precession(moment));
     let p = turned(rows, position);
     let mut v = turned(rows, velocity);

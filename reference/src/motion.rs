@@ -1,15 +1,16 @@
 //! Acceleration, the step and the run.
 
 use crate::book;
-use crate::hour::{DUT_MOST, END};
+use crate::hour::{DUT_MOST, END, LAST_RULE};
 use crate::root::root;
 use crate::vector::{add, along, finite, n, sub, Vector};
 
-/// Six gravitational coefficients by body number from 1, and DUT.
+/// Six gravitational coefficients by body number from 1, DUT, and the rule of the hour angle.
 #[derive(Clone, Copy, Debug)]
 pub struct Setting {
     pub coefficients: [f64; 6],
     pub dut: u32,
+    pub rule: u64,
 }
 
 /// A moment with position and velocity.
@@ -36,11 +37,11 @@ pub struct Ran {
     pub guesses: [u64; 5],
 }
 
-/// Coefficients and DUT; else 4.
+/// Coefficients, DUT and rule; else 4.
 pub fn setting_allowed(setting: &Setting) -> Result<(), u64> {
     let m = setting.coefficients;
     let allowed = m.iter().all(|c| c.is_finite() && *c >= 0.0) && m[0] > 0.0;
-    if allowed && setting.dut <= DUT_MOST {
+    if allowed && setting.dut <= DUT_MOST && setting.rule <= LAST_RULE {
         Ok(())
     } else {
         Err(4)

@@ -1,7 +1,7 @@
 //! An injection as launch crews speak it: Earth-fixed spherical, to a state in 1950.0 axes.
 
 use crate::fixed::{precession, product, rate, turn, turned};
-use crate::hour::{angle_at, universal, CIRCLE, DAY};
+use crate::hour::{sidereal, universal, CIRCLE, DAY};
 use crate::sine::sine_cosine;
 use crate::vector::{finite, Vector};
 
@@ -32,8 +32,9 @@ fn transposed(t: [Vector; 3]) -> [Vector; 3] {
     [0, 1, 2].map(|j| [t[0][j], t[1][j], t[2][j]])
 }
 
-/// The injection call: 4 (DUT), 3, 12, 7 (radius, speed), 7 (result).
-pub fn from_sphere(dut: u32, moment: u64, s: &Sphere) -> Result<(Vector, Vector), u64> {
+/// The injection call: 4 (DUT, rule), 3, 12, 7 (radius, speed), 7 (result).
+pub fn from_sphere(rule: u64, dut: u32, moment: u64, s: &Sphere) -> Result<(Vector, Vector), u64> {
+    let angle = sidereal(rule, moment, dut)?;
     let ut = universal(moment, dut)?;
     // Every angle before any size.
     let (latitude, longitude) = (signed(s.latitude)?, sine_cosine(s.longitude)?);
@@ -52,7 +53,7 @@ pub fn from_sphere(dut: u32, moment: u64, s: &Sphere) -> Result<(Vector, Vector)
     let w = rate(ut / DAY);
     v[0] -= w * p[1];
     v[1] += w * p[0];
-    let (sine, cosine) = sine_cosine(angle_at(ut)?)?;
+    let (sine, cosine) = sine_cosine(angle)?;
     let back = transposed(product(turn(sine, cosine), precession(moment)));
     let (p, v) = (turned(back, p), turned(back, v));
     if finite(p) && finite(v) {

@@ -31,7 +31,7 @@ pub fn read_order(input: &[u8]) -> Option<Order> {
     let h = bytes_at(input, 104).map(u32::from_le_bytes)?;
     let dut = bytes_at(input, 108).map(u32::from_le_bytes)?;
     let target = bytes_at(input, 112).map(u64::from_le_bytes)?;
-    Some(Order { setting: Setting { coefficients: f, dut }, state, h, target })
+    Some(Order { setting: Setting { coefficients: f, dut, rule: 0 }, state, h, target })
 }
 
 /// One line for a state.

@@ -5,14 +5,14 @@ use reference::book::{self, Motion};
 use reference::calendar::{date_of, day_of};
 use reference::conic::{conic, Kind};
 use reference::fixed::{earth_fixed, precession, precession_by, SINCE_1950_0};
-use reference::hour::{angle_at, hour_angle, DAY, END};
+use reference::hour::{angle_at, angle_by, exact_1982, hour_angle, sidereal, CIRCLE, DAY, END, PART};
 use reference::motion::{acceleration, start_checks, run, Outcome, Setting, State};
 use reference::root::root;
 use reference::sine::{sine_cosine, OCTANT};
 use reference::sphere::{from_sphere, Sphere};
 use reference::strip::strip;
 use reference::trial::books::entries;
-use reference::trial::times::WHOLE_OCTANTS;
+use reference::trial::times::{NEAR_WHOLE, WHOLE_OCTANTS};
 use reference::vector::n;
 
 /// A book of one body with one entry, the same coefficients on each axis.
@@ -37,7 +37,7 @@ fn one(body: u16, start: u64, span: u64, coefficients: &[f64]) -> Vec<u8> {
 const EMPTY: [u8; 8] = [8, 0, 0, 0, 0, 0, 0, 0];
 
 fn earth_alone(m: f64) -> Setting {
-    Setting { coefficients: [m, 0.0, 0.0, 0.0, 0.0, 0.0], dut: 0 }
+    Setting { coefficients: [m, 0.0, 0.0, 0.0, 0.0, 0.0], dut: 0, rule: 0 }
 }
 
 #[test]
@@ -136,7 +136,7 @@ fn ground_points() {
     ];
     for (day, ut, position, (latitude, longitude)) in cases {
         let moment = day * DAY + ut + 35_000;
-        let (p, _) = earth_fixed(35_000, moment, position, [0.0; 3]).unwrap();
+        let (p, _) = earth_fixed(0, 35_000, moment, position, [0.0; 3]).unwrap();
         let (lat, lon) = ground(p);
         assert!((lat - latitude).abs() < 0.003 && (lon - longitude).abs() < 0.003, "{lat} {lon}");
     }
@@ -159,15 +159,71 @@ fn injections() {
         let (longitude, azimuth) = (parts(longitude) as u64, parts(azimuth) as u64);
         let sphere = Sphere { radius, latitude, longitude, speed, path, azimuth };
         let moment = day * DAY + ut + 35_000;
-        let (p, v) = from_sphere(35_000, moment, &sphere).unwrap();
+        let (p, v) = from_sphere(0, 35_000, moment, &sphere).unwrap();
         for i in 0..3 {
             assert!((p[i] - expected[i]).abs() < 0.25, "{p:?}");
             assert!((v[i] - expected[3 + i]).abs() < 0.0006, "{v:?}");
         }
-        let refused = |s| from_sphere(35_000, moment, &s).unwrap_err();
+        let refused = |s| from_sphere(0, 35_000, moment, &s).unwrap_err();
         assert_eq!(refused(Sphere { latitude: parts(90.0) + 1, radius: -1.0, ..sphere }), 12);
         assert_eq!(refused(Sphere { radius: 0.0, ..sphere }), 7);
-        assert!(from_sphere(35_000, moment, &Sphere { latitude: parts(-90.0), speed: -1.0, ..sphere }).is_ok());
+        assert!(from_sphere(0, 35_000, moment, &Sphere { latitude: parts(-90.0), speed: -1.0, ..sphere }).is_ok());
+    }
+}
+
+/// The 1982 rule once more, as one sum over one denominator with the document's coefficients as they stand, on
+/// every day. The sum has 134 bits: it is compared by its rests modulo three numbers of 60 bits and more.
+#[test]
+fn rule_of_1982() {
+    // Worked out in fractions: 1950 January 1, 2000 January 1 at 0h and 12h, the last millisecond.
+    let at = |ut| sidereal(1, ut, 0).unwrap();
+    assert_eq!(at(0), 1000756885573);
+    assert_eq!(at(18_262 * DAY), 999677946918);
+    assert_eq!(at(18_262 * DAY + DAY / 2), 2804606183749);
+    assert_eq!(at(END - 1), 1008457379811);
+    for d in 0..36_525u64 {
+        let x = 2 * i128::from(d) - 36_525;
+        for t in [0, 1, DAY / 2, DAY - 1] {
+            let (whole, rest) = exact_1982(d * DAY + t);
+            assert!((0..PART).contains(&rest));
+            for m in [(1i128 << 61) - 1, 1_000_000_000_000_000_003, 4_611_686_018_427_387_847] {
+                let mul = |a: i128, b: i128| (a.rem_euclid(m) * b.rem_euclid(m)).rem_euclid(m);
+                let v = 73_050;
+                let cube = mul(mul(v, v), v);
+                let seconds = mul(mul(2_411_054_841, 100), cube) + mul(mul(8_640_184_812_866, 10), mul(mul(v, v), x))
+                    + mul(mul(93_104, 10), mul(mul(v, x), x)) - mul(62, mul(mul(x, x), x));
+                let rate = mul(mul(1_002_737_909_350_795, 10), mul(v, v)) + mul(mul(59_006, 10), mul(v, x)) - mul(59, mul(x, x));
+                let sum = mul(1_000_000_000_000, seconds) + mul(mul(i128::from(t), v), rate);
+                assert_eq!((mul(whole, PART) + rest).rem_euclid(m), sum.rem_euclid(m), "{d} {t}");
+            }
+        }
+    }
+    for (i, ut) in NEAR_WHOLE.into_iter().enumerate() {
+        let (_, rest) = exact_1982(ut);
+        let off = if i < 8 { rest } else { PART - rest };
+        assert!(off * 1_000_000 < PART, "{ut}");
+    }
+    for ut in (0..END).step_by(7_777_777_777) {
+        assert!(angle_by(1, ut).unwrap() < CIRCLE);
+        assert_eq!(angle_by(0, ut), angle_at(ut));
+        // The two rules tell nearly the same.
+        let apart = (angle_by(1, ut).unwrap() + CIRCLE - angle_at(ut).unwrap()) % CIRCLE;
+        assert!(apart.min(CIRCLE - apart) < 200_000_000, "{ut} {apart}");
+    }
+    assert_eq!(sidereal(2, 0, 0), Err(4));
+    assert_eq!(sidereal(2, END, 0), Err(4));
+    assert_eq!(sidereal(1, 5, 6), Err(3));
+}
+
+/// A setting's rule is judged wherever a setting is.
+#[test]
+fn rule_of_a_setting() {
+    let state = State { moment: 0, position: [2.0, 0.0, 0.0], velocity: [0.0, 4.0, 0.0] };
+    for (rule, told) in [(0, None), (1, None), (2, Some(4)), (u64::MAX, Some(4))] {
+        let setting = Setting { rule, ..earth_alone(8.0) };
+        let ran = run(&EMPTY, &setting, &state, 1000, 1000, 1, [0; 5]);
+        assert_eq!(ran.outcome, told.map_or(Outcome::Arrived, Outcome::Refused));
+        assert_eq!(acceleration(&EMPTY, &setting, 0, [2.0, 0.0, 0.0]).err(), told);
     }
 }
 

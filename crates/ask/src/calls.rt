@@ -84,6 +84,16 @@ fn hour_answer(v: &Numbers, out: &mut Out, at: usize) -> usize
     }
 }
 
+fn sidereal_answer(v: &Numbers, out: &mut Out, at: usize) -> usize
+    requires { ⌜ at + 512 ≤ 65_536 ⌝ }
+    ensures { λ r. ⌜ Between at 1 512 r ⌝ }
+{
+    match hour::sidereal(v[0], v[1], narrowed(v[2])) {
+        HourAnswer::Parts(parts) => put_numbers(out, at, &[parts]),
+        HourAnswer::Refused(number) => put_refused(out, at, number),
+    }
+}
+
 fn date_answer(v: &Numbers, out: &mut Out, at: usize) -> usize
     requires { ⌜ at + 512 ≤ 65_536 ⌝ }
     ensures { λ r. ⌜ Between at 1 512 r ⌝ }
@@ -104,11 +114,23 @@ fn day_answer(v: &Numbers, out: &mut Out, at: usize) -> usize
     }
 }
 
+// The rule, DUT, and the state with its moment.
+fn turn_answer(v: &Numbers, out: &mut Out, at: usize) -> usize
+    requires { ⌜ at + 512 ≤ 65_536 ⌝ }
+    ensures { λ r. ⌜ Between at 1 512 r ⌝ }
+{
+    match fixed::earth_fixed(v[0], narrowed(v[1]), state_from(v, v[2], 3)) {
+        FixedAnswer::Fixed(f) => put_floats(out, at, &[f.x, f.y, f.z, f.vx, f.vy, f.vz]),
+        FixedAnswer::Refused(number) => put_refused(out, at, number),
+    }
+}
+
+// The same without the rule: the old one.
 fn fixed_answer(v: &Numbers, out: &mut Out, at: usize) -> usize
     requires { ⌜ at + 512 ≤ 65_536 ⌝ }
     ensures { λ r. ⌜ Between at 1 512 r ⌝ }
 {
-    match fixed::earth_fixed(state_from(v, v[1], 2), narrowed(v[0])) {
+    match fixed::earth_fixed(0, narrowed(v[0]), state_from(v, v[1], 2)) {
         FixedAnswer::Fixed(f) => put_floats(out, at, &[f.x, f.y, f.z, f.vx, f.vy, f.vz]),
         FixedAnswer::Refused(number) => put_refused(out, at, number),
     }
@@ -128,17 +150,17 @@ fn signed_of(bits: u64) -> Signed {
     }
 }
 
-// After DUT and the moment come radius, latitude, longitude, speed, path angle and azimuth.
+// After the rule, DUT and the moment come radius, latitude, longitude, speed, path angle and azimuth.
 fn sphere_of(v: &Numbers) -> Sphere {
-    let latitude = signed_of(v[3]);
-    let path = signed_of(v[6]);
+    let latitude = signed_of(v[4]);
+    let path = signed_of(v[7]);
     Sphere {
-        radius: nth_float(v, 2),
+        radius: nth_float(v, 3),
         latitude,
-        longitude: v[4],
-        speed: nth_float(v, 5),
+        longitude: v[5],
+        speed: nth_float(v, 6),
         path,
-        azimuth: v[7],
+        azimuth: v[8],
     }
 }
 
@@ -146,7 +168,7 @@ fn sphere_answer(v: &Numbers, out: &mut Out, from: usize) -> usize
     requires { ⌜ from + 512 ≤ 65_536 ⌝ }
     ensures { λ r. ⌜ Between from 1 512 r ⌝ }
 {
-    match sphere::from_sphere(sphere_of(v), v[1], narrowed(v[0])) {
+    match sphere::from_sphere(sphere_of(v), v[0], v[2], narrowed(v[1])) {
         SphereAnswer::Injected(s) => {
             let at = put_numbers(out, from, &[s.moment]);
             put_floats(out, at, &[s.x, s.y, s.z, s.vx, s.vy, s.vz])
@@ -216,6 +238,7 @@ fn setting_of(v: &Numbers) -> Setting {
         mars: nth_float(v, 4),
         jupiter: nth_float(v, 5),
         dut: narrowed(v[6]),
+        rule: 0,
     }
 }
 
@@ -304,7 +327,7 @@ fn book_call(book: &[u8], line: &[u8], out: &mut Out, at: usize) -> usize
     text::put_bytes(out, at, b"UNREADABLE ")
 }
 
-// fixed, sphere or conic, or a call of a book.
+// fixed, turn, sphere or conic, or a call of a book.
 fn state_call(book: &[u8], line: &[u8], out: &mut Out, at: usize) -> usize
     requires { ⌜ at + 512 ≤ 65_536 ⌝ }
     ensures { λ r. ⌜ Between at 1 512 r ⌝ }
@@ -313,7 +336,10 @@ fn state_call(book: &[u8], line: &[u8], out: &mut Out, at: usize) -> usize
     if reads(line, b"fixed", b"SDFFFFFF", &mut v) {
         return fixed_answer(&v, out, at);
     }
-    if reads(line, b"sphere", b"SDFNDFND", &mut v) {
+    if reads(line, b"turn", b"DSDFFFFFF", &mut v) {
+        return turn_answer(&v, out, at);
+    }
+    if reads(line, b"sphere", b"DSDFNDFND", &mut v) {
         return sphere_answer(&v, out, at);
     }
     if reads(line, b"conic", b"FFFFFFF", &mut v) {
@@ -322,7 +348,7 @@ fn state_call(book: &[u8], line: &[u8], out: &mut Out, at: usize) -> usize
     book_call(book, line, out, at)
 }
 
-// hour, date or day, or a call of a state.
+// hour, sidereal, date or day, or a call of a state.
 fn time_call(book: &[u8], line: &[u8], out: &mut Out, at: usize) -> usize
     requires { ⌜ at + 512 ≤ 65_536 ⌝ }
     ensures { λ r. ⌜ Between at 1 512 r ⌝ }
@@ -330,6 +356,9 @@ fn time_call(book: &[u8], line: &[u8], out: &mut Out, at: usize) -> usize
     let mut v = [0u64; 22];
     if reads(line, b"hour", b"DS", &mut v) {
         return hour_answer(&v, out, at);
+    }
+    if reads(line, b"sidereal", b"DDS", &mut v) {
+        return sidereal_answer(&v, out, at);
     }
     if reads(line, b"date", b"D", &mut v) {
         return date_answer(&v, out, at);

@@ -3,7 +3,7 @@ use mathlib.Core.Path.{refl}
 use lib.Ieee.{neg, add, sub, mul, div, lt, eq, ofBits, ofInt}
 use Rattle.calendar.specs.Gregorian.{ymd, daysBeforeMonth, daysOfYears}
 use Rattle.calendar.proofs.Dates.{date-call-and-back}
-use Rattle.hour.specs.Hour.{hourAngle}
+use Rattle.hour.specs.Hour.{siderealAngle}
 use Rattle.state.specs.State.{n}
 use Rattle.root.specs.Root.{rootOf}
 use Rattle.book.specs.Series.{argument, clenshaw, series}
@@ -17,7 +17,7 @@ a & b = (a, b)
 
 -- A date's day is counted by the lengths of years and months, and its date is the way back; every other row computes.
 pub all : AllRight table
-unfolding daysBeforeMonth daysOfYears hourAngle argument clenshaw series g sound r3 n cross eccentricity lastFigure orbit unfit _before_ refusal conicOf orbitAnswer conicAnswer rootOf neg add sub mul div lt eq ofBits ofInt
+unfolding daysBeforeMonth daysOfYears siderealAngle argument clenshaw series g sound r3 n cross eccentricity lastFigure orbit unfit _before_ refusal conicOf orbitAnswer conicAnswer rootOf neg add sub mul div lt eq ofBits ofInt
 all =
     date-call-and-back (ymd 1958 1 1) refl
     & date-call-and-back (ymd 2000 2 29) refl

@@ -2,45 +2,43 @@
 use mathlib.Core.Bool.{Bool, true, false, not}
 use mathlib.Core.Path.{_≡_, refl, sym}
 use Prim.Native.Nat.{ℕ, _≤_, _<_}
-use native.Mathlib.Nat.{mod-lt}
 use native.Mathlib.Omega.{arith}
 use borrow.Author.Tests.{ltb-true, ltb-false}
 use Rattle.basis.specs.Choice.{if_then_else_, _<?_}
 use Rattle.basis.specs.Limits.{endOfTime, isMoment, isDUT, circle}
-use Rattle.hour.specs.Hour.{utDay, utTime, hourAngle, hourAnswer}
+use Rattle.hour.specs.Hour.{utDay, utTime, isRule, siderealAngle, siderealAnswer}
+use Rattle.hour.proofs.BothRules.{angle-below}
 use Rattle.hour.specs.declared.HourAnswer.the-variants.{Parts, Refused}
 
-pub record Accepted (moment dut parts : ℕ) : Type 0 where
+pub record Accepted (rule moment dut parts : ℕ) : Type 0 where
   pub not-before : dut ≤ moment
   pub in-time : moment < endOfTime
-  pub angle : parts ≡ hourAngle (utDay moment dut) (utTime moment dut)
+  pub angle : parts ≡ siderealAngle rule (utDay moment dut) (utTime moment dut)
   pub in-circle : parts < circle
 
-angle-in-circle : (d t : ℕ) → hourAngle d t < circle
-unfolding hourAngle
-angle-in-circle d t = mod-lt _ (omega arith)
-
 by-tests :
-    (moment dut parts : ℕ) (allowed in-time before : Bool)
+    (rule moment dut parts : ℕ) (allowed known in-time before : Bool)
     → in-time ≡ isMoment moment
     → before ≡ (moment <? dut)
     → (if not allowed then Refused 4 else
+    if not known then Refused 4 else
     if not in-time then Refused 3 else
     if before then Refused 3 else
-    Parts (hourAngle (utDay moment dut) (utTime moment dut)))
+    Parts (siderealAngle rule (utDay moment dut) (utTime moment dut)))
     ≡ Parts parts
-    → Accepted moment dut parts
-by-tests moment dut parts true true false m b e =
-    let angle : hourAngle (utDay moment dut) (utTime moment dut) ≡ parts = cc in
+    → Accepted rule moment dut parts
+by-tests rule moment dut parts true true true false m b e =
+    let angle : siderealAngle rule (utDay moment dut) (utTime moment dut) ≡ parts = cc in
     record {
       not-before = ltb-false moment dut (sym b);
       in-time = ltb-true moment endOfTime (sym m);
       angle = sym angle;
-      in-circle = rw angle at (angle-in-circle (utDay moment dut) (utTime moment dut));
+      in-circle = rw angle at (angle-below rule (utDay moment dut) (utTime moment dut));
     }
-by-tests moment dut parts true true true m b e = let z : _≡_ {A = ℕ} 0 1 = cc in absurd (omega arith)
-by-tests moment dut parts true false before m b e = let z : _≡_ {A = ℕ} 0 1 = cc in absurd (omega arith)
-by-tests moment dut parts false in-time before m b e = let z : _≡_ {A = ℕ} 0 1 = cc in absurd (omega arith)
+by-tests rule moment dut parts true true true true m b e = let z : _≡_ {A = ℕ} 0 1 = cc in absurd (omega arith)
+by-tests rule moment dut parts true true false before m b e = let z : _≡_ {A = ℕ} 0 1 = cc in absurd (omega arith)
+by-tests rule moment dut parts true false in-time before m b e = let z : _≡_ {A = ℕ} 0 1 = cc in absurd (omega arith)
+by-tests rule moment dut parts false known in-time before m b e = let z : _≡_ {A = ℕ} 0 1 = cc in absurd (omega arith)
 
-pub accepted : (moment dut parts : ℕ) → hourAnswer moment dut ≡ Parts parts → Accepted moment dut parts
-accepted moment dut parts e = by-tests moment dut parts (isDUT dut) (isMoment moment) (moment <? dut) refl refl e
+pub accepted : (rule moment dut parts : ℕ) → siderealAnswer rule moment dut ≡ Parts parts → Accepted rule moment dut parts
+accepted rule moment dut parts e = by-tests rule moment dut parts (isDUT dut) (isRule rule) (isMoment moment) (moment <? dut) refl refl e

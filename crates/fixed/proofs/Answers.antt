@@ -9,14 +9,14 @@ use Rattle.fixed.specs.declared.EarthFixed.{EarthFixed}
 use Rattle.fixed.specs.declared.FixedAnswer.the-variants.{Fixed, Refused}
 use Rattle.fixed.specs.Fixed.{rotation, turned, finiteFixed, finiteAnswer}
 
-pub refused-is : (state : State) (dut : ℕ) → finiteState state ≡ false → Refused 7 ≡ finiteAnswer state dut
+pub refused-is : (rule dut : ℕ) (state : State) → finiteState state ≡ false → Refused 7 ≡ finiteAnswer rule dut state
 unfolding finiteAnswer
-refused-is state dut not-finite = rw not-finite
+refused-is rule dut state not-finite = rw not-finite
 
 pub answer-is :
-    (state : State) (dut : ℕ) (fixed : EarthFixed)
+    (rule dut : ℕ) (state : State) (fixed : EarthFixed)
     → finiteState state ≡ true
-    → fixed ≡ turned (rotation (state .moment) dut) state
-    → (if not (finiteFixed fixed) then Refused 7 else Fixed fixed) ≡ finiteAnswer state dut
+    → fixed ≡ turned (rotation rule (state .moment) dut) state
+    → (if not (finiteFixed fixed) then Refused 7 else Fixed fixed) ≡ finiteAnswer rule dut state
 unfolding finiteAnswer
-answer-is state dut fixed is-finite e = rw (e, is-finite)
+answer-is rule dut state fixed is-finite e = rw (e, is-finite)

@@ -6,4 +6,4 @@ use Rattle.fixed.proofs.earth_fixed as earth-fixed
 
 pub earth-fixed-answers-once : OneAnswer earth-fixed.ended (λ M. earth-fixed.clauses)
 earth-fixed-answers-once =
-    one-answer (λ κs inputs. fixedAnswer (inputs .0) (inputs .1 .0)) (λ M 𝓤 H A mem run κs inputs g r after. refl)
+    one-answer (λ κs inputs. fixedAnswer (inputs .0) (inputs .1 .0) (inputs .1 .1 .0)) (λ M 𝓤 H A mem run κs inputs g r after. refl)

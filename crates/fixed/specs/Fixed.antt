@@ -1,4 +1,4 @@
--- Document 01, "Earth-fixed turn and conic", and document 02, R-2: a state in coordinates that turn with the Earth.
+-- Document 01, "Earth-fixed turn and conic", and document 02, R-2 and R-9: a state in coordinates that turn with the Earth.
 use mathlib.Core.Bool.{Bool, not, _&&_}
 use mathlib.Core.List.{List, [], _∷_}
 use Prim.Native.Nat.{ℕ}
@@ -9,7 +9,7 @@ use Rattle.basis.specs.Floats.{_⊕_, _⊖_, _⊗_, _⊘_, whole, decimal}
 use Rattle.state.specs.declared.State.{State}
 use Rattle.state.specs.declared.Vector.{Vector}
 use Rattle.state.specs.State.{position, velocity, finiteVector, finiteState}
-use Rattle.hour.specs.Hour.{utDay, utTime, hourAngle, hourAnswer}
+use Rattle.hour.specs.Hour.{utDay, utTime, siderealAngle, siderealAnswer}
 use Rattle.hour.specs.declared.HourAnswer.{HourAnswer}
 use Rattle.sine.specs.declared.SineCosine.{SineCosine}
 use Rattle.sine.specs.Sine.{c, sineCosine}
@@ -70,11 +70,11 @@ pub record Rotation : Type 0 where
   pub w : Float
 
 -- at a moment: R-2: "first taken to the mean equator of date by the precession table", of the moment itself, "and then turned", by its hour
--- angle, "the turn on the left"; and the rate of its UT day
-unfoldable pub rotation : ℕ → ℕ → Rotation
-rotation moment dut =
+-- angle, R-9: by the rule of the setting, "the turn on the left"; and the rate of its UT day: R-9: "the turn's rate w stays document 01's"
+unfoldable pub rotation : ℕ → ℕ → ℕ → Rotation
+rotation rule moment dut =
     record {
-      table = product (turn (sineCosine (hourAngle (utDay moment dut) (utTime moment dut)))) (precession moment);
+      table = product (turn (sineCosine (siderealAngle rule (utDay moment dut) (utTime moment dut)))) (precession moment);
       w = rate (utDay moment dut);
     }
 
@@ -97,9 +97,9 @@ finiteFixed f =
     finiteVector (record { x = f .x; y = f .y; z = f .z }) && finiteVector (record { x = f .vx; y = f .vy; z = f .vz })
 
 -- "(state, then result)"
-unfoldable pub finiteAnswer : State → ℕ → FixedAnswer
-finiteAnswer state dut =
-    let fixed = turned (rotation (state .moment) dut) state in
+unfoldable pub finiteAnswer : ℕ → ℕ → State → FixedAnswer
+finiteAnswer rule dut state =
+    let fixed = turned (rotation rule (state .moment) dut) state in
     if not (finiteState state) then Refused 7 else
     if not (finiteFixed fixed) then Refused 7 else
     Fixed fixed
@@ -109,6 +109,6 @@ abbrev pub afterHour : HourAnswer → FixedAnswer → FixedAnswer
 afterHour (HourAnswer.Parts parts) answer = answer
 afterHour (HourAnswer.Refused number) answer = Refused number
 
--- the hour angle's refusals, "4 (DUT), 3", "then 7 (state, then result)"
-unfoldable pub fixedAnswer : State → ℕ → FixedAnswer
-fixedAnswer state dut = afterHour (hourAnswer (state .moment) dut) (finiteAnswer state dut)
+-- the hour angle's refusals, "4 (DUT), 3", and 4 of a rule other than the two, "then 7 (state, then result)"
+unfoldable pub fixedAnswer : ℕ → ℕ → State → FixedAnswer
+fixedAnswer rule dut state = afterHour (siderealAnswer rule (state .moment) dut) (finiteAnswer rule dut state)

@@ -8,7 +8,7 @@ ghost use mathlib.Core.Path.{_≡_};
 ghost use Prim.Native.Nat.{_≤_};
 ghost use Rattle.basis.specs.Limits.{lastDay};
 ghost use Rattle.hour.specs.declared.HourAnswer.the-variants.{Parts};
-ghost use Rattle.hour.specs.Hour.{hourAnswer};
+ghost use Rattle.hour.specs.Hour.{siderealAnswer};
 ghost use Rattle.fixed.specs.Fixed.{turn, rowTimes, times, rowProduct, product, rate, rotation, turned, finiteFixed, finiteAnswer, fixedAnswer};
 
 // Position in km and velocity in km/s, in axes that turn with the Earth.
@@ -132,29 +132,29 @@ fn fixed_is_finite(f: EarthFixed) -> bool
 
 // The table that is applied to 1950.0 coordinates at a moment whose hour angle is `parts`, and the Earth's rate then: not public
 // calls, but what the crates above use too.
-pub fn table_on(moment: u64, dut: u32, parts: u64) -> [[f64; 3]; 3]
-    requires { ⌜ hourAnswer moment dut ≡ Parts parts ⌝ }
-    ensures { λ r. ⌜ r ≡ rotation moment dut .table ⌝ }
+pub fn table_on(rule: u64, moment: u64, dut: u32, parts: u64) -> [[f64; 3]; 3]
+    requires { ⌜ siderealAnswer rule moment dut ≡ Parts parts ⌝ }
+    ensures { λ r. ⌜ r ≡ rotation rule moment dut .table ⌝ }
 {
     let of = sine::of_parts(parts);
     table_product(turn_table(of), precession::known::table_at(moment))
 }
 
-pub fn rate_on(moment: u64, dut: u32, parts: u64) -> f64
-    requires { ⌜ hourAnswer moment dut ≡ Parts parts ⌝ }
-    ensures { λ r. ⌜ r ≡ rotation moment dut .w ⌝ }
+pub fn rate_on(rule: u64, moment: u64, dut: u32, parts: u64) -> f64
+    requires { ⌜ siderealAnswer rule moment dut ≡ Parts parts ⌝ }
+    ensures { λ r. ⌜ r ≡ rotation rule moment dut .w ⌝ }
 {
     let ut = moment - dut as u64;
     turning_rate(ut / basis::DAY_LENGTH)
 }
 
-fn fixed_at(state: State, dut: u32, parts: u64) -> FixedAnswer
-    requires { ⌜ hourAnswer (state .moment) dut ≡ Parts parts ⌝ }
-    ensures { λ r. ⌜ r ≡ finiteAnswer state dut ⌝ }
+fn fixed_at(rule: u64, dut: u32, state: State, parts: u64) -> FixedAnswer
+    requires { ⌜ siderealAnswer rule (state .moment) dut ≡ Parts parts ⌝ }
+    ensures { λ r. ⌜ r ≡ finiteAnswer rule dut state ⌝ }
 {
     if state::state_is_finite(state) {
-        let table = table_on(state.moment, dut, parts);
-        let w = rate_on(state.moment, dut, parts);
+        let table = table_on(rule, state.moment, dut, parts);
+        let w = rate_on(rule, state.moment, dut, parts);
         let fixed = turned_state(table, w, state);
         if fixed_is_finite(fixed) {
             return FixedAnswer::Fixed(fixed);
@@ -163,11 +163,11 @@ fn fixed_at(state: State, dut: u32, parts: u64) -> FixedAnswer
     FixedAnswer::Refused(7)
 }
 
-pub fn earth_fixed(state: State, dut: u32) -> FixedAnswer
-    ensures { λ r. ⌜ r ≡ fixedAnswer state dut ⌝ }
+pub fn earth_fixed(rule: u64, dut: u32, state: State) -> FixedAnswer
+    ensures { λ r. ⌜ r ≡ fixedAnswer rule dut state ⌝ }
 {
-    match hour::hour_angle(state.moment, dut) {
-        HourAnswer::Parts(parts) => fixed_at(state, dut, parts),
+    match hour::sidereal(rule, state.moment, dut) {
+        HourAnswer::Parts(parts) => fixed_at(rule, dut, state, parts),
         HourAnswer::Refused(number) => FixedAnswer::Refused(number),
     }
 }

@@ -1,8 +1,11 @@
--- Document 01, "Time" and "Hour angle": UT, the exact value as one fraction, and the answer with its refusals.
-use mathlib.Core.Bool.{not}
+-- Document 01, "Time" and "Hour angle", and document 02, R-9: UT, the two rules, each one exact fraction, and the answer with its refusals.
+use mathlib.Core.Bool.{Bool, not}
 use Prim.Native.Nat.{ℕ, _+_, _-_, _*_, _/_, _%_, _^_}
-use Rattle.basis.specs.Choice.{if_then_else_, _<?_}
-use Rattle.basis.specs.Limits.{isMoment, isDUT, dayLength, circle}
+use lib.IntN.{pos}
+use Rattle.basis.specs.Choice.{if_then_else_, _<?_, _≤?_, _=?_}
+use Rattle.basis.specs.Limits.{isMoment, isDUT, dayLength}
+use Rattle.hour.specs.Fraction.{Fraction, intoCircle}
+use Rattle.hour.specs.Sidereal.{sidereal1982}
 use Rattle.hour.specs.declared.HourAnswer.{HourAnswer}
 use Rattle.hour.specs.declared.HourAnswer.the-variants.{Parts, Refused}
 
@@ -13,11 +16,7 @@ utDay moment dut = (moment - dut) / dayLength
 abbrev pub utTime : ℕ → ℕ → ℕ
 utTime moment dut = (moment - dut) % dayLength
 
--- an exact value, numerator over denominator, "rounded down once, then reduced into one circle"
-abbrev pub intoCircle : ℕ → ℕ → ℕ
-intoCircle numerator denominator = numerator / denominator % circle
-
--- what the fourth term is divided by
+-- document 01's rule, of d whole days and t milliseconds of UT: what the fourth term is divided by
 abbrev pub slowing : ℕ → ℕ
 slowing d = 10 ^ 15 + 521 * d
 
@@ -33,14 +32,32 @@ numerator d t =
     + 29_015 * (d * d) * slowing d
     + 417_807_417 * 10 ^ 11 * t * 10 ^ 7
 
--- of d whole days and t milliseconds of UT
-unfoldable pub hourAngle : ℕ → ℕ → ℕ
-hourAngle d t = intoCircle (numerator d t) (denominator d)
+abbrev pub documentOne : ℕ → ℕ → Fraction
+documentOne d t = record { numerator = pos (numerator d t); denominator = denominator d }
 
--- refusals "4 (DUT), 3": a moment out of range, then "UT below 0"
-abbrev pub hourAnswer : ℕ → ℕ → HourAnswer
-hourAnswer moment dut =
+-- "Keep both and choose by a setting": rule 0 is document 01's, rule 1 that of 1982
+abbrev pub isRule : ℕ → Bool
+isRule rule = rule ≤? 1
+
+abbrev pub ruleOf : ℕ → ℕ → ℕ → Fraction
+ruleOf rule d t = if rule =? 0 then documentOne d t else sidereal1982 d t
+
+-- of d whole days and t milliseconds of UT, by a rule
+unfoldable pub siderealAngle : ℕ → ℕ → ℕ → ℕ
+siderealAngle rule d t = intoCircle (ruleOf rule d t)
+
+-- refusals "4 (DUT), 3", and "a rule other than the two is 4": a moment out of range, then "UT below 0"
+abbrev pub siderealAnswer : ℕ → ℕ → ℕ → HourAnswer
+siderealAnswer rule moment dut =
     if not (isDUT dut) then Refused 4 else
+    if not (isRule rule) then Refused 4 else
     if not (isMoment moment) then Refused 3 else
     if moment <? dut then Refused 3 else
-    Parts (hourAngle (utDay moment dut) (utTime moment dut))
+    Parts (siderealAngle rule (utDay moment dut) (utTime moment dut))
+
+-- document 01's hour angle: "an old setting means the old rule"
+abbrev pub hourAngle : ℕ → ℕ → ℕ
+hourAngle d t = siderealAngle 0 d t
+
+abbrev pub hourAnswer : ℕ → ℕ → HourAnswer
+hourAnswer moment dut = siderealAnswer 0 moment dut

@@ -1,2 +1,5 @@
+pub mod Century
 pub mod Division
+pub mod Fraction
 pub mod Hour
+pub mod Sidereal

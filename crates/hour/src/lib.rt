@@ -1,11 +1,16 @@
-// The hour angle of a moment, in parts of 10^-10 degree.
+// The hour angle of a moment, in parts of 10^-10 degree, by document 01's rule or by that of 1982.
+
+mod rule1982;
 
 use basis::CIRCLE;
 ghost use mathlib.Core.Path.{_≡_};
 ghost use Prim.Native.Nat.{_*_, _/_, _<_, _≤_, _^_};
 ghost use Rattle.basis.specs.Limits.{dayLength, lastDay};
 ghost use Rattle.hour.specs.Division.{division, Room, ThreeDigitsOn, TurnRoom};
-ghost use Rattle.hour.specs.Hour.{hourAngle, hourAnswer};
+ghost use Rattle.hour.specs.Hour.{hourAngle, hourAnswer, siderealAngle, siderealAnswer};
+
+// Rule 0 is document 01's, rule 1 that of 1982.
+pub const LAST_RULE: u64 = 1;
 
 pub enum HourAnswer {
     Parts(u64),
@@ -15,6 +20,21 @@ pub enum HourAnswer {
 struct Division {
     quotient: u64,
     rest: u64,
+}
+
+// whole + first/73,050 + second/73,050²
+struct Spans {
+    whole: u64,
+    first: u64,
+    second: u64,
+}
+
+// The same with a third digit.
+struct DaySpans {
+    whole: u64,
+    first: u64,
+    second: u64,
+    third: u64,
 }
 
 fn divide(dividend: u64, divisor: u64) -> Division
@@ -72,10 +92,24 @@ fn angle(d: u64, t: u64) -> u64
     (whole + fractions / 10_000_000) % CIRCLE
 }
 
-pub fn hour_angle(moment: u64, dut: u32) -> HourAnswer
-    ensures { λ r. ⌜ r ≡ hourAnswer moment dut ⌝ }
+// By the rule 0 or 1.
+fn angle_by(rule: u64, d: u64, t: u64) -> u64
+    requires { ⌜ (rule ≤ 1) × ((d ≤ lastDay) × (t < dayLength)) ⌝ }
+    ensures { λ r. ⌜ r ≡ siderealAngle rule d t ⌝ }
+{
+    if rule == 0 {
+        return angle(d, t);
+    }
+    rule1982::angle_1982(d, t)
+}
+
+pub fn sidereal(rule: u64, moment: u64, dut: u32) -> HourAnswer
+    ensures { λ r. ⌜ r ≡ siderealAnswer rule moment dut ⌝ }
 {
     if basis::LONGEST_DUT < dut {
+        return HourAnswer::Refused(4);
+    }
+    if LAST_RULE < rule {
         return HourAnswer::Refused(4);
     }
     if basis::END_OF_TIME <= moment {
@@ -84,7 +118,13 @@ pub fn hour_angle(moment: u64, dut: u32) -> HourAnswer
     let lag = dut as u64;
     if lag <= moment {
         let ut = moment - lag;
-        return HourAnswer::Parts(angle(ut / basis::DAY_LENGTH, ut % basis::DAY_LENGTH));
+        return HourAnswer::Parts(angle_by(rule, ut / basis::DAY_LENGTH, ut % basis::DAY_LENGTH));
     }
     HourAnswer::Refused(3)
+}
+
+pub fn hour_angle(moment: u64, dut: u32) -> HourAnswer
+    ensures { λ r. ⌜ r ≡ hourAnswer moment dut ⌝ }
+{
+    sidereal(0, moment, dut)
 }

@@ -20,7 +20,7 @@ use Rattle.conic.specs.declared.Conic.{Conic}
 use Rattle.conic.specs.declared.Conic.the-variants.{Ellipse, Hyperbola}
 use Rattle.conic.specs.declared.CentredConic.{CentredConic}
 
--- read: six coefficients "by body number from 1", beside DUT
+-- read: six coefficients "by body number from 1", beside DUT; "an old setting means the old rule"
 abbrev pub settingOf : List Float → ℕ → Setting
 settingOf m dut =
     record {
@@ -31,6 +31,7 @@ settingOf m dut =
       mars = getD m 4 nan;
       jupiter = getD m 5 nan;
       dut = dut;
+      rule = 0;
     }
 
 -- read: 64 bits as a number with a sign, as C has it

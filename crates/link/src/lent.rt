@@ -26,6 +26,7 @@ pub fn setting_of(m: [f64; 6], dut: u32) -> Setting
         mars: m[4],
         jupiter: m[5],
         dut,
+        rule: 0,
     }
 }
 

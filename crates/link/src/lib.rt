@@ -18,7 +18,7 @@ use sphere::SphereAnswer;
 ghost use mathlib.Core.Path.{_≡_};
 ghost use Rattle.basis.specs.Choice.{if_then_else_};
 ghost use Rattle.calendar.specs.Answers.{dateAnswer, dayAnswer, julianAnswer};
-ghost use Rattle.hour.specs.Hour.{hourAnswer};
+ghost use Rattle.hour.specs.Hour.{hourAnswer, siderealAnswer};
 ghost use Rattle.root.specs.Root.{rootAnswer};
 ghost use Rattle.sine.specs.Sine.{sineCosineAnswer};
 ghost use Rattle.book.specs.Passes.{passes};
@@ -81,6 +81,20 @@ pub extern "C" fn belfry_hour_angle(moment: u64, dut: u32, parts: &mut u64) -> u
     match hour::hour_angle(moment, dut) {
         HourAnswer::Parts(p) => {
             *parts = p;
+            0
+        }
+        HourAnswer::Refused(k) => k,
+    }
+}
+
+#[no_mangle]
+pub extern "C" fn belfry_sidereal(rule: u64, moment: u64, dut: u32, parts: &mut u64) -> u64
+    ensures { λ r. ⌜ handed r (now (parts .exit)) ≡ answered (now (parts .entry))
+        (ofHour (siderealAnswer rule moment dut)) ⌝ }
+{
+    match hour::sidereal(rule, moment, dut) {
+        HourAnswer::Parts(angle) => {
+            *parts = angle;
             0
         }
         HourAnswer::Refused(k) => k,
@@ -225,9 +239,9 @@ pub extern "C" fn belfry_earth_fixed(
     turned: &mut [f64; 6],
 ) -> u64
     ensures { λ r. ⌜ handed r (now (turned .exit)) ≡ answered (now (turned .entry))
-        (ofFixed (fixedAnswer (stateOf moment (now (coordinates .entry))) dut)) ⌝ }
+        (ofFixed (fixedAnswer 0 dut (stateOf moment (now (coordinates .entry))))) ⌝ }
 {
-    match fixed::earth_fixed(lent::state_of(moment, *coordinates), dut) {
+    match fixed::earth_fixed(0, dut, lent::state_of(moment, *coordinates)) {
         FixedAnswer::Fixed(f) => {
             *turned = [f.x, f.y, f.z, f.vx, f.vy, f.vz];
             0
@@ -236,8 +250,30 @@ pub extern "C" fn belfry_earth_fixed(
     }
 }
 
+// Earth-fixed coordinates by a rule of the hour angle.
+#[no_mangle]
+pub extern "C" fn belfry_turn(
+    rule: u64,
+    dut: u32,
+    moment: u64,
+    coordinates: &[f64; 6],
+    turned: &mut [f64; 6],
+) -> u64
+    ensures { λ r. ⌜ handed r (now (turned .exit)) ≡ answered (now (turned .entry))
+        (ofFixed (fixedAnswer rule dut (stateOf moment (now (coordinates .entry))))) ⌝ }
+{
+    match fixed::earth_fixed(rule, dut, lent::state_of(moment, *coordinates)) {
+        FixedAnswer::Fixed(t) => {
+            *turned = [t.x, t.y, t.z, t.vx, t.vy, t.vz];
+            0
+        }
+        FixedAnswer::Refused(k) => k,
+    }
+}
+
 #[no_mangle]
 pub extern "C" fn belfry_from_sphere(
+    rule: u64,
     moment: u64,
     dut: u32,
     sizes: &[f64; 2],
@@ -245,9 +281,9 @@ pub extern "C" fn belfry_from_sphere(
     coordinates: &mut [f64; 6],
 ) -> u64
     ensures { λ r. ⌜ handed r (now (coordinates .exit)) ≡ answered (now (coordinates .entry))
-        (ofSphere (sphereAnswer (sphereOf (now (sizes .entry)) (now (angles .entry))) moment dut)) ⌝ }
+        (ofSphere (sphereAnswer (sphereOf (now (sizes .entry)) (now (angles .entry))) rule moment dut)) ⌝ }
 {
-    match sphere::from_sphere(lent::sphere_of(*sizes, *angles), moment, dut) {
+    match sphere::from_sphere(lent::sphere_of(*sizes, *angles), rule, moment, dut) {
         SphereAnswer::Injected(s) => {
             *coordinates = [s.x, s.y, s.z, s.vx, s.vy, s.vz];
             0

@@ -16,7 +16,7 @@ use Rattle.state.specs.declared.Setting.{Setting}
 use Rattle.state.specs.declared.Vector.{Vector}
 use Rattle.calendar.specs.Gregorian.{ymd, isDate}
 use Rattle.calendar.specs.Answers.{dateAnswer, dayAnswer, julianAnswer}
-use Rattle.hour.specs.Hour.{hourAnswer}
+use Rattle.hour.specs.Hour.{isRule, hourAnswer, siderealAnswer}
 use Rattle.hour.specs.declared.HourAnswer.{HourAnswer}
 use Rattle.root.specs.Root.{negative, rootAnswer}
 use Rattle.sine.specs.Sine.{sineCosineAnswer}
@@ -64,10 +64,14 @@ day-told year month day = by-if (λ a. told (ofDay a)) (isDate (ymd year month d
 pub julian-told : (day : ℕ) → told (ofJulian (julianAnswer day)) ≡ true
 julian-told day = by-if (λ a. told (ofJulian a)) (day ≤? lastDay) refl refl
 
-pub hour-told : (moment dut : ℕ) → told (ofHour (hourAnswer moment dut)) ≡ true
-hour-told moment dut =
+pub sidereal-told : (rule moment dut : ℕ) → told (ofHour (siderealAnswer rule moment dut)) ≡ true
+sidereal-told rule moment dut =
     let p : HourAnswer → Bool = λ a. told (ofHour a) in
-    by-if p (not (isDUT dut)) refl (by-if p (not (isMoment moment)) refl (by-if p (moment <? dut) refl refl))
+    by-if p (not (isDUT dut)) refl
+    (by-if p (not (isRule rule)) refl (by-if p (not (isMoment moment)) refl (by-if p (moment <? dut) refl refl)))
+
+pub hour-told : (moment dut : ℕ) → told (ofHour (hourAnswer moment dut)) ≡ true
+hour-told moment dut = sidereal-told 0 moment dut
 
 pub root-told : (x : Float) → told (ofRoot (rootAnswer x)) ≡ true
 unfolding rootAnswer
@@ -107,11 +111,11 @@ pub single-step-told : (b : List ℕ) (setting : Setting) (s : State) (h : ℕ) 
     → outcomeTold (singleStepAnswer b setting s h given .outcome) ≡ true
 single-step-told b setting s h given = run-told b setting s h (s .moment + h) 1 given
 
-finite-told : (state : State) (dut : ℕ) → told (ofFixed (finiteAnswer state dut)) ≡ true
+finite-told : (rule dut : ℕ) (state : State) → told (ofFixed (finiteAnswer rule dut state)) ≡ true
 unfolding finiteAnswer
-finite-told state dut =
+finite-told rule dut state =
     let p : FixedAnswer → Bool = λ a. told (ofFixed a) in
-    by-if p (not (finiteState state)) refl (by-if p (not (finiteFixed (turned (rotation (state .moment) dut) state))) refl refl)
+    by-if p (not (finiteState state)) refl (by-if p (not (finiteFixed (turned (rotation rule (state .moment) dut) state))) refl refl)
 
 after-hour-told :
     (hour : HourAnswer) (answer : FixedAnswer)
@@ -121,16 +125,17 @@ after-hour-told :
 after-hour-told (HourAnswer.Parts parts) answer first rest = rest
 after-hour-told (HourAnswer.Refused k) answer first rest = first
 
-pub fixed-told : (state : State) (dut : ℕ) → told (ofFixed (fixedAnswer state dut)) ≡ true
+pub fixed-told : (rule dut : ℕ) (state : State) → told (ofFixed (fixedAnswer rule dut state)) ≡ true
 unfolding fixedAnswer
-fixed-told state dut =
-    after-hour-told (hourAnswer (state .moment) dut) (finiteAnswer state dut) (hour-told (state .moment) dut) (finite-told state dut)
+fixed-told rule dut state =
+    after-hour-told (siderealAnswer rule (state .moment) dut) (finiteAnswer rule dut state) (sidereal-told rule (state .moment) dut)
+    (finite-told rule dut state)
 
-sphere-told : (s : Sphere) (moment dut : ℕ) → told (ofSphere (injectionAnswer s moment dut)) ≡ true
+sphere-told : (s : Sphere) (rule moment dut : ℕ) → told (ofSphere (injectionAnswer s rule moment dut)) ≡ true
 unfolding injectionAnswer
-sphere-told s moment dut =
+sphere-told s rule moment dut =
     let p : SphereAnswer → Bool = λ a. told (ofSphere a) in
-    by-if p (not (anglesAllowed s)) refl (by-if p (not (sizesAllowed s)) refl (by-if p (finiteState (injected s moment dut)) refl refl))
+    by-if p (not (anglesAllowed s)) refl (by-if p (not (sizesAllowed s)) refl (by-if p (finiteState (injected s rule moment dut)) refl refl))
 
 sphere-after-hour :
     (hour : HourAnswer) (answer : SphereAnswer)
@@ -140,10 +145,10 @@ sphere-after-hour :
 sphere-after-hour (HourAnswer.Parts parts) answer first rest = rest
 sphere-after-hour (HourAnswer.Refused k) answer first rest = first
 
-pub from-sphere-told : (s : Sphere) (moment dut : ℕ) → told (ofSphere (sphereAnswer s moment dut)) ≡ true
+pub from-sphere-told : (s : Sphere) (rule moment dut : ℕ) → told (ofSphere (sphereAnswer s rule moment dut)) ≡ true
 unfolding sphereAnswer
-from-sphere-told s moment dut =
-    sphere-after-hour (hourAnswer moment dut) (injectionAnswer s moment dut) (hour-told moment dut) (sphere-told s moment dut)
+from-sphere-told s rule moment dut =
+    sphere-after-hour (siderealAnswer rule moment dut) (injectionAnswer s rule moment dut) (sidereal-told rule moment dut) (sphere-told s rule moment dut)
 
 unfit-told : (x : Float) (own : ℕ) → none-or-tabled own ≡ true → none-or-tabled (unfit x own) ≡ true
 unfolding unfit

@@ -9,7 +9,7 @@ use denote.Ref.{now}
 use Rattle.basis.specs.Choice.{if_then_else_}
 use Rattle.basis.proofs.OneAnswer.{Told, Tell, OneOutcome, OneAnswer, one-outcome, one-answer}
 use Rattle.calendar.specs.Answers.{dateAnswer, dayAnswer, julianAnswer}
-use Rattle.hour.specs.Hour.{hourAnswer}
+use Rattle.hour.specs.Hour.{hourAnswer, siderealAnswer}
 use Rattle.root.specs.Root.{rootAnswer}
 use Rattle.sine.specs.Sine.{sineCosineAnswer}
 use Rattle.book.specs.Passes.{passes}
@@ -31,6 +31,8 @@ use Rattle.link.proofs.belfry_position as position
 use Rattle.link.proofs.belfry_acceleration as acceleration
 use Rattle.link.proofs.belfry_earth_fixed as earth-fixed
 use Rattle.link.proofs.belfry_from_sphere as from-sphere
+use Rattle.link.proofs.belfry_sidereal as sidereal
+use Rattle.link.proofs.belfry_turn as turn
 use Rattle.link.proofs.belfry_book_passes as book-passes
 use Rattle.link.proofs.belfry_run as run
 use Rattle.link.proofs.belfry_single_step as single-step
@@ -109,12 +111,12 @@ acceleration-answers-once =
     (λ M 𝓤 H A mem run″ κs inputs g r after. refl)
 
 abbrev tell-from-sphere : Tell from-sphere.ended (λ κs. Handed (List Float))
-tell-from-sphere κs r after = handed r (now (after .1 .1 .1 .1 .0))
+tell-from-sphere κs r after = handed r (now (after .1 .1 .1 .1 .1 .0))
 
 pub from-sphere-answers-once : OneOutcome from-sphere.ended (λ M. from-sphere.clauses) (λ κs. Handed (List Float)) tell-from-sphere
 from-sphere-answers-once =
     one-outcome (λ κs. Handed (List Float)) tell-from-sphere
-    (λ κs inputs. answered (now (inputs .1 .1 .1 .1 .0)) (ofSphere (sphereAnswer (sphereOf (now (inputs .1 .1 .0)) (now (inputs .1 .1 .1 .0))) (inputs .0) (inputs .1 .0))))
+    (λ κs inputs. answered (now (inputs .1 .1 .1 .1 .1 .0)) (ofSphere (sphereAnswer (sphereOf (now (inputs .1 .1 .1 .0)) (now (inputs .1 .1 .1 .1 .0))) (inputs .0) (inputs .1 .0) (inputs .1 .1 .0))))
     (λ M 𝓤 H A mem run κs inputs g r after. refl)
 
 abbrev tell-earth-fixed : Tell earth-fixed.ended (λ κs. Handed (List Float))
@@ -123,7 +125,25 @@ tell-earth-fixed κs r after = handed r (now (after .1 .1 .1 .0))
 pub earth-fixed-answers-once : OneOutcome earth-fixed.ended (λ M. earth-fixed.clauses) (λ κs. Handed (List Float)) tell-earth-fixed
 earth-fixed-answers-once =
     one-outcome (λ κs. Handed (List Float)) tell-earth-fixed
-    (λ κs inputs. answered (now (inputs .1 .1 .1 .0)) (ofFixed (fixedAnswer (stateOf (inputs .0) (now (inputs .1 .0))) (inputs .1 .1 .0))))
+    (λ κs inputs. answered (now (inputs .1 .1 .1 .0)) (ofFixed (fixedAnswer 0 (inputs .1 .1 .0) (stateOf (inputs .0) (now (inputs .1 .0))))))
+    (λ M 𝓤 H A mem run″ κs inputs g r after. refl)
+
+abbrev tell-sidereal : Tell sidereal.ended (λ κs. Handed (ℕ))
+tell-sidereal κs r after = handed r (now (after .1 .1 .1 .0))
+
+pub sidereal-answers-once : OneOutcome sidereal.ended (λ M. sidereal.clauses) (λ κs. Handed (ℕ)) tell-sidereal
+sidereal-answers-once =
+    one-outcome (λ κs. Handed (ℕ)) tell-sidereal
+    (λ κs inputs. answered (now (inputs .1 .1 .1 .0)) (ofHour (siderealAnswer (inputs .0) (inputs .1 .0) (inputs .1 .1 .0))))
+    (λ M 𝓤 H A mem run″ κs inputs g r after. refl)
+
+abbrev tell-turn : Tell turn.ended (λ κs. Handed (List Float))
+tell-turn κs r after = handed r (now (after .1 .1 .1 .1 .0))
+
+pub turn-answers-once : OneOutcome turn.ended (λ M. turn.clauses) (λ κs. Handed (List Float)) tell-turn
+turn-answers-once =
+    one-outcome (λ κs. Handed (List Float)) tell-turn
+    (λ κs inputs. answered (now (inputs .1 .1 .1 .1 .0)) (ofFixed (fixedAnswer (inputs .0) (inputs .1 .0) (stateOf (inputs .1 .1 .0) (now (inputs .1 .1 .1 .0))))))
     (λ M 𝓤 H A mem run″ κs inputs g r after. refl)
 
 abbrev tell-conic : Tell conic.ended (λ κs. Handed Both)

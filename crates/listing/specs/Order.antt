@@ -21,6 +21,7 @@ settingOf b =
       mars = floatAt b 32;
       jupiter = floatAt b 40;
       dut = u32At b 108;
+      rule = 0;
     }
 
 abbrev pub stateOf : List ℕ → State

@@ -57,6 +57,7 @@ fn setting_of(order: &[u8]) -> Setting
         mars: float_at(order, 32),
         jupiter: float_at(order, 40),
         dut: u32_at(order, 108),
+        rule: 0,
     }
 }
 

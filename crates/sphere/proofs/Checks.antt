@@ -21,8 +21,8 @@ sizes-pass true true e = refl
 sizes-pass true false e = absurd (omega arith)
 sizes-pass false sizes e = absurd (omega arith)
 
-module _ (s : Sphere) (moment dut : ℕ) (angles sizes : Bool) (a : angles ≡ anglesAllowed s) (z : sizes ≡ sizesAllowed s) where
-  pub refused : (k : ℕ) → k ≡ checks angles sizes → (k ≡ 0 → ⊥) → Refused k ≡ injectionAnswer s moment dut
+module _ (s : Sphere) (rule moment dut : ℕ) (angles sizes : Bool) (a : angles ≡ anglesAllowed s) (z : sizes ≡ sizesAllowed s) where
+  pub refused : (k : ℕ) → k ≡ checks angles sizes → (k ≡ 0 → ⊥) → Refused k ≡ injectionAnswer s rule moment dut
   unfolding injectionAnswer
   refused k e some = rw (← a, ← z, e) (go angles sizes (λ h. some (rw (e, h))))
     where
@@ -30,7 +30,7 @@ module _ (s : Sphere) (moment dut : ℕ) (angles sizes : Bool) (a : angles ≡ a
           → Refused (checks angles sizes)
           ≡ (if not angles then Refused 12 else
           if not sizes then Refused 7 else
-          if finiteState (injected s moment dut) then Injected (injected s moment dut) else Refused 7)
+          if finiteState (injected s rule moment dut) then Injected (injected s rule moment dut) else Refused 7)
       go true true some = absurd (some refl)
       go true false some = refl
       go false sizes some = refl
@@ -39,10 +39,10 @@ module _ (s : Sphere) (moment dut : ℕ) (angles sizes : Bool) (a : angles ≡ a
     pass : checks angles sizes ≡ 0
     pass = rw (← e) none
 
-    pub accepted : (x : _) → x ≡ injected s moment dut → finiteState x ≡ true → Injected x ≡ injectionAnswer s moment dut
+    pub accepted : (x : _) → x ≡ injected s rule moment dut → finiteState x ≡ true → Injected x ≡ injectionAnswer s rule moment dut
     unfolding injectionAnswer
     accepted x i f = rw (← a, ← z, angles-pass angles sizes pass, sizes-pass angles sizes pass, ← i, f)
 
-    pub not-finite : (x : _) → x ≡ injected s moment dut → finiteState x ≡ false → Refused 7 ≡ injectionAnswer s moment dut
+    pub not-finite : (x : _) → x ≡ injected s rule moment dut → finiteState x ≡ false → Refused 7 ≡ injectionAnswer s rule moment dut
     unfolding injectionAnswer
     not-finite x i f = rw (← a, ← z, angles-pass angles sizes pass, sizes-pass angles sizes pass, ← i, f)

@@ -11,7 +11,7 @@ use Rattle.basis.specs.Floats.{_⊕_, _⊖_, _⊗_, whole, above0}
 use Rattle.state.specs.declared.State.{State}
 use Rattle.state.specs.declared.Vector.{Vector}
 use Rattle.state.specs.State.{finiteState}
-use Rattle.hour.specs.Hour.{hourAnswer}
+use Rattle.hour.specs.Hour.{siderealAnswer}
 use Rattle.hour.specs.declared.HourAnswer.{HourAnswer}
 use Rattle.sine.specs.declared.SineCosine.{SineCosine}
 use Rattle.sine.specs.Sine.{sineCosine}
@@ -101,24 +101,24 @@ velocityOf s =
     (horizontal (s .speed) (sineCosine (partsOf (s .path))) (sineCosine (s .azimuth)))
 
 -- "Hour angle and rate are the forward turn's"
-unfoldable pub injected : Sphere → ℕ → ℕ → State
-injected s moment dut = returned moment (rotation moment dut) (placeOf s) (velocityOf s)
+unfoldable pub injected : Sphere → ℕ → ℕ → ℕ → State
+injected s rule moment dut = returned moment (rotation rule moment dut) (placeOf s) (velocityOf s)
 
 -- "radius or speed not finite, radius not above 0"
 abbrev pub sizesAllowed : Sphere → Bool
 sizesAllowed s = finite (s .radius) && finite (s .speed) && above0 (s .radius)
 
 -- "Refusals, after 4 and 3: angle out of range 12; radius or speed not finite, radius not above 0, or a non-finite result, 7"
-unfoldable pub injectionAnswer : Sphere → ℕ → ℕ → SphereAnswer
-injectionAnswer s moment dut =
+unfoldable pub injectionAnswer : Sphere → ℕ → ℕ → ℕ → SphereAnswer
+injectionAnswer s rule moment dut =
     if not (anglesAllowed s) then Refused 12 else
     if not (sizesAllowed s) then Refused 7 else
-    if finiteState (injected s moment dut) then Injected (injected s moment dut) else Refused 7
+    if finiteState (injected s rule moment dut) then Injected (injected s rule moment dut) else Refused 7
 
--- an answer that comes after the hour angle's refusals, 4 (DUT) and 3
+-- an answer that comes after the hour angle's refusals, 4 (DUT, rule) and 3
 abbrev pub afterHour : HourAnswer → SphereAnswer → SphereAnswer
 afterHour (HourAnswer.Parts parts) answer = answer
 afterHour (HourAnswer.Refused number) answer = Refused number
 
-unfoldable pub sphereAnswer : Sphere → ℕ → ℕ → SphereAnswer
-sphereAnswer s moment dut = afterHour (hourAnswer moment dut) (injectionAnswer s moment dut)
+unfoldable pub sphereAnswer : Sphere → ℕ → ℕ → ℕ → SphereAnswer
+sphereAnswer s rule moment dut = afterHour (siderealAnswer rule moment dut) (injectionAnswer s rule moment dut)

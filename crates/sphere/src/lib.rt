@@ -15,7 +15,7 @@ ghost use mathlib.Core.Bool.{true, _&&_};
 ghost use mathlib.Core.Path.{_≡_};
 ghost use Prim.Native.Nat.{_≤_};
 ghost use Rattle.hour.specs.declared.HourAnswer.the-variants.{Parts};
-ghost use Rattle.hour.specs.Hour.{hourAnswer};
+ghost use Rattle.hour.specs.Hour.{siderealAnswer};
 ghost use Rattle.sphere.specs.Sphere.{quarter, anglesAllowed, partsOf, placeOf, velocityOf, injected, sizesAllowed, injectionAnswer, sphereAnswer};
 
 // 90 degrees in parts.
@@ -104,26 +104,26 @@ fn fixed_velocity(s: Sphere) -> Vector
     relative_velocity(f, t, horizontal_velocity(s.speed, g, z))
 }
 
-fn injected_state(s: Sphere, moment: u64, dut: u32, parts: u64) -> State
-    requires { ⌜ (hourAnswer moment dut ≡ Parts parts) × (anglesAllowed s ≡ true) ⌝ }
-    ensures { λ r. ⌜ r ≡ injected s moment dut ⌝ }
+fn injected_state(s: Sphere, rule: u64, moment: u64, dut: u32, parts: u64) -> State
+    requires { ⌜ (siderealAnswer rule moment dut ≡ Parts parts) × (anglesAllowed s ≡ true) ⌝ }
+    ensures { λ r. ⌜ r ≡ injected s rule moment dut ⌝ }
 {
-    let table = fixed::table_on(moment, dut, parts);
-    let w = fixed::rate_on(moment, dut, parts);
+    let table = fixed::table_on(rule, moment, dut, parts);
+    let w = fixed::rate_on(rule, moment, dut, parts);
     let place = fixed_place(s);
     let velocity = fixed_velocity(s);
     returned_state(moment, table, w, place, velocity)
 }
 
-fn injection(s: Sphere, moment: u64, dut: u32, parts: u64) -> SphereAnswer
-    requires { ⌜ hourAnswer moment dut ≡ Parts parts ⌝ }
-    ensures { λ r. ⌜ r ≡ injectionAnswer s moment dut ⌝ }
+fn injection(s: Sphere, rule: u64, moment: u64, dut: u32, parts: u64) -> SphereAnswer
+    requires { ⌜ siderealAnswer rule moment dut ≡ Parts parts ⌝ }
+    ensures { λ r. ⌜ r ≡ injectionAnswer s rule moment dut ⌝ }
 {
     let angles = angles_allowed(s);
     let sizes = sizes_allowed(s);
     let refusal = unless(angles, 12, unless(sizes, 7, 0));
     if refusal == 0 {
-        let state = injected_state(s, moment, dut, parts);
+        let state = injected_state(s, rule, moment, dut, parts);
         if state::state_is_finite(state) {
             return SphereAnswer::Injected(state);
         }
@@ -132,11 +132,11 @@ fn injection(s: Sphere, moment: u64, dut: u32, parts: u64) -> SphereAnswer
     SphereAnswer::Refused(refusal)
 }
 
-pub fn from_sphere(s: Sphere, moment: u64, dut: u32) -> SphereAnswer
-    ensures { λ r. ⌜ r ≡ sphereAnswer s moment dut ⌝ }
+pub fn from_sphere(s: Sphere, rule: u64, moment: u64, dut: u32) -> SphereAnswer
+    ensures { λ r. ⌜ r ≡ sphereAnswer s rule moment dut ⌝ }
 {
-    match hour::hour_angle(moment, dut) {
-        HourAnswer::Parts(parts) => injection(s, moment, dut, parts),
+    match hour::sidereal(rule, moment, dut) {
+        HourAnswer::Parts(parts) => injection(s, rule, moment, dut, parts),
         HourAnswer::Refused(number) => SphereAnswer::Refused(number),
     }
 }

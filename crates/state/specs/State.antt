@@ -1,9 +1,10 @@
--- Document 01, "Setting, state, acceleration": what a state and a setting hold, and which are allowed.
+-- Document 01, "Setting, state, acceleration", and document 02, R-9: what a state and a setting hold, and which are allowed.
 use mathlib.Core.Bool.{Bool, not, _&&_}
 use lib.Ieee.{Float}
 use lib.Ieee.Scale.{finite}
 use Rattle.basis.specs.Floats.{_⊕_, _⊗_, above0, below0}
 use Rattle.basis.specs.Limits.{isDUT}
+use Rattle.hour.specs.Hour.{isRule}
 use Rattle.state.specs.declared.Vector.{Vector}
 use Rattle.state.specs.declared.State.{State}
 use Rattle.state.specs.declared.Setting.{Setting}
@@ -44,3 +45,4 @@ settingAllowed s =
     && coefficientAllowed (s .mars)
     && coefficientAllowed (s .jupiter)
     && isDUT (s .dut)
+    && isRule (s .rule)

@@ -20,7 +20,7 @@ pub struct State {
     pub vz: f64,
 }
 
-// The gravitational coefficients of the bodies 1 to 6 in km³/s², and DUT in milliseconds.
+// The gravitational coefficients of the bodies 1 to 6 in km³/s², DUT in milliseconds, and (02, R-9) the rule of the hour angle.
 pub struct Setting {
     pub earth: f64,
     pub moon: f64,
@@ -29,6 +29,7 @@ pub struct Setting {
     pub mars: f64,
     pub jupiter: f64,
     pub dut: u32,
+    pub rule: u64,
 }
 
 pub fn position_of(s: State) -> Vector
@@ -118,5 +119,8 @@ pub fn setting_is_allowed(s: Setting) -> bool
     if !coefficient_is_allowed(s.jupiter) {
         return false;
     }
-    s.dut <= basis::LONGEST_DUT
+    if s.dut <= basis::LONGEST_DUT {
+        return s.rule <= hour::LAST_RULE;
+    }
+    false
 }

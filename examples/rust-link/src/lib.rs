@@ -8,6 +8,7 @@ extern "C" {
     fn belfry_day(year: u64, month: u64, day: u64, count: &mut u64) -> u64;
     fn belfry_twice_julian_date(day: u64, twice: &mut u64) -> u64;
     fn belfry_hour_angle(moment: u64, dut: u32, parts: &mut u64) -> u64;
+    fn belfry_sidereal(rule: u64, moment: u64, dut: u32, parts: &mut u64) -> u64;
     fn belfry_root(x: f64, value: &mut f64) -> u64;
     fn belfry_sine_cosine(parts: u64, both: &mut [f64; 2]) -> u64;
     fn belfry_book_passes(book: *const u8, length: usize) -> u64;
@@ -36,7 +37,11 @@ extern "C" {
         moment: u64, coordinates: &[f64; 6], dut: u32, turned: &mut [f64; 6],
     ) -> u64;
     fn belfry_from_sphere(
-        moment: u64, dut: u32, sizes: &[f64; 2], angles: &[i64; 4], coordinates: &mut [f64; 6],
+        rule: u64, moment: u64, dut: u32, sizes: &[f64; 2], angles: &[i64; 4],
+        coordinates: &mut [f64; 6],
+    ) -> u64;
+    fn belfry_turn(
+        rule: u64, dut: u32, moment: u64, coordinates: &[f64; 6], turned: &mut [f64; 6],
     ) -> u64;
     fn belfry_conic(
         m: f64, moment: u64, coordinates: &[f64; 6], names: &mut [u64; 2], figures: &mut [f64; 5],
@@ -139,6 +144,12 @@ pub fn hour_angle(moment: u64, dut: u32) -> Result<u64, u64> {
     answer(unsafe { belfry_hour_angle(moment, dut, &mut parts) }, parts)
 }
 
+/// By the rule 0, as above, or 1, the IAU 1982 expression for Greenwich mean sidereal time.
+pub fn sidereal(rule: u64, moment: u64, dut: u32) -> Result<u64, u64> {
+    let mut parts = 0;
+    answer(unsafe { belfry_sidereal(rule, moment, dut, &mut parts) }, parts)
+}
+
 pub fn root(x: f64) -> Result<f64, u64> {
     let mut value = 0.0;
     answer(unsafe { belfry_root(x, &mut value) }, value)
@@ -233,11 +244,11 @@ pub struct Sphere {
 }
 
 /// Its state in 1950.0 axes.
-pub fn from_sphere(sphere: &Sphere, moment: u64, dut: u32) -> Result<State, u64> {
+pub fn from_sphere(sphere: &Sphere, rule: u64, moment: u64, dut: u32) -> Result<State, u64> {
     let mut coordinates = [0.0; 6];
     let sizes = [sphere.radius, sphere.speed];
     let angles = [sphere.latitude, sphere.longitude, sphere.path, sphere.azimuth];
-    let number = unsafe { belfry_from_sphere(moment, dut, &sizes, &angles, &mut coordinates) };
+    let number = unsafe { belfry_from_sphere(rule, moment, dut, &sizes, &angles, &mut coordinates) };
     answer(number, State { moment, coordinates })
 }
 
@@ -245,6 +256,13 @@ pub fn from_sphere(sphere: &Sphere, moment: u64, dut: u32) -> Result<State, u64>
 pub fn earth_fixed(state: &State, dut: u32) -> Result<[f64; 6], u64> {
     let mut turned = [0.0; 6];
     let number = unsafe { belfry_earth_fixed(state.moment, &state.coordinates, dut, &mut turned) };
+    answer(number, turned)
+}
+
+/// The same by a rule of the hour angle.
+pub fn turn(rule: u64, dut: u32, state: &State) -> Result<[f64; 6], u64> {
+    let mut turned = [0.0; 6];
+    let number = unsafe { belfry_turn(rule, dut, state.moment, &state.coordinates, &mut turned) };
     answer(number, turned)
 }
 

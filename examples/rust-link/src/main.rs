@@ -27,6 +27,8 @@ fn calendar() -> Result<(), u64> {
 fn angles() -> Result<(), u64> {
     println!("hour angle: {}", hour_angle(4322 * 86_400_000 + 82_951_000, 0)?);
     println!("hour angle below 0h UT:{}", told(hour_angle(34_999, 35_000), |p| format!(" {p}")));
+    println!("sidereal, 1982: {}", sidereal(1, 4322 * 86_400_000 + 82_951_000, 0)?);
+    println!("sidereal, a third rule:{}", told(sidereal(2, 0, 0), |p| format!(" {p}")));
     println!("sine and cosine of a quarter:{}", bits(&sine_cosine(900_000_000_000)?));
     println!("sine and cosine of a circle:{}", told(sine_cosine(3_600_000_000_000), |b| bits(&b)));
     println!("root of 2:{}", bits(&[root(2.0)?]));
@@ -138,13 +140,13 @@ fn launch() -> Result<(), u64> {
         azimuth: 900_000_000_000,
     };
     let moment = 411_264_035_000;
-    let state = from_sphere(&sphere, moment, 35_000)?;
+    let state = from_sphere(&sphere, 0, moment, 35_000)?;
     println!("launch:{}", bits(&state.coordinates));
     let setting = Setting { coefficients: [398_600.63, 0.0, 0.0, 0.0, 0.0, 0.0], dut: 35_000 };
     let ran = run(&[8, 0, 0, 0, 0, 0, 0, 0], &setting, &state, 60_000, moment + 3_600_000, 100, &[0; 5]);
     println!("after an hour, steps {}:{}", ran.steps, bits(&ran.state.coordinates));
     sphere.path = -900_000_000_001;
-    println!("path angle below -90 degrees:{}", told(from_sphere(&sphere, moment, 35_000), |s| bits(&s.coordinates)));
+    println!("path angle below -90 degrees:{}", told(from_sphere(&sphere, 0, moment, 35_000), |s| bits(&s.coordinates)));
     Ok(())
 }
 
@@ -155,6 +157,7 @@ fn states() -> Result<(), u64> {
     println!("Earth-fixed below 0h UT:{}", told(earth_fixed(&at(2.0, 0.0), 1), |t| bits(&t)));
     let up = State { moment: 0, coordinates: [0.0, 0.0, 3.0, 0.0, 0.0, 0.0] };
     println!("Earth-fixed, 3 km up the axis:{}", bits(&earth_fixed(&up, 0)?[2..3]));
+    println!("the same by the 1982 rule:{}", bits(&turn(1, 0, &up)?[2..3]));
     Ok(())
 }
 

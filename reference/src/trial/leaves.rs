@@ -2,7 +2,7 @@
 
 use super::chance::Chance;
 use super::floats::hex;
-use super::times::{bad_dut, bad_moment, moment_dut, whole_octants};
+use super::times::{bad_dut, bad_moment, bad_rule, hard_ut, moment_dut, some_rule, whole_octants};
 use super::world::{Case, World};
 use crate::calendar::{day_of, month_days, LAST_DAY};
 use crate::hour::{CIRCLE, DUT_MOST, END};
@@ -98,6 +98,38 @@ pub const HOUR: &[Case] = &[
     ("DUT", |c, _| { let d = bad_dut(c); let m = c.below(END); hour_line(m, d) }),
     ("DUT and moment", |c, _| { let d = bad_dut(c); let m = bad_moment(c); hour_line(m, d) }),
     ("moment", |c, _| { let m = bad_moment(c); let d = c.below(100_001) as u32; hour_line(m, d) }),
+];
+
+pub fn sidereal_line(rule: u64, moment: u64, dut: u32) -> Vec<String> {
+    vec![format!("sidereal {rule} {moment} {dut}")]
+}
+
+/// A UT that the 1982 rule finds hard.
+pub fn sidereal_hard(c: &mut Chance, _: &World) -> Vec<String> {
+    let dut = c.pick(&[0, 35_000, c.clone().below(u64::from(DUT_MOST) + 1)]);
+    let moment = hard_ut(c) + dut;
+    sidereal_line(1, moment, dut as u32)
+}
+
+/// Of rule, DUT and moment at least one refused.
+pub fn sidereal_refused(c: &mut Chance, _: &World) -> Vec<String> {
+    let which = c.between(1, 7);
+    let rule = if which & 1 != 0 { bad_rule(c) } else { c.below(2) };
+    let dut = if which & 2 != 0 { bad_dut(c) } else { c.between(1, 100_000) as u32 };
+    let moment = match which & 4 {
+        0 => c.between(100_000, END - 1),
+        _ if c.one_in(2) => u64::from(dut).min(100_000) - 1,
+        _ => bad_moment(c),
+    };
+    sidereal_line(rule, moment, dut)
+}
+
+pub const SIDEREAL: &[Case] = &[
+    ("any", |c, _| { let r = some_rule(c); let (m, d) = moment_dut(c); sidereal_line(r, m, d) }),
+    ("any", |c, _| { let r = some_rule(c); let (m, d) = moment_dut(c); sidereal_line(r, m, d) }),
+    ("hard", sidereal_hard),
+    ("hard", sidereal_hard),
+    ("refused", sidereal_refused),
 ];
 
 pub fn date_line(day: u64) -> Vec<String> {

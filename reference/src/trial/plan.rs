@@ -7,9 +7,9 @@ use super::world::{Case, World};
 use super::{damage, leaves, lookups, runs, spheres, states, unreadable};
 
 /// All kinds of call, with their share of 100.
-pub const KINDS: [(&str, usize); 12] = [
-    ("root", 11), ("sincos", 6), ("hour", 7), ("date", 4), ("day", 5), ("fixed", 8), ("sphere", 7),
-    ("conic", 9), ("unreadable", 5), ("body", 8), ("accel", 9), ("run", 21),
+pub const KINDS: [(&str, usize); 14] = [
+    ("root", 9), ("sincos", 6), ("hour", 6), ("sidereal", 7), ("date", 4), ("day", 5), ("fixed", 5),
+    ("turn", 5), ("sphere", 6), ("conic", 7), ("unreadable", 5), ("body", 8), ("accel", 9), ("run", 18),
 ];
 
 #[derive(Clone, Debug)]
@@ -33,10 +33,12 @@ pub fn cases(kind: &str) -> &'static [Case] {
         "root" => leaves::ROOT,
         "sincos" => leaves::SINCOS,
         "hour" => leaves::HOUR,
+        "sidereal" => leaves::SIDEREAL,
         "date" => leaves::DATE,
         "day" => leaves::DAY_OF,
         "fixed" => states::FIXED,
         "sphere" => spheres::SPHERE,
+        "turn" => states::TURN,
         "conic" => states::CONIC,
         "body" => lookups::BODY,
         _ => lookups::ACCEL,

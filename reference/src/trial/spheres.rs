@@ -7,8 +7,9 @@ use super::world::{Case, World};
 use crate::hour::{CIRCLE, END};
 use crate::sphere::QUARTER;
 
-/// What a line has: DUT, moment, radius, speed, and the angles as they are written.
+/// What a line has: rule, DUT, moment, radius, speed, and the angles as they are written.
 struct Spoken {
+    rule: u64,
     dut: u32,
     moment: u64,
     radius: f64,
@@ -20,7 +21,7 @@ impl Spoken {
     fn line(&self) -> Vec<String> {
         let [latitude, longitude, path, azimuth] = &self.angles;
         let (radius, speed) = (hex(self.radius), hex(self.speed));
-        vec![format!("sphere {} {} {radius} {latitude} {longitude} {speed} {path} {azimuth}", self.dut, self.moment)]
+        vec![format!("sphere {} {} {} {radius} {latitude} {longitude} {speed} {path} {azimuth}", self.rule, self.dut, self.moment)]
     }
 }
 
@@ -42,7 +43,8 @@ fn round(c: &mut Chance) -> String {
 fn flight(c: &mut Chance) -> Spoken {
     let (moment, dut) = moment_dut(c);
     let (radius, speed) = (6378.0 + c.within(300.0), 7.0 + c.within(4.0));
-    Spoken { dut, moment, radius, speed, angles: [signed(c), round(c), signed(c), round(c)] }
+    let rule = c.below(2);
+    Spoken { rule, dut, moment, radius, speed, angles: [signed(c), round(c), signed(c), round(c)] }
 }
 
 /// Radius subnormal, huge or ordinary; speed of every size and sign, zero too.
@@ -76,7 +78,11 @@ fn broken(c: &mut Chance, _: &World) -> Vec<String> {
     let mut s = flight(c);
     let which = c.between(1, 15);
     if which & 1 != 0 {
-        s.dut = bad_dut(c);
+        if c.one_in(2) {
+            s.dut = bad_dut(c);
+        } else {
+            s.rule = c.pick(&[2, 3, 256, 1 << 32, u64::MAX]);
+        }
     }
     if which & 2 != 0 {
         s.moment = if c.one_in(2) { bad_moment(c) } else { u64::from(s.dut).clamp(1, END) - 1 };

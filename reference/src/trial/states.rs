@@ -1,8 +1,8 @@
-//! Lines for fixed and conic.
+//! Lines for fixed, turn and conic.
 
 use super::chance::Chance;
 use super::floats::{flight, hex, hexes, largest, one_not_finite, signed_zeros, wild};
-use super::times::{bad_dut, bad_moment, moment_dut, whole_octants};
+use super::times::{bad_dut, bad_moment, bad_rule, hard_ut, moment_dut, some_rule, whole_octants};
 use super::world::{Case, World};
 use crate::hour::END;
 
@@ -38,6 +38,22 @@ pub const FIXED: &[Case] = &[
     ("largest", |c, _| { let s = largest(c); fixed_with(c, s) }),
     ("state not finite", |c, _| { let s = one_not_finite(c); fixed_with(c, s) }),
     ("refused", fixed_refused),
+];
+
+/// A line of fixed as one of turn, by a rule.
+pub fn turn_by(rule: u64, fixed: Vec<String>) -> Vec<String> {
+    fixed.iter().map(|line| line.replacen("fixed", &format!("turn {rule}"), 1)).collect()
+}
+
+pub const TURN: &[Case] = &[
+    ("flight", |c, _| { let s = flight(c); let l = fixed_with(c, s); turn_by(some_rule(c), l) }),
+    ("flight", |c, _| { let s = flight(c); let l = fixed_with(c, s); turn_by(some_rule(c), l) }),
+    ("hard", |c, _| { let s = flight(c); let m = hard_ut(c); turn_by(1, fixed_line(0, m, s)) }),
+    ("wild", |c, _| { let s = wild(c); let l = fixed_with(c, s); turn_by(some_rule(c), l) }),
+    ("largest", |c, _| { let s = largest(c); let l = fixed_with(c, s); turn_by(some_rule(c), l) }),
+    ("state not finite", |c, _| { let s = one_not_finite(c); let l = fixed_with(c, s); turn_by(some_rule(c), l) }),
+    ("refused", |c, w| { let l = fixed_refused(c, w); turn_by(some_rule(c), l) }),
+    ("rule", |c, w| { let l = fixed_refused(c, w); turn_by(bad_rule(c), l) }),
 ];
 
 pub fn conic_line(m: f64, s: [f64; 6]) -> Vec<String> {

@@ -32,6 +32,40 @@ pub fn whole_octants(c: &mut Chance) -> (u64, u32) {
     (c.pick(&WHOLE_OCTANTS) + dut, dut as u32)
 }
 
+/// UTs whose 1982 value lies less than a millionth of a part above a whole part, then below one.
+pub const NEAR_WHOLE: [u64; 16] = [
+    2_707_875_744_961, 2_792_911_421_811, 1_549_385_696_448, 1_737_918_006_908,
+    1_013_911_274_817, 1_561_479_788_905, 2_120_769_260_360, 1_652_541_019_044,
+    2_490_743_421_014, 1_087_586_978_225, 617_865_858_787, 2_066_873_007_806,
+    910_346_427_100, 921_795_071_348, 1_315_405_823_143, 1_407_391_085_874,
+];
+
+/// 2000 January 1: from this day on at 12h T is above 0.
+pub const DAY_2000: u64 = 18_262;
+
+/// A UT that the 1982 rule finds hard: a day's ends, 2000 January 1, close to a whole part.
+pub fn hard_ut(c: &mut Chance) -> u64 {
+    match c.below(4) {
+        0 => c.below(LAST_DAY + 1) * DAY,
+        1 => c.below(LAST_DAY + 1) * DAY + DAY - 1,
+        2 => (DAY_2000 - 1 + c.below(3)) * DAY + c.pick(&[0, 1, DAY / 2, DAY - 1, c.clone().below(DAY)]),
+        _ => c.pick(&NEAR_WHOLE),
+    }
+}
+
+/// Mostly one of the two rules.
+pub fn some_rule(c: &mut Chance) -> u64 {
+    match c.below(12) {
+        0..=7 => 1,
+        8..=10 => 0,
+        _ => bad_rule(c),
+    }
+}
+
+pub fn bad_rule(c: &mut Chance) -> u64 {
+    c.pick(&[2, 3, 255, 256, 257, 1 << 32, (1 << 32) + 1, 1 << 63, u64::MAX])
+}
+
 pub fn bad_dut(c: &mut Chance) -> u32 {
     match c.below(4) {
         0 => DUT_MOST + 1,

@@ -101,7 +101,7 @@ pub fn setting_at(c: &mut Chance, w: &World, t: u64) -> Setting {
         }
     }
     let dut = c.pick(&[0, 35_000, DUT_MOST, c.clone().below(100_001) as u32]);
-    Setting { coefficients, dut }
+    Setting { coefficients, dut, rule: 0 }
 }
 
 /// An allowed h, any size, or one that fits the cover that is left.

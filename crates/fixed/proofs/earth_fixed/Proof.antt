@@ -12,17 +12,17 @@ enum-known-number : tie.Need-enum-known-number
 enum-known-number c = search needs
 
 fixed-at-requires : tie.Need-fixed-at-requires
-fixed-at-requires c κs = sym (c .before .before .before .hour-angle .ensures) ∙ c .before .parts .given .1
+fixed-at-requires c κs = sym (c .before .before .before .sidereal .ensures) ∙ c .before .parts .given .1
 
 returns : tie.Need-returns
 unfolding fixedAnswer
 returns c =
     let at-parts = c .before .before in
-    rw (sym (at-parts .before .before .hour-angle .ensures) ∙ at-parts .parts .given .1) (c .fixed-at .ensures)
+    rw (sym (at-parts .before .before .sidereal .ensures) ∙ at-parts .parts .given .1) (c .fixed-at .ensures)
 
 returns-2 : tie.Need-returns-2
 unfolding fixedAnswer
-returns-2 c = rw (sym (c .before .before .before .hour-angle .ensures) ∙ c .before .number .given .1)
+returns-2 c = rw (sym (c .before .before .before .sidereal .ensures) ∙ c .before .number .given .1)
 
 pub earth-fixed-spec : {M : Type 1} → statement M
 earth-fixed-spec =

@@ -17,11 +17,11 @@ rate-on-requires c κs = c .before .before .before .pre
 at-tested :
     (c : tie.After-fixed-is-finite)
     → let s = c .before .before .before .before .before .before .args in
-    (if not (c .fixed-is-finite .result) then Refused 7 else Fixed (c .before .turned-state .result)) ≡ finiteAnswer (s .state) (s .dut)
+    (if not (c .fixed-is-finite .result) then Refused 7 else Fixed (c .before .turned-state .result)) ≡ finiteAnswer (s .rule) (s .dut) (s .state)
 at-tested c =
     let s = c .before .before .before .before .before .before .args in
     rw (c .fixed-is-finite .ensures)
-    (answer-is (s .state) (s .dut) (c .before .turned-state .result) (sym (c .before .before .before .before .before .state-is-finite .ensures) ∙ c .before .before .before .before .if1 .taken)
+    (answer-is (s .rule) (s .dut) (s .state) (c .before .turned-state .result) (sym (c .before .before .before .before .before .state-is-finite .ensures) ∙ c .before .before .before .before .if1 .taken)
     (rw (c .before .turned-state .ensures, c .before .before .rate-on .ensures, c .before .before .before .table-on .ensures)))
 
 returns : tie.Need-returns
@@ -31,7 +31,7 @@ returns-2 : tie.Need-returns-2
 returns-2 c = rw (c .if2 .left) at (at-tested (c .before))
 
 returns-3 : tie.Need-returns-3
-returns-3 c = refused-is _ _ (sym (c .before .state-is-finite .ensures) ∙ c .if1 .left)
+returns-3 c = refused-is _ _ _ (sym (c .before .state-is-finite .ensures) ∙ c .if1 .left)
 
 pub fixed-at-spec : {M : Type 1} → statement M
 fixed-at-spec =

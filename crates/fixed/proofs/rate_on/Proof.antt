@@ -5,8 +5,8 @@ use Rattle.fixed.proofs.Accepted.{Accepted, accepted}
 use Rattle.fixed.proofs.rate_on.Statement.{statement}
 use Rattle.fixed.proofs.rate_on.Tie as tie
 
-at-start : (c : tie.Start) → Accepted (c .args .moment) (c .args .dut) (c .args .parts)
-at-start c = accepted _ _ _ (c .pre)
+at-start : (c : tie.Start) → Accepted (c .args .rule) (c .args .moment) (c .args .dut) (c .args .parts)
+at-start c = accepted _ _ _ _ (c .pre)
 
 sub-ut : tie.Need-sub-ut
 sub-ut c = at-start c .not-before

@@ -12,15 +12,15 @@ enum-known-number : tie.Need-enum-known-number
 enum-known-number c = search needs
 
 injection-requires : tie.Need-injection-requires
-injection-requires c κs = sym (c .before .before .before .hour-angle .ensures) ∙ c .before .parts .given .1
+injection-requires c κs = sym (c .before .before .before .sidereal .ensures) ∙ c .before .parts .given .1
 
 returns : tie.Need-returns
 unfolding sphereAnswer
-returns c = rw (sym (c .before .before .before .before .hour-angle .ensures) ∙ c .before .before .parts .given .1) (c .injection .ensures)
+returns c = rw (sym (c .before .before .before .before .sidereal .ensures) ∙ c .before .before .parts .given .1) (c .injection .ensures)
 
 returns-2 : tie.Need-returns-2
 unfolding sphereAnswer
-returns-2 c = rw (sym (c .before .before .before .hour-angle .ensures) ∙ c .before .number .given .1)
+returns-2 c = rw (sym (c .before .before .before .sidereal .ensures) ∙ c .before .number .given .1)
 
 pub from-sphere-spec : {M : Type 1} → statement M
 from-sphere-spec =

@@ -1,6 +1,6 @@
 -- `state::setting_is_allowed` meets its contract. The first test that fails decides. Assumes nothing.
 use mathlib.Core.Path.{sym, _∙_}
-use borrow.Author.Tests.{not-true, not-false}
+use borrow.Author.Tests.{not-true, not-false, le-leb, lt-leb}
 use Rattle.state.specs.State.{settingAllowed}
 use borrow.Author.Needs.{needs}
 use Rattle.state.proofs.setting_is_allowed.Statement.{statement}
@@ -50,7 +50,15 @@ returns-6 c = rw (sym (c .before .before .before .before .before .before .before
 
 returns-7 : tie.Need-returns-7
 unfolding settingAllowed
-returns-7 c = rw (sym (c .before .before .before .before .before .before .before .before .before .before .before .before .earth-is-allowed .ensures) ∙ not-false _ (c .before .before .before .before .before .before .before .before .before .before .before .if1 .left), sym (c .before .before .before .before .before .before .before .before .before .before .coefficient-is-allowed .ensures) ∙ not-false _ (c .before .before .before .before .before .before .before .before .before .if2 .left), sym (c .before .before .before .before .before .before .before .before .coefficient-is-allowed2 .ensures) ∙ not-false _ (c .before .before .before .before .before .before .before .if3 .left), sym (c .before .before .before .before .before .before .coefficient-is-allowed3 .ensures) ∙ not-false _ (c .before .before .before .before .before .if4 .left), sym (c .before .before .before .before .coefficient-is-allowed4 .ensures) ∙ not-false _ (c .before .before .before .if5 .left), sym (c .before .before .coefficient-is-allowed5 .ensures) ∙ not-false _ (c .before .if6 .left))
+returns-7 c =
+    let e = c .before .before .before in
+    rw (sym (e .before .before .before .before .before .before .before .before .before .before .before .earth-is-allowed .ensures) ∙ not-false _ (e .before .before .before .before .before .before .before .before .before .before .if1 .left), sym (e .before .before .before .before .before .before .before .before .before .coefficient-is-allowed .ensures) ∙ not-false _ (e .before .before .before .before .before .before .before .before .if2 .left), sym (e .before .before .before .before .before .before .before .coefficient-is-allowed2 .ensures) ∙ not-false _ (e .before .before .before .before .before .before .if3 .left), sym (e .before .before .before .before .before .coefficient-is-allowed3 .ensures) ∙ not-false _ (e .before .before .before .before .if4 .left), sym (e .before .before .before .coefficient-is-allowed4 .ensures) ∙ not-false _ (e .before .before .if5 .left), sym (e .before .coefficient-is-allowed5 .ensures) ∙ not-false _ (e .if6 .left), le-leb _ _ (c .before .if7 .taken))
+
+returns-8 : tie.Need-returns-8
+unfolding settingAllowed
+returns-8 c =
+    let e = c .before .before in
+    rw (sym (e .before .before .before .before .before .before .before .before .before .before .before .earth-is-allowed .ensures) ∙ not-false _ (e .before .before .before .before .before .before .before .before .before .before .if1 .left), sym (e .before .before .before .before .before .before .before .before .before .coefficient-is-allowed .ensures) ∙ not-false _ (e .before .before .before .before .before .before .before .before .if2 .left), sym (e .before .before .before .before .before .before .before .coefficient-is-allowed2 .ensures) ∙ not-false _ (e .before .before .before .before .before .before .if3 .left), sym (e .before .before .before .before .before .coefficient-is-allowed3 .ensures) ∙ not-false _ (e .before .before .before .before .if4 .left), sym (e .before .before .before .coefficient-is-allowed4 .ensures) ∙ not-false _ (e .before .before .if5 .left), sym (e .before .coefficient-is-allowed5 .ensures) ∙ not-false _ (e .if6 .left), lt-leb _ _ (c .if7 .left))
 
 pub setting-is-allowed-spec : {M : Type 1} → statement M
 setting-is-allowed-spec =
@@ -68,4 +76,5 @@ setting-is-allowed-spec =
     returns-5
     coefficient-is-allowed-requires-5
     returns-6
-    returns-7)
+    returns-7
+    returns-8)
