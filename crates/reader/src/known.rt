@@ -16,7 +16,7 @@ ghost use lib.ListN.{length};
 ghost use Rattle.reader.specs.Form.{isOff, missing};
 ghost use Rattle.reader.specs.Bytes.{lineAfter, rowsAfter, lineEnded, Counted, Goes, closed, verdictOf};
 
-fn is_off(place: Place) -> bool
+pub fn is_off(place: Place) -> bool
     ensures { λ r. ⌜ r ≡ isOff place ⌝ }
 {
     match place {

@@ -3,7 +3,7 @@
 
 pub mod known;
 mod letters;
-mod scanning;
+pub mod scanning;
 
 ghost use mathlib.Core.Path.{_≡_};
 ghost use mathlib.Core.List.{[]};
@@ -186,7 +186,7 @@ pub fn last_row(scan: Scan) -> Found
     row_of(line_end(scan))
 }
 
-fn row_of(line: Line) -> Found
+pub fn row_of(line: Line) -> Found
     ensures { λ r. ⌜ r ≡ rowOf line ⌝ }
 {
     match line {

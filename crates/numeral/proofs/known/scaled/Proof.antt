@@ -1,0 +1,88 @@
+-- `numeral::known::scaled` meets its contract. Assumes nothing.
+use Prim.Native.Nat.{ℕ, _+_, _-_, _*_, _/_, _%_, _^_, _<_, _≤_}
+use mathlib.Core.Path.{_≡_, refl, sym, ap, subst, _∙_}
+use native.Mathlib.Omega.{arith}
+use native.Mathlib.Nat.{add-mul, mul-right-comm, mul-le-mul, mod-lt}
+use lib.Pow.{pow-pos, split, shr-le}
+use Rattle.numeral.proofs.Rounding.{half-none, half-more, half-tie}
+use borrow.Author.Needs.{needs}
+use Rattle.numeral.proofs.known.scaled.Statement.{statement}
+use Rattle.numeral.proofs.known.scaled.Tie as tie
+use Rattle.numeral.proofs.known.scaled.Reads as reads
+use Rattle.numeral.proofs.known.scaled.Lts as lts
+
+-- how large the products are
+low-fits : (m unit : ℕ) → unit ≤ 1_000_000 → m % 4096 * unit ≤ 4095 * 1_000_000
+low-fits m unit h = let l : m % 4096 ≤ 4095 = omega arith in mul-le-mul l h
+
+high-fits : (m unit : ℕ) → m < 2 ^ 53 → unit ≤ 1_000_000 → m / 4096 * unit ≤ 2 ^ 41 * 1_000_000
+high-fits m unit g h = let l : m / 4096 ≤ 2 ^ 41 = omega arith in mul-le-mul l h
+
+parted : (m unit low : ℕ) → low ≡ m % 4096 * unit → m * unit ≡ 4096 * (m / 4096 * unit + low / 4096) + low % 4096
+parted m unit low e =
+    let f : m ≡ m / 4096 * 4096 + m % 4096 = omega arith in
+    let g : m * unit ≡ m / 4096 * unit * 4096 + m % 4096 * unit = ap (λ (z : ℕ). z * unit) f ∙ add-mul (m / 4096 * 4096) (m % 4096) unit ∙ ap (λ (z : ℕ). z + m % 4096 * unit) (mul-right-comm (m / 4096) 4096 unit) in
+    omega (arith, g, e)
+
+-- the bits that the shift drops
+dropped : (high shift : ℕ) → high < 2 ^ 64 → high / 2 ^ shift * 2 ^ shift % 2 ^ 64 < high → 0 < high % 2 ^ shift
+dropped high shift h l = let s = split high shift in omega arith
+
+not-dropped : (high shift : ℕ) → high < 2 ^ 64 → high ≤ high / 2 ^ shift * 2 ^ shift % 2 ^ 64 → high % 2 ^ shift ≡ 0
+not-dropped high shift h l = let s = split high shift in omega arith
+
+odd-is : (h : ℕ) → (h % 2 ≡ 0 → ⊥) → h % 2 ≡ 1
+odd-is h n = omega arith
+
+mul-low : tie.Need-mul-low
+mul-low c = record { fits = omega (arith, low-fits (c .args .m) (c .args .unit) (omega arith)) }
+
+mul-high : tie.Need-mul-high
+mul-high c = record { fits = omega (arith, high-fits (c .args .m) (c .args .unit) (omega arith) (omega arith)) }
+
+add-high : tie.Need-add-high
+add-high c = record { fits = omega (arith, low-fits (c .args .m) (c .args .unit) (omega arith), high-fits (c .args .m) (c .args .unit) (omega arith) (omega arith)) }
+
+shr-h : tie.Need-shr-h
+shr-h c = search needs
+
+returns : tie.Need-returns
+returns c = half-none (c .before .args .m * c .before .args .unit) (c .before .args .m / 4096 * c .before .args .unit + c .before .args .m % 4096 * c .before .args .unit / 4096) (2 ^ c .before .args .shift) ((c .before .args .m / 4096 * c .before .args .unit + c .before .args .m % 4096 * c .before .args .unit / 4096) / 2 ^ c .before .args .shift) ((c .before .args .m / 4096 * c .before .args .unit + c .before .args .m % 4096 * c .before .args .unit / 4096) % 2 ^ c .before .args .shift) (c .before .args .m % 4096 * c .before .args .unit % 4096) (parted (c .before .args .m) (c .before .args .unit) _ refl) (omega arith) (split (c .before .args .m / 4096 * c .before .args .unit + c .before .args .m % 4096 * c .before .args .unit / 4096) (c .before .args .shift)) (mod-lt (c .before .args .m / 4096 * c .before .args .unit + c .before .args .m % 4096 * c .before .args .unit / 4096) (pow-pos (c .before .args .shift))) (c .if1 .taken)
+
+add-result : tie.Need-add-result
+add-result c = record { fits = omega (arith, low-fits (c .before .before .args .m) (c .before .before .args .unit) (omega arith), high-fits (c .before .before .args .m) (c .before .before .args .unit) (omega arith) (omega arith), shr-le (c .before .before .args .m / 4096 * c .before .before .args .unit + c .before .before .args .m % 4096 * c .before .before .args .unit / 4096) (c .before .before .args .shift)) }
+
+returns-2 : tie.Need-returns-2
+returns-2 c = half-more (c .before .before .args .m * c .before .before .args .unit) (c .before .before .args .m / 4096 * c .before .before .args .unit + c .before .before .args .m % 4096 * c .before .before .args .unit / 4096) (2 ^ c .before .before .args .shift) ((c .before .before .args .m / 4096 * c .before .before .args .unit + c .before .before .args .m % 4096 * c .before .before .args .unit / 4096) / 2 ^ c .before .before .args .shift) ((c .before .before .args .m / 4096 * c .before .before .args .unit + c .before .before .args .m % 4096 * c .before .before .args .unit / 4096) % 2 ^ c .before .before .args .shift) (c .before .before .args .m % 4096 * c .before .before .args .unit % 4096) (parted (c .before .before .args .m) (c .before .before .args .unit) _ refl) (omega arith) (split (c .before .before .args .m / 4096 * c .before .before .args .unit + c .before .before .args .m % 4096 * c .before .before .args .unit / 4096) (c .before .before .args .shift)) (mod-lt (c .before .before .args .m / 4096 * c .before .before .args .unit + c .before .before .args .m % 4096 * c .before .before .args .unit / 4096) (pow-pos (c .before .before .args .shift))) (odd-is _ (c .before .if1 .left)) (omega (arith, c .if2 .taken))
+
+shl-if3 : tie.Need-shl-if3
+shl-if3 c = search needs
+
+add-result-2 : tie.Need-add-result-2
+add-result-2 c = record { fits = omega (arith, low-fits (c .before .before .before .args .m) (c .before .before .before .args .unit) (omega arith), high-fits (c .before .before .before .args .m) (c .before .before .before .args .unit) (omega arith) (omega arith), shr-le (c .before .before .before .args .m / 4096 * c .before .before .before .args .unit + c .before .before .before .args .m % 4096 * c .before .before .before .args .unit / 4096) (c .before .before .before .args .shift)) }
+
+returns-3 : tie.Need-returns-3
+returns-3 c = half-more (c .before .before .before .args .m * c .before .before .before .args .unit) (c .before .before .before .args .m / 4096 * c .before .before .before .args .unit + c .before .before .before .args .m % 4096 * c .before .before .before .args .unit / 4096) (2 ^ c .before .before .before .args .shift) ((c .before .before .before .args .m / 4096 * c .before .before .before .args .unit + c .before .before .before .args .m % 4096 * c .before .before .before .args .unit / 4096) / 2 ^ c .before .before .before .args .shift) ((c .before .before .before .args .m / 4096 * c .before .before .before .args .unit + c .before .before .before .args .m % 4096 * c .before .before .before .args .unit / 4096) % 2 ^ c .before .before .before .args .shift) (c .before .before .before .args .m % 4096 * c .before .before .before .args .unit % 4096) (parted (c .before .before .before .args .m) (c .before .before .before .args .unit) _ refl) (omega arith) (split (c .before .before .before .args .m / 4096 * c .before .before .before .args .unit + c .before .before .before .args .m % 4096 * c .before .before .before .args .unit / 4096) (c .before .before .before .args .shift)) (mod-lt (c .before .before .before .args .m / 4096 * c .before .before .before .args .unit + c .before .before .before .args .m % 4096 * c .before .before .before .args .unit / 4096) (pow-pos (c .before .before .before .args .shift))) (odd-is _ (c .before .before .if1 .left)) (omega (arith, dropped (c .before .before .before .args .m / 4096 * c .before .before .before .args .unit + c .before .before .before .args .m % 4096 * c .before .before .before .args .unit / 4096) (c .before .before .before .args .shift) (omega (arith, low-fits (c .before .before .before .args .m) (c .before .before .before .args .unit) (omega arith), high-fits (c .before .before .before .args .m) (c .before .before .before .args .unit) (omega arith) (omega arith))) (c .if3 .taken)))
+
+add-result-3 : tie.Need-add-result-3
+add-result-3 c = record { fits = omega (arith, low-fits (c .before .before .before .args .m) (c .before .before .before .args .unit) (omega arith), high-fits (c .before .before .before .args .m) (c .before .before .before .args .unit) (omega arith) (omega arith), shr-le (c .before .before .before .args .m / 4096 * c .before .before .before .args .unit + c .before .before .before .args .m % 4096 * c .before .before .before .args .unit / 4096) (c .before .before .before .args .shift)) }
+
+returns-4 : tie.Need-returns-4
+returns-4 c = half-tie (c .before .before .before .args .m * c .before .before .before .args .unit) (c .before .before .before .args .m / 4096 * c .before .before .before .args .unit + c .before .before .before .args .m % 4096 * c .before .before .before .args .unit / 4096) (2 ^ c .before .before .before .args .shift) ((c .before .before .before .args .m / 4096 * c .before .before .before .args .unit + c .before .before .before .args .m % 4096 * c .before .before .before .args .unit / 4096) / 2 ^ c .before .before .before .args .shift) ((c .before .before .before .args .m / 4096 * c .before .before .before .args .unit + c .before .before .before .args .m % 4096 * c .before .before .before .args .unit / 4096) % 2 ^ c .before .before .before .args .shift) (c .before .before .before .args .m % 4096 * c .before .before .before .args .unit % 4096) (parted (c .before .before .before .args .m) (c .before .before .before .args .unit) _ refl) (omega arith) (split (c .before .before .before .args .m / 4096 * c .before .before .before .args .unit + c .before .before .before .args .m % 4096 * c .before .before .before .args .unit / 4096) (c .before .before .before .args .shift)) (mod-lt (c .before .before .before .args .m / 4096 * c .before .before .before .args .unit + c .before .before .before .args .m % 4096 * c .before .before .before .args .unit / 4096) (pow-pos (c .before .before .before .args .shift))) (odd-is _ (c .before .before .if1 .left)) (omega (arith, not-dropped (c .before .before .before .args .m / 4096 * c .before .before .before .args .unit + c .before .before .before .args .m % 4096 * c .before .before .before .args .unit / 4096) (c .before .before .before .args .shift) (omega (arith, low-fits (c .before .before .before .args .m) (c .before .before .before .args .unit) (omega arith), high-fits (c .before .before .before .args .m) (c .before .before .before .args .unit) (omega arith) (omega arith))) (c .if3 .left), c .before .if2 .left))
+
+pub scaled-spec : {M : Type 1} → statement M
+scaled-spec =
+    tie.close
+    (tie.spec
+    mul-low
+    mul-high
+    add-high
+    shr-h
+    returns
+    add-result
+    returns-2
+    shl-if3
+    add-result-2
+    returns-3
+    add-result-3
+    returns-4)

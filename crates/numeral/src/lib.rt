@@ -1,0 +1,26 @@
+// A float as a decimal numeral of three or six places, rounded to nearest.
+
+pub mod known;
+
+ghost use mathlib.Core.Path.{_≡_};
+ghost use lib.Ieee.{binary64, ofBits};
+ghost use Rattle.numeral.specs.Numeral.{isLarge};
+
+// How many places stand behind the point.
+pub enum Places {
+    Three,
+    Six,
+}
+
+// The bits of 10^12. Without its sign a float's bits are in the order of sizes.
+const LIMIT: u64 = 0x426d_1a94_a200_0000;
+
+// Whether the float of some bits has "a magnitude of 10^12 or more"; an infinity and a NaN too have no numeral.
+pub fn is_large(bits: u64) -> bool
+    ensures { λ r. ⌜ r ≡ isLarge (ofBits binary64 bits) ⌝ }
+{
+    if bits % 0x8000_0000_0000_0000 < LIMIT {
+        return false;
+    }
+    true
+}

@@ -1,0 +1,33 @@
+-- `rows::known::put_field` meets its contract. Assumes nothing.
+use Prim.Native.Nat.{_+_}
+use mathlib.Core.Path.{_≡_, refl, sym, ap, _∙_}
+use native.Mathlib.Omega.{arith}
+use Rattle.text.proofs.Writing.{both, byte}
+use lib.ListN.{length-set}
+use Rattle.rows.specs.Text.{field}
+use borrow.Author.Needs.{needs}
+use Rattle.rows.proofs.known.put_field.Statement.{statement}
+use Rattle.rows.proofs.known.put_field.Tie as tie
+use Rattle.rows.proofs.known.put_field.Reads as reads
+use Rattle.rows.proofs.known.put_field.Lts as lts
+use Rattle.numeral.proofs.known.put_numeral.Reads as put-numeral-reads
+
+slice-write-out : tie.Need-slice-write-out
+slice-write-out c = search needs
+
+add-put-numeral : tie.Need-add-put-numeral
+add-put-numeral c = search needs
+
+put-numeral-requires : tie.Need-put-numeral-requires
+put-numeral-requires c κs = (c .before .before .pre .0, rw length-set (omega arith))
+
+same-length : tie.Need-same-length
+same-length c = c .before .before .put-numeral .kept .0 ∙ simp length-set
+
+returns : tie.Need-returns
+unfolding field
+returns c = both (byte _ _ 44 (omega arith)) (c .before .before .put-numeral .ensures)
+
+pub put-field-spec : {M : Type 1} → statement M
+put-field-spec =
+    tie.close (tie.spec slice-write-out add-put-numeral put-numeral-requires same-length returns)

@@ -1,0 +1,71 @@
+-- How a table is made byte by byte: where the reading stands, and what a portion of it is.
+use Prim.Native.Nat.{ℕ, _+_, _≤_, _<_}
+use mathlib.Core.Bool.{Bool, true, false}
+use mathlib.Core.List.{List, [], _∷_, _++_}
+use mathlib.Core.Path.{_≡_}
+use lib.ListN.{length, take, drop}
+use Rattle.basis.specs.Limits.{endOfTime}
+use Rattle.text.specs.Written.{Wrote}
+use Rattle.reader.specs.declared.Place.{Place}
+use Rattle.reader.specs.declared.Place.the-variants.{Top, First, After, Done, Off}
+use Rattle.reader.specs.declared.Scan.the-variants.{Start}
+use Rattle.reader.specs.Bytes.{begun, kindsFrom}
+use Rattle.tabling.specs.declared.Standing.{Standing}
+use Rattle.tabling.specs.declared.Standing.the-variants.{Going, Refused}
+use Rattle.tabling.specs.declared.Step.{Step}
+use Rattle.tabling.specs.declared.Portion.{Portion}
+use Rattle.tabling.specs.declared.End.{End}
+use Rattle.tabling.specs.Table.{Table, refusedBy, behind, tableFrom}
+
+-- what the rest of the text still gives
+unfoldable pub tableWith : Standing → List ℕ → Table
+tableWith (Going place scan line) rest = tableFrom place line (kindsFrom scan rest)
+tableWith (Refused number line) rest = refusedBy number line
+
+-- line n stands before a place: since moments rise, lines are no more than milliseconds
+abbrev pub Held : Place → ℕ → Type 0
+Held Top n = n ≤ 1
+Held First n = n ≤ 2
+Held (After t) n = (n ≤ t + 3) × (t < endOfTime)
+Held Done n = n ≤ endOfTime + 3
+Held Off n = ⊥
+
+unfoldable pub Stands : Standing → Type 0
+Stands (Going place scan line) = Held place line
+Stands (Refused number line) = 0 ≤ line
+
+-- no byte of the line is read
+unfoldable pub Fresh : Standing → Type 0
+Fresh (Going place scan line) = begun scan ≡ false
+Fresh (Refused number line) = 0 ≤ line
+
+-- some bytes more: what is written of them, and where the reading stands then
+pub record Steps (from : Standing) (bytes before : List ℕ) (at : ℕ) (after : List ℕ) (s : Step) : Type 0 where
+  pub text : List ℕ
+  pub wrote : Wrote before at text after (s .next)
+  pub table : (rest : List ℕ) → tableWith from (bytes ++ rest) ≡ behind text (tableWith (s .standing) rest)
+  pub short : s .next ≤ at + 157
+  pub stands : Stands (s .standing)
+
+-- a line feed more
+pub record Feeds (from : Standing) (before : List ℕ) (at : ℕ) (after : List ℕ) (s : Step) : Type 0 where
+  pub steps : Steps from (10 ∷ []) before at after s
+  pub fresh : Fresh (s .standing)
+
+-- a portion: the rows of the bytes from a place of a block on, as many as there is room for. What stands in out afterwards and the table of the rest are the table before it
+pub record Tabled (block : List ℕ) (at : ℕ) (from : Standing) (before after : List ℕ) (p : Portion) : Type 0 where
+  pub table : (rest : List ℕ) → tableWith from (drop at block ++ rest) ≡ behind (take (p .written) after) (tableWith (p .standing) (drop (p .at) block ++ rest))
+  pub within : p .written ≤ length after
+  pub kept : drop (p .written) after ≡ drop (p .written) before
+  pub stands : Stands (p .standing)
+  pub ends : p .at < length block → length after < p .written + 157
+  pub moves : at < length block → 157 ≤ length after → at < p .at
+
+-- the end of the text
+pub record Ends (from : Standing) (before after : List ℕ) (e : End) : Type 0 where
+  pub text : List ℕ
+  pub wrote : Wrote before 0 text after (e .next)
+  pub table : tableWith from [] ≡ behind text (refusedBy (e .number) (e .line))
+
+abbrev pub opened : Standing
+opened = Going Top Start 1

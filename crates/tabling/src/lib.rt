@@ -1,0 +1,77 @@
+// The table of a listing, made byte by byte: the first line that is refused decides, and the rows before it are written.
+
+pub mod known;
+
+use reader::Found;
+use reader::Place;
+use reader::Row;
+use reader::Scan;
+use reader::known::is_off;
+use rows::has_large;
+ghost use mathlib.Core.Path.{_≡_};
+ghost use Rattle.tabling.specs.Table.{stateRefusal, foundRefusal, refusalAt};
+ghost use Rattle.tabling.specs.Steps.{opened};
+
+// Where the reading of a listing stands: at a place, with a scan of a line of that number; or refused, by a number and a line.
+pub enum Standing {
+    Going(Place, Scan, u64),
+    Refused(u64, u64),
+}
+
+// The place after what was written.
+pub struct Step {
+    pub standing: Standing,
+    pub next: usize,
+}
+
+// The bytes written, and the place in the block behind them.
+pub struct Portion {
+    pub standing: Standing,
+    pub at: usize,
+    pub written: usize,
+}
+
+// The refusal of a whole text, or 0 and 0, and the place after what was written.
+pub struct End {
+    pub number: u64,
+    pub line: u64,
+    pub next: usize,
+}
+
+// Before the first byte.
+pub fn opening() -> Standing
+    ensures { λ r. ⌜ r ≡ opened ⌝ }
+{
+    Standing::Going(Place::Top, Scan::Start, 1)
+}
+
+fn state_refusal(row: Row) -> u64
+    ensures { λ r. ⌜ r ≡ stateRefusal row ⌝ }
+{
+    if row.moment < basis::END_OF_TIME {
+        if has_large(row) {
+            return 17;
+        }
+        return 0;
+    }
+    13
+}
+
+fn found_refusal(found: Found) -> u64
+    ensures { λ r. ⌜ r ≡ foundRefusal found ⌝ }
+{
+    match found {
+        Found::Is(row) => state_refusal(row),
+        Found::None => 0,
+    }
+}
+
+// The number by which a line is refused that leads to a place, or 0.
+pub fn refusal_at(place: Place, found: Found) -> u64
+    ensures { λ r. ⌜ r ≡ refusalAt place found ⌝ }
+{
+    if is_off(place) {
+        return 13;
+    }
+    found_refusal(found)
+}
