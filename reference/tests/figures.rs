@@ -4,7 +4,7 @@ use reference::ask::answers;
 use reference::book::{self, Motion};
 use reference::calendar::{date_of, day_of};
 use reference::conic::{conic, Kind};
-use reference::fixed::{earth_fixed, precession, precession_by, SINCE_1950_0};
+use reference::fixed::{earth_fixed, precession, precession_by, turned, SINCE_1950_0};
 use reference::hour::{angle_at, angle_by, exact_1982, hour_angle, sidereal, CIRCLE, DAY, END, PART};
 use reference::motion::{acceleration, start_checks, run, Outcome, Setting, State};
 use reference::root::root;
@@ -139,6 +139,29 @@ fn ground_points() {
         let (p, _) = earth_fixed(0, 35_000, moment, position, [0.0; 3]).unwrap();
         let (lat, lon) = ground(p);
         assert!((lat - latitude).abs() < 0.003 && (lon - longitude).abs() < 0.003, "{lat} {lon}");
+    }
+}
+
+/// Document 003's Exhibit A: an injection spherical and Earth-fixed beside its Cartesian coordinates,
+/// which are of date: the state in 1950.0 coordinates is taken there by the precession table.
+#[test]
+fn injection_of_exhibit_a() {
+    let parts = |degrees: f64| (degrees * 1e10).round() as i128;
+    let sphere = Sphere {
+        radius: 6611.1676,
+        latitude: parts(-13.312895),
+        longitude: parts(351.85650) as u64,
+        speed: 10.531770,
+        path: parts(5.3912348),
+        azimuth: parts(121.83937) as u64,
+    };
+    let moment = 4322 * DAY + 82_951_000 + 34_000;
+    let (p, v) = from_sphere(0, 34_000, moment, &sphere).unwrap();
+    let (p, v) = (turned(precession(moment), p), turned(precession(moment), v));
+    let expected = [6102.0315, 2038.4328, -1522.3453, -3.2657006, 8.7950401, -5.6105608];
+    for i in 0..3 {
+        assert!((p[i] - expected[i]).abs() < 0.5, "{p:?}");
+        assert!((v[i] - expected[3 + i]).abs() < 0.001, "{v:?}");
     }
 }
 
