@@ -1,5 +1,5 @@
 #!/bin/sh
-# Builds the two archives of the exported calls and the two examples over them, and compares what they print with document 01's
+# Builds the three archives of the exported calls and the two examples over them, and compares what they print with document 01's
 # figures; then every call with the Rust reference, on inputs from a seed. One line for each check; ends with 1 if one failed.
 #
 # The archives are for x86-64. On another machine, or with LINK_NATIVE=1, the modules that they are made of are compiled for this
@@ -29,7 +29,7 @@ native_archive() { # NAME
 }
 
 c_example() {
-    cc -std=c99 -Wall -Wextra -Werror -O2 -Icrates/link -o "$work/c-link" examples/c-link/main.c "$archive/liblink.a" "$archive/libmendlink.a" &&
+    cc -std=c99 -Wall -Wextra -Werror -O2 -Icrates/link -o "$work/c-link" examples/c-link/main.c "$archive/liblink.a" "$archive/libalmanaclink.a" "$archive/libmendlink.a" &&
         "$work/c-link" >"$work/c-link.out" && diff examples/link.expected "$work/c-link.out"
 }
 
@@ -45,11 +45,13 @@ same_as_reference() {
 if [ "$machine" = x86_64 ] && [ -z "${LINK_NATIVE:-}" ]; then
     archive=$PWD/target/staticlib
     check archive rt staticlib link
+    check archive-without-state rt staticlib almanaclink
     check archive-of-repair rt staticlib mendlink
 else
     echo "this machine is $machine: the archives' modules are compiled for it"
     archive=$work
     check archive native_archive link
+    check archive-without-state native_archive almanaclink
     check archive-of-repair native_archive mendlink
 fi
 check c-link c_example

@@ -1,5 +1,6 @@
-/* Belfrywool for C: link with the archive that `rt staticlib link` writes (target/staticlib/liblink.a), and for belfry_repair
-   with the one that `rt staticlib mendlink` writes (libmendlink.a).
+/* Belfrywool for C: link with the archives that `rt staticlib NAME` writes to target/staticlib, libNAME.a, in any order:
+   `almanaclink` has the calls that take no state (belfry_date to belfry_position), `mendlink` has belfry_repair, and `link` has
+   all others. A program that uses the calls of one of them alone needs no other.
 
    Each call returns BELFRY_ACCEPTED, or the number of a refusal. Outside a run a refused call leaves all lent
    memory as it was. No call keeps a pointer, allocates, or reads or writes anything but what it is lent.

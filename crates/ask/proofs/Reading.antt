@@ -10,8 +10,8 @@ use borrow.Author.Tests.{eq-eqb, ne-eqb}
 use lib.Dec.{eqb}
 use lib.ListN.{length, getD, take, drop, set}
 use lib.Seq.{drop-cons, drop-length, take-suc-set}
-use Rattle.text.specs.declared.Field.{Field}
-use Rattle.text.specs.declared.Field.the-variants.{Value, Bad}
+use Rattle.fields.specs.declared.Field.{Field}
+use Rattle.fields.specs.declared.Field.the-variants.{Value, Bad}
 use Rattle.ask.specs.Call.{Call, These, Unreadable, ahead, andThen, fieldAt, fieldsFrom, startsWith, told}
 
 pub same-byte : (line name : List ℕ) (i : ℕ) → i < length line → i < length name → getD line i 0 ≡ getD name i 0 → startsWith (drop i line) (drop i name) ≡ startsWith (drop (i + 1) line) (drop (i + 1) name)

@@ -4,8 +4,8 @@ use mathlib.Core.Bool.{Bool, true, false, _&&_}
 use mathlib.Core.List.{List, [], _∷_}
 use lib.ListN.{length, getD}
 use Rattle.basis.specs.Choice.{if_then_else_, _<?_, _=?_}
-use Rattle.text.specs.declared.Field.{Field}
-use Rattle.text.specs.declared.Field.the-variants.{Value, Bad}
+use Rattle.fields.specs.declared.Field.{Field}
+use Rattle.fields.specs.declared.Field.the-variants.{Value, Bad}
 use Rattle.text.specs.Fields.{readDecimal, readHex16}
 
 -- a number that fits 32 bits

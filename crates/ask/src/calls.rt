@@ -191,11 +191,11 @@ fn put_conic(out: &mut Out, from: usize, centre: u64, conic: Conic) -> usize
 {
     match conic {
         Conic::Ellipse { a, e, p, q, far } => {
-            let at = text::put_bytes(out, from, b"ELLIPSE ");
+            let at = text::known::put_bytes(out, from, b"ELLIPSE ");
             put_figures(out, at, centre, [a, e, p, q, far])
         }
         Conic::Hyperbola { a, e, p, q, v } => {
-            let at = text::put_bytes(out, from, b"HYPERBOLA ");
+            let at = text::known::put_bytes(out, from, b"HYPERBOLA ");
             put_figures(out, at, centre, [a, e, p, q, v])
         }
     }
@@ -262,8 +262,8 @@ fn put_outcome(out: &mut Out, at: usize, outcome: Outcome) -> usize
     ensures { λ r. ⌜ Between at 1 29 r ⌝ }
 {
     match outcome {
-        Outcome::Arrived => text::put_bytes(out, at, b"ARRIVED "),
-        Outcome::Going => text::put_bytes(out, at, b"GOING "),
+        Outcome::Arrived => text::known::put_bytes(out, at, b"ARRIVED "),
+        Outcome::Going => text::known::put_bytes(out, at, b"GOING "),
         Outcome::Refused(number) => put_refused(out, at, number),
     }
 }
@@ -324,7 +324,7 @@ fn book_call(book: &[u8], line: &[u8], out: &mut Out, at: usize) -> usize
     if reads(line, b"run", b"FFFFFFSDFFFFFFSDSDDDDD", &mut v) {
         return run_answer(book, &v, out, at);
     }
-    text::put_bytes(out, at, b"UNREADABLE ")
+    text::known::put_bytes(out, at, b"UNREADABLE ")
 }
 
 // fixed, turn, sphere or conic, or a call of a book.

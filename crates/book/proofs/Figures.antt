@@ -7,10 +7,10 @@ use lib.Count.{trailingZeros}
 use lib.Ieee.{Float, binary64, ofBits, ofFields, odd, ofInt, add, sub, neg, mul, div, sum, round, units, size, span, climb}
 use native.Mathlib.Omega.{arith}
 use borrow.Author.Tests.{le-leb, lt-ltb, le-ltb}
-use Rattle.book.specs.Contents.{startOf, spanOf, endOf}
+use Rattle.bookcheck.specs.Contents.{startOf, spanOf, endOf}
 use Rattle.book.specs.Lookup.{covers}
-use Rattle.book.specs.Series.{argument, clenshaw, series}
-use Rattle.book.proofs.Below.{both}
+use Rattle.series.specs.Series.{argument, clenshaw, series}
+use Rattle.bookcheck.proofs.Below.{both}
 
 abbrev pub oneTwoThree : List Float
 oneTwoThree = ofBits binary64 0x3ff0_0000_0000_0000 ∷ ofBits binary64 0x4000_0000_0000_0000 ∷ ofBits binary64 0x4008_0000_0000_0000 ∷ []

@@ -1,11 +1,8 @@
-pub mod FiniteBits
-pub mod Below
-pub mod Passing
-pub mod Checked
+pub use Rattle.bookcheck.proofs.FiniteBits
+pub use Rattle.bookcheck.proofs.Below
+pub use Rattle.bookcheck.proofs.Passing
+pub use Rattle.bookcheck.proofs.Checked
 pub mod Found
-pub mod Numerator
-pub mod Turns
-pub mod Slopes
 pub mod Figures
 pub mod BodyAt
 pub mod Slow

@@ -2,7 +2,7 @@
 use mathlib.Core.Path.{refl}
 use denote.Ref.{now}
 use Rattle.basis.proofs.OneAnswer.{OneAnswer, one-answer}
-use Rattle.book.specs.Passes.{passes}
+use Rattle.bookcheck.specs.Passes.{passes}
 use Rattle.book.specs.Position.{positionAnswer}
 use Rattle.book.proofs.book_passes as book-passes
 use Rattle.book.proofs.position as position

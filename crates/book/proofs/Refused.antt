@@ -6,9 +6,9 @@ use Prim.Native.Nat.{ℕ}
 use Rattle.basis.specs.Choice.{if_then_else_}
 use Rattle.basis.specs.Limits.{isMoment}
 use Rattle.basis.proofs.Cases.{by-if}
-use Rattle.book.specs.Passes.{passes}
+use Rattle.bookcheck.specs.Passes.{passes}
 use Rattle.book.specs.Lookup.{lookup}
-use Rattle.book.specs.Series.{place, velocity}
+use Rattle.series.specs.Series.{place, velocity}
 use Rattle.book.specs.Position.{finitePlace, finiteVelocity, placeOr6, bodyAt, positionAnswer}
 use Rattle.book.specs.declared.Lookup.{Lookup}
 use Rattle.book.specs.declared.Lookup.the-variants.{Entry, Nothing}

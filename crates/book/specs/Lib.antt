@@ -1,11 +1,10 @@
-pub mod Bytes
-pub mod Contents
-pub mod Passes
-pub mod Check
+pub use Rattle.bookcheck.specs.Bytes
+pub use Rattle.bookcheck.specs.Contents
+pub use Rattle.bookcheck.specs.Passes
+pub use Rattle.bookcheck.specs.Check
+pub use Rattle.series.specs.Series
 pub mod Lookup
 pub mod Stands
-pub mod Series
-pub mod Axis
 pub mod Reading
 pub mod Calm
 pub mod Position

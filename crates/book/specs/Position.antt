@@ -5,11 +5,11 @@ use mathlib.Core.List.{List}
 use lib.Ieee.Scale.{finite}
 use Rattle.basis.specs.Choice.{if_then_else_}
 use Rattle.basis.specs.Limits.{isMoment}
-use Rattle.book.specs.Passes.{passes}
+use Rattle.bookcheck.specs.Passes.{passes}
 use Rattle.book.specs.Lookup.{lookup}
-use Rattle.book.specs.Series.{place, velocity}
-use Rattle.book.specs.declared.Place.{Place}
-use Rattle.book.specs.declared.Velocity.{Velocity}
+use Rattle.series.specs.Series.{place, velocity}
+use Rattle.series.specs.declared.Place.{Place}
+use Rattle.series.specs.declared.Velocity.{Velocity}
 use Rattle.book.specs.declared.Motion.{Motion}
 use Rattle.book.specs.declared.Lookup.{Lookup}
 use Rattle.book.specs.declared.Lookup.the-variants.{Entry, Nothing}

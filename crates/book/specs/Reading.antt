@@ -5,10 +5,10 @@ use mathlib.Core.List.{List}
 use mathlib.Core.Path.{_≡_}
 use lib.ListN.{length}
 use Rattle.basis.specs.Floats.{whole}
-use Rattle.book.specs.Contents.{offsetOf, sizeOf, startOf, spanOf}
-use Rattle.book.specs.Check.{floatsFinite}
-use Rattle.book.specs.Series.{argument}
-use Rattle.book.specs.declared.series.Reading.{Reading}
+use Rattle.bookcheck.specs.Contents.{offsetOf, sizeOf, startOf, spanOf}
+use Rattle.bookcheck.specs.Check.{floatsFinite}
+use Rattle.series.specs.Series.{argument}
+use Rattle.book.specs.declared.known.Reading.{Reading}
 
 pub record Reads (b : List ℕ) (i t : ℕ) (r : Reading) : Type 0 where
   pub offset : r .offset ≡ offsetOf b i

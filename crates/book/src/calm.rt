@@ -1,11 +1,11 @@
 // Whether the coefficients of a book are so small that no velocity can overflow (02, R-5).
 
-use crate::bytes::u16_at;
-use crate::bytes::u32_at;
-use crate::check::floats_below;
+use bookcheck::bytes::u16_at;
+use bookcheck::bytes::u32_at;
+use bookcheck::known::floats_below;
 ghost use mathlib.Core.Bool.{true};
 ghost use mathlib.Core.Path.{_≡_};
-ghost use Rattle.book.specs.Passes.{passes};
+ghost use Rattle.bookcheck.specs.Passes.{passes};
 ghost use Rattle.book.specs.Calm.{calm};
 
 // The bits of 2^512.

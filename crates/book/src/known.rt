@@ -3,33 +3,32 @@
 
 use crate::Lookup;
 use crate::Motion;
-use crate::Place;
 use crate::PositionAnswer;
-use crate::Velocity;
-use crate::bytes::u16_at;
-use crate::bytes::u32_at;
-use crate::bytes::u64_at;
 pub use crate::calm::book_calm;
-pub use crate::check::fields_allowed;
-pub use crate::check::floats_finite;
-pub use crate::check::offset_of;
-pub use crate::check::size_of;
 use crate::search::Stand;
 use crate::search::search;
 use crate::search::stand_at;
-use crate::series::Reading;
-use crate::series::argument_at;
-use crate::series::series_at;
-use crate::series::slopes_at;
 use basis::is_finite;
+use bookcheck::bytes::u16_at;
+use bookcheck::bytes::u32_at;
+use bookcheck::bytes::u64_at;
+pub use bookcheck::known::fields_allowed;
+pub use bookcheck::known::floats_finite;
+pub use bookcheck::known::offset_of;
+pub use bookcheck::known::size_of;
+use series::Place;
+use series::Velocity;
+use series::known::argument_at;
+use series::known::series_at;
+use series::known::slopes_at;
 ghost use mathlib.Core.Bool.{true, _&&_};
 ghost use mathlib.Core.Path.{_≡_};
 ghost use Prim.Native.Nat.{_<_};
 ghost use lib.Ieee.Scale.{finite};
-ghost use Rattle.book.specs.Contents.{entryCount};
-ghost use Rattle.book.specs.Passes.{passes};
+ghost use Rattle.bookcheck.specs.Contents.{entryCount};
+ghost use Rattle.bookcheck.specs.Passes.{passes};
 ghost use Rattle.book.specs.Lookup.{covers, lookup};
-ghost use Rattle.book.specs.Series.{place, velocity};
+ghost use Rattle.series.specs.Series.{place, velocity};
 ghost use Rattle.book.specs.Position.{finitePlace, finiteVelocity, bodyAt};
 ghost use Rattle.book.specs.Reading.{Reads};
 ghost use Rattle.book.specs.Calm.{Ready};
@@ -55,6 +54,14 @@ pub fn lookup_guessed(book: &[u8], body: u64, moment: u64, guess: usize) -> Look
             }
         }
     }
+}
+
+// What is read of an entry for a moment: where its block lies, how many floats an axis has, w and L.
+pub struct Reading {
+    pub offset: usize,
+    pub n: usize,
+    pub w: f64,
+    pub span: f64,
 }
 
 fn reading_at(book: &[u8], entry: usize, moment: u64) -> Reading

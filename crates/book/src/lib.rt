@@ -2,30 +2,19 @@
 
 pub mod bytes;
 mod calm;
-mod check;
 pub mod known;
 mod search;
-mod series;
 
 use basis::END_OF_TIME;
-use bytes::u32_at;
+use bookcheck::bytes::u32_at;
+use bookcheck::known::entries_pass;
+pub use series::Place;
+pub use series::Velocity;
 ghost use mathlib.Core.Path.{_≡_};
-ghost use Rattle.book.specs.Passes.{passes};
+ghost use Rattle.bookcheck.specs.Passes.{passes};
 ghost use Rattle.book.specs.Position.{positionAnswer};
 
 pub const LONGEST_BOOK: usize = 61_440;
-
-pub struct Place {
-    pub x: f64,
-    pub y: f64,
-    pub z: f64,
-}
-
-pub struct Velocity {
-    pub x: f64,
-    pub y: f64,
-    pub z: f64,
-}
 
 // Where a body stands, in km from the Earth, and (02, R-5) how fast it goes, in km/s.
 pub struct Motion {
@@ -58,7 +47,7 @@ pub fn book_passes(book: &[u8]) -> bool
     if total == length {
         let count = u32_at(book, 4) as usize;
         if count <= (length - 8) / 24 {
-            return check::entries_pass(book, count);
+            return entries_pass(book, count);
         }
     }
     false

@@ -1,14 +1,14 @@
 // The search for the entry that covers a moment, in a book that passes: its entries are in order, so a half falls away by turns.
 
 use crate::Lookup;
-use crate::bytes::u16_at;
-use crate::bytes::u64_at;
+use bookcheck::bytes::u16_at;
+use bookcheck::bytes::u64_at;
 ghost use mathlib.Core.Bool.{true};
 ghost use mathlib.Core.Path.{_≡_};
 ghost use Prim.Native.Nat.{_+_, _≤_, _<_};
 ghost use lib.ListN.{length};
-ghost use Rattle.book.specs.Contents.{entryAt};
-ghost use Rattle.book.specs.Passes.{passes};
+ghost use Rattle.bookcheck.specs.Contents.{entryAt};
+ghost use Rattle.bookcheck.specs.Passes.{passes};
 ghost use Rattle.book.specs.Lookup.{lookup};
 ghost use Rattle.book.specs.Stands.{Stands, Narrowed};
 

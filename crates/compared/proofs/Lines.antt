@@ -14,7 +14,8 @@ use Rattle.basis.specs.Limits.{endOfTime}
 use Rattle.state.specs.State.{position, velocity}
 use Rattle.state.specs.declared.Vector.{Vector}
 use Rattle.state.specs.declared.State.{State}
-use Rattle.text.specs.Numerals.{glyph, hex16, decimalOf, bitsOf, floatText}
+use Rattle.fields.specs.Patterns.{bitsOf}
+use Rattle.text.specs.Numerals.{glyph, hex16, decimalOf, floatText}
 use Rattle.text.specs.Numerals as text
 use Rattle.text.proofs.Decimal.{by-size}
 use Rattle.book.proofs.FiniteBits.{finite-bits}

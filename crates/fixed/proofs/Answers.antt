@@ -7,7 +7,8 @@ use Rattle.state.specs.declared.State.{State}
 use Rattle.state.specs.State.{finiteState}
 use Rattle.fixed.specs.declared.EarthFixed.{EarthFixed}
 use Rattle.fixed.specs.declared.FixedAnswer.the-variants.{Fixed, Refused}
-use Rattle.fixed.specs.Fixed.{rotation, turned, finiteFixed, finiteAnswer}
+use Rattle.rotation.specs.Rotation.{rotation}
+use Rattle.fixed.specs.Fixed.{turned, finiteFixed, finiteAnswer}
 
 pub refused-is : (rule dut : ℕ) (state : State) → finiteState state ≡ false → Refused 7 ≡ finiteAnswer rule dut state
 unfolding finiteAnswer

@@ -1,15 +1,15 @@
 // A state in coordinates that turn with the Earth.
 
 use hour::HourAnswer;
-use sine::SineCosine;
+use rotation::known::rate_on;
+use rotation::known::table_on;
+use rotation::known::table_times;
 use state::State;
 use state::Vector;
 ghost use mathlib.Core.Path.{_≡_};
-ghost use Prim.Native.Nat.{_≤_};
-ghost use Rattle.basis.specs.Limits.{lastDay};
 ghost use Rattle.hour.specs.declared.HourAnswer.the-variants.{Parts};
 ghost use Rattle.hour.specs.Hour.{siderealAnswer};
-ghost use Rattle.fixed.specs.Fixed.{turn, rowTimes, times, rowProduct, product, rate, rotation, turned, finiteFixed, finiteAnswer, fixedAnswer};
+ghost use Rattle.fixed.specs.Fixed.{turned, finiteFixed, finiteAnswer, fixedAnswer};
 
 // Position in km and velocity in km/s, in axes that turn with the Earth.
 pub struct EarthFixed {
@@ -24,76 +24,6 @@ pub struct EarthFixed {
 pub enum FixedAnswer {
     Fixed(EarthFixed),
     Refused(u64),
-}
-
-fn turn_table(of: SineCosine) -> [[f64; 3]; 3]
-    ensures { λ r. ⌜ r ≡ turn of ⌝ }
-{
-    [
-        [of.cosine, of.sine, 0.0],
-        [-of.sine, of.cosine, 0.0],
-        [0.0, 0.0, 1.0],
-    ]
-}
-
-fn row_times(row: [f64; 3], v: Vector) -> f64
-    ensures { λ r. ⌜ r ≡ rowTimes row v ⌝ }
-{
-    (row[0] * v.x + row[1] * v.y) + row[2] * v.z
-}
-
-pub fn table_times(table: [[f64; 3]; 3], v: Vector) -> Vector
-    ensures { λ r. ⌜ r ≡ times table v ⌝ }
-{
-    Vector {
-        x: row_times(table[0], v),
-        y: row_times(table[1], v),
-        z: row_times(table[2], v),
-    }
-}
-
-// The columns on the right, each from its top, are the vectors that the row is multiplied by.
-fn row_product(row: [f64; 3], right: [[f64; 3]; 3]) -> [f64; 3]
-    ensures { λ r. ⌜ r ≡ rowProduct row right ⌝ }
-{
-    let first = Vector {
-        x: right[0][0],
-        y: right[1][0],
-        z: right[2][0],
-    };
-    let second = Vector {
-        x: right[0][1],
-        y: right[1][1],
-        z: right[2][1],
-    };
-    let third = Vector {
-        x: right[0][2],
-        y: right[1][2],
-        z: right[2][2],
-    };
-    [
-        row_times(row, first),
-        row_times(row, second),
-        row_times(row, third),
-    ]
-}
-
-fn table_product(left: [[f64; 3]; 3], right: [[f64; 3]; 3]) -> [[f64; 3]; 3]
-    ensures { λ r. ⌜ r ≡ product left right ⌝ }
-{
-    [
-        row_product(left[0], right),
-        row_product(left[1], right),
-        row_product(left[2], right),
-    ]
-}
-
-// How fast the Earth turns on the UT day d, in radians a second.
-fn turning_rate(d: u64) -> f64
-    requires { ⌜ d ≤ lastDay ⌝ }
-    ensures { λ r. ⌜ r ≡ rate d ⌝ }
-{
-    0.00417807417 / (1.0 + 0.000000000000521 * d as f64) * 0.017453292519943295
 }
 
 fn turned_state(table: [[f64; 3]; 3], w: f64, state: State) -> EarthFixed
@@ -128,24 +58,6 @@ fn fixed_is_finite(f: EarthFixed) -> bool
         return state::vector_is_finite(velocity);
     }
     false
-}
-
-// The table that is applied to 1950.0 coordinates at a moment whose hour angle is `parts`, and the Earth's rate then: not public
-// calls, but what the crates above use too.
-pub fn table_on(rule: u64, moment: u64, dut: u32, parts: u64) -> [[f64; 3]; 3]
-    requires { ⌜ siderealAnswer rule moment dut ≡ Parts parts ⌝ }
-    ensures { λ r. ⌜ r ≡ rotation rule moment dut .table ⌝ }
-{
-    let of = sine::of_parts(parts);
-    table_product(turn_table(of), precession::known::table_at(moment))
-}
-
-pub fn rate_on(rule: u64, moment: u64, dut: u32, parts: u64) -> f64
-    requires { ⌜ siderealAnswer rule moment dut ≡ Parts parts ⌝ }
-    ensures { λ r. ⌜ r ≡ rotation rule moment dut .w ⌝ }
-{
-    let ut = moment - dut as u64;
-    turning_rate(ut / basis::DAY_LENGTH)
 }
 
 fn fixed_at(rule: u64, dut: u32, state: State, parts: u64) -> FixedAnswer

@@ -9,7 +9,7 @@ use Rattle.state.specs.State.{finiteVector, used}
 use Rattle.book.specs.Lookup.{lookup}
 use Rattle.book.specs.Series.{place, velocity}
 use Rattle.book.specs.Position.{finiteVelocity}
-use Rattle.book.specs.declared.Place.{Place}
+use Rattle.series.specs.declared.Place.{Place}
 use Rattle.book.specs.declared.Lookup.{Lookup}
 use Rattle.book.specs.declared.Lookup.the-variants.{Entry, Nothing}
 use Rattle.gravity.specs.Acceleration.{standing}

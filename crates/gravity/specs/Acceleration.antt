@@ -10,7 +10,7 @@ use Rattle.state.specs.declared.Vector.{Vector}
 use Rattle.state.specs.declared.Setting.{Setting}
 use Rattle.book.specs.Passes.{passes}
 use Rattle.book.specs.Position.{bodyAt}
-use Rattle.book.specs.declared.Place.{Place}
+use Rattle.series.specs.declared.Place.{Place}
 use Rattle.book.specs.declared.Motion.{Motion}
 use Rattle.book.specs.declared.PositionAnswer.{PositionAnswer}
 use Rattle.book.specs.declared.PositionAnswer.the-variants.{At, Refused}

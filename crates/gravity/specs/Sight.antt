@@ -11,7 +11,7 @@ use Rattle.state.specs.declared.Setting.{Setting}
 use Rattle.book.specs.Lookup.{lookup}
 use Rattle.book.specs.Series.{place, velocity}
 use Rattle.book.specs.Position.{finiteVelocity}
-use Rattle.book.specs.declared.Place.{Place}
+use Rattle.series.specs.declared.Place.{Place}
 use Rattle.book.specs.declared.Lookup.{Lookup}
 use Rattle.book.specs.declared.Lookup.the-variants.{Entry, Nothing}
 use Rattle.gravity.specs.Pull.{g, sound, divisible, minus}

@@ -2,66 +2,14 @@
 use Prim.Native.Nat.{ℕ}
 use mathlib.Core.List.{List}
 use lib.Ieee.{Float}
-use Rattle.calendar.specs.declared.DateAnswer.{DateAnswer}
-use Rattle.calendar.specs.declared.DayAnswer.{DayAnswer}
-use Rattle.calendar.specs.declared.JulianAnswer.{JulianAnswer}
-use Rattle.hour.specs.declared.HourAnswer.{HourAnswer}
-use Rattle.root.specs.declared.RootAnswer.{RootAnswer}
-use Rattle.sine.specs.declared.SineCosineAnswer.{SineCosineAnswer}
-use Rattle.book.specs.declared.PositionAnswer.{PositionAnswer}
 use Rattle.gravity.specs.declared.AccelerationAnswer.{AccelerationAnswer}
 use Rattle.motion.specs.declared.Outcome.{Outcome}
 use Rattle.motion.specs.declared.RunAnswer.{RunAnswer}
 use Rattle.fixed.specs.declared.FixedAnswer.{FixedAnswer}
 use Rattle.sphere.specs.declared.SphereAnswer.{SphereAnswer}
 use Rattle.conic.specs.declared.ConicAnswer.{ConicAnswer}
-use Rattle.link.specs.Lent.{dateIn, sineCosineIn, motionIn, vectorIn, coordinatesIn, guessesIn, fixedIn, Both, bothIn, namesIn, figuresIn}
-
--- values as they lie in memory, or document 01's number of the refusal
-pub data Answer (A : Type 0) : Type 0 where
-  Accepted : A → Answer A
-  Refused : ℕ → Answer A
-
--- what a caller has of a call: what it returned, and what the memory that it was lent to write holds afterwards
-pub record Handed (A : Type 0) : Type 0 where
-  pub returned : ℕ
-  pub memory : A
-
-abbrev pub handed : {A : Type 0} → ℕ → A → Handed A
-handed returned memory = record { returned = returned; memory = memory }
-
--- 0 and the values where it is accepted; "every refusal returns the number alone", and leaves what was there before
-abbrev pub answered : {A : Type 0} → A → Answer A → Handed A
-answered before (Accepted values) = handed 0 values
-answered before (Refused k) = handed k before
-
-abbrev pub ofDate : DateAnswer → Answer (List ℕ)
-ofDate (DateAnswer.Date date) = Accepted (dateIn date)
-ofDate (DateAnswer.Refused k) = Refused k
-
-abbrev pub ofDay : DayAnswer → Answer ℕ
-ofDay (DayAnswer.Day day) = Accepted day
-ofDay (DayAnswer.Refused k) = Refused k
-
-abbrev pub ofJulian : JulianAnswer → Answer ℕ
-ofJulian (JulianAnswer.Twice date) = Accepted date
-ofJulian (JulianAnswer.Refused k) = Refused k
-
-abbrev pub ofHour : HourAnswer → Answer ℕ
-ofHour (HourAnswer.Parts parts) = Accepted parts
-ofHour (HourAnswer.Refused k) = Refused k
-
-abbrev pub ofRoot : RootAnswer → Answer Float
-ofRoot (RootAnswer.Value x) = Accepted x
-ofRoot (RootAnswer.Refused k) = Refused k
-
-abbrev pub ofSineCosine : SineCosineAnswer → Answer (List Float)
-ofSineCosine (SineCosineAnswer.Both both) = Accepted (sineCosineIn both)
-ofSineCosine (SineCosineAnswer.Refused k) = Refused k
-
-abbrev pub ofPosition : PositionAnswer → Answer (List Float)
-ofPosition (PositionAnswer.At m) = Accepted (motionIn m)
-ofPosition (PositionAnswer.Refused k) = Refused k
+use Rattle.handed.specs.Handed.{Answer, Accepted, Refused}
+use Rattle.link.specs.Lent.{vectorIn, coordinatesIn, guessesIn, fixedIn, Both, bothIn, namesIn, figuresIn}
 
 abbrev pub ofAcceleration : AccelerationAnswer → Answer (List Float)
 ofAcceleration (AccelerationAnswer.Is a) = Accepted (vectorIn a)

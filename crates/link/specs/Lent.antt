@@ -6,12 +6,9 @@ use mathlib.Core.List.{List, [], _∷_}
 use lib.ListN.{getD}
 use lib.Ieee.{Float, nan}
 use Rattle.basis.specs.Choice.{if_then_else_, _<?_}
-use Rattle.calendar.specs.declared.Calendar.{Calendar}
-use Rattle.sine.specs.declared.SineCosine.{SineCosine}
 use Rattle.state.specs.declared.Vector.{Vector}
 use Rattle.state.specs.declared.State.{State}
 use Rattle.state.specs.declared.Setting.{Setting}
-use Rattle.book.specs.declared.Motion.{Motion}
 use Rattle.gravity.specs.declared.Guesses.{Guesses}
 use Rattle.fixed.specs.declared.EarthFixed.{EarthFixed}
 use Rattle.sphere.specs.declared.Signed.{Signed}
@@ -74,15 +71,6 @@ abbrev pub guessesOf : List ℕ → Guesses
 guessesOf g = record { moon = getD g 0 0; sun = getD g 1 0; venus = getD g 2 0; mars = getD g 3 0; jupiter = getD g 4 0 }
 
 -- written
-abbrev pub dateIn : Calendar → List ℕ
-dateIn date = date .year ∷ date .month ∷ date .day ∷ []
-
-abbrev pub sineCosineIn : SineCosine → List Float
-sineCosineIn both = both .sine ∷ both .cosine ∷ []
-
-abbrev pub motionIn : Motion → List Float
-motionIn m = m .place .x ∷ m .place .y ∷ m .place .z ∷ m .velocity .x ∷ m .velocity .y ∷ m .velocity .z ∷ []
-
 abbrev pub vectorIn : Vector → List Float
 vectorIn v = v .x ∷ v .y ∷ v .z ∷ []
 

@@ -35,10 +35,12 @@ use Rattle.sphere.specs.Sphere as sphere
 use Rattle.sphere.specs.Sphere.{anglesAllowed, sizesAllowed, injected, injectionAnswer, sphereAnswer}
 use Rattle.sphere.specs.declared.Sphere.{Sphere}
 use Rattle.sphere.specs.declared.SphereAnswer.{SphereAnswer}
-use Rattle.fixed.specs.Fixed.{afterHour, finiteFixed, finiteAnswer, fixedAnswer, turned, rotation}
+use Rattle.rotation.specs.Rotation.{rotation}
+use Rattle.fixed.specs.Fixed.{afterHour, finiteFixed, finiteAnswer, fixedAnswer, turned}
 use Rattle.conic.specs.Conic.{unfit, _before_, refusal, orbitAnswer, orbit, conicAnswer}
 use Rattle.conic.specs.declared.ConicAnswer.{ConicAnswer}
-use Rattle.link.specs.Answers.{ofDate, ofDay, ofJulian, ofHour, ofRoot, ofSineCosine, ofPosition, ofAcceleration, ofFixed, ofSphere, ofConic}
+use Rattle.almanaclink.specs.Answers.{ofDate, ofDay, ofJulian, ofHour, ofRoot, ofSineCosine, ofPosition}
+use Rattle.link.specs.Answers.{ofAcceleration, ofFixed, ofSphere, ofConic}
 use Rattle.linked.specs.Table.{tabled, told, outcomeTold}
 
 -- 0 for none, or a number of the table

@@ -19,21 +19,23 @@ use Rattle.motion.specs.Run.{runAnswer, singleStepAnswer}
 use Rattle.fixed.specs.Fixed.{fixedAnswer}
 use Rattle.sphere.specs.Sphere.{sphereAnswer}
 use Rattle.conic.specs.Conic.{conicAnswer}
+use Rattle.handed.specs.Handed.{Handed, handed, answered}
+use Rattle.almanaclink.specs.Answers.{ofDate, ofDay, ofJulian, ofHour, ofRoot, ofSineCosine, ofPosition}
 use Rattle.link.specs.Lent.{settingOf, vectorOf, stateOf, guessesOf, Both, bothIn, sphereOf}
-use Rattle.link.specs.Answers.{Handed, handed, answered, ofDate, ofDay, ofJulian, ofHour, ofRoot, ofSineCosine, ofPosition, ofAcceleration, ofFixed, ofConic, RunMemory, handedBack, ofRun, ofSphere}
-use Rattle.link.proofs.belfry_date as date
-use Rattle.link.proofs.belfry_day as day
-use Rattle.link.proofs.belfry_twice_julian_date as twice-julian-date
-use Rattle.link.proofs.belfry_hour_angle as hour-angle
-use Rattle.link.proofs.belfry_root as root
-use Rattle.link.proofs.belfry_sine_cosine as sine-cosine
-use Rattle.link.proofs.belfry_position as position
+use Rattle.link.specs.Answers.{ofAcceleration, ofFixed, ofConic, RunMemory, handedBack, ofRun, ofSphere}
+use Rattle.almanaclink.proofs.belfry_date as date
+use Rattle.almanaclink.proofs.belfry_day as day
+use Rattle.almanaclink.proofs.belfry_twice_julian_date as twice-julian-date
+use Rattle.almanaclink.proofs.belfry_hour_angle as hour-angle
+use Rattle.almanaclink.proofs.belfry_root as root
+use Rattle.almanaclink.proofs.belfry_sine_cosine as sine-cosine
+use Rattle.almanaclink.proofs.belfry_position as position
 use Rattle.link.proofs.belfry_acceleration as acceleration
 use Rattle.link.proofs.belfry_earth_fixed as earth-fixed
 use Rattle.link.proofs.belfry_from_sphere as from-sphere
-use Rattle.link.proofs.belfry_sidereal as sidereal
+use Rattle.almanaclink.proofs.belfry_sidereal as sidereal
 use Rattle.link.proofs.belfry_turn as turn
-use Rattle.link.proofs.belfry_book_passes as book-passes
+use Rattle.almanaclink.proofs.belfry_book_passes as book-passes
 use Rattle.link.proofs.belfry_run as run
 use Rattle.link.proofs.belfry_single_step as single-step
 use Rattle.link.proofs.belfry_conic as conic

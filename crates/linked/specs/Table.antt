@@ -4,7 +4,7 @@ use Prim.Native.Nat.{ℕ}
 use mathlib.Core.Bool.{Bool, true, _&&_}
 use Rattle.basis.specs.Choice.{_≤?_}
 use Rattle.motion.specs.declared.Outcome.{Outcome}
-use Rattle.link.specs.Answers.{Answer, Accepted, Refused}
+use Rattle.handed.specs.Handed.{Answer, Accepted, Refused}
 
 abbrev pub tabled : ℕ → Bool
 tabled k = 1 ≤? k && k ≤? 12

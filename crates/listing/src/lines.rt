@@ -4,9 +4,9 @@
 use motion::Outcome;
 use state::State;
 use state::Vector;
-use text::put_bytes;
-use text::put_decimal;
-use text::put_float;
+use text::known::put_bytes;
+use text::known::put_decimal;
+use text::known::put_float;
 ghost use Prim.Native.Nat.{_+_, _≤_};
 ghost use lib.ListN.{length};
 ghost use Rattle.text.specs.Written.{Wrote};

@@ -2,8 +2,8 @@
 // answer the place after it.
 
 use crate::Places;
-use text::put_bytes;
-use text::put_decimal;
+use text::known::put_bytes;
+use text::known::put_decimal;
 ghost use mathlib.Core.Path.{_≡_};
 ghost use mathlib.Core.Bool.{false};
 ghost use Prim.Native.Nat.{_+_, _*_, _^_, _≤_, _<_};

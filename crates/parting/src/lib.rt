@@ -1,7 +1,5 @@
-// Where two listings part: float steps, and the lines of the report. The writers put a text at a place of a lent buffer and
-// answer the place after it. They are inner functions: the caller knows that the room is there.
+// Where two listings part: float steps, whose state comes next, and the order of the report's parts.
 
-pub mod known;
 pub mod same;
 
 use reader::Found;

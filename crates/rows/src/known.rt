@@ -4,7 +4,7 @@ use numeral::Places;
 use numeral::known::put_numeral;
 use reader::Row;
 use stamp::known::put_stamp;
-use text::put_bytes;
+use text::known::put_bytes;
 ghost use mathlib.Core.Path.{_≡_};
 ghost use mathlib.Core.Bool.{false};
 ghost use Prim.Native.Nat.{_+_, _≤_, _<_};

@@ -3,10 +3,10 @@
 use crate::Halt;
 use crate::Portion;
 use crate::Reading;
-use parting::known::put_turn;
 use parting::side_of;
 use reader::Found;
 use reader::next_row;
+use reporting::known::put_turn;
 ghost use mathlib.Core.Bool.{true};
 ghost use mathlib.Core.Path.{_≡_};
 ghost use lib.ListN.{length};

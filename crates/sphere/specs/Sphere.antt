@@ -16,7 +16,7 @@ use Rattle.hour.specs.declared.HourAnswer.{HourAnswer}
 use Rattle.sine.specs.declared.SineCosine.{SineCosine}
 use Rattle.sine.specs.Sine.{sineCosine}
 use Rattle.precession.specs.Precession.{Table}
-use Rattle.fixed.specs.Fixed.{Rotation, rotation, times}
+use Rattle.rotation.specs.Rotation.{Rotation, rotation, times}
 use Rattle.sphere.specs.declared.Signed.{Signed}
 use Rattle.sphere.specs.declared.Sphere.{Sphere}
 use Rattle.sphere.specs.declared.SphereAnswer.{SphereAnswer}

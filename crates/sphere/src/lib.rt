@@ -86,8 +86,8 @@ fn fixed_place(s: Sphere) -> Vector
     ensures { λ r. ⌜ r ≡ placeOf s ⌝ }
 {
     let latitude = s.latitude;
-    let f = sine::of_parts(parts_of(latitude));
-    let t = sine::of_parts(s.longitude);
+    let f = sine::known::of_parts(parts_of(latitude));
+    let t = sine::known::of_parts(s.longitude);
     place_on(s.radius, f, t)
 }
 
@@ -97,10 +97,10 @@ fn fixed_velocity(s: Sphere) -> Vector
 {
     let latitude = s.latitude;
     let path = s.path;
-    let f = sine::of_parts(parts_of(latitude));
-    let t = sine::of_parts(s.longitude);
-    let g = sine::of_parts(parts_of(path));
-    let z = sine::of_parts(s.azimuth);
+    let f = sine::known::of_parts(parts_of(latitude));
+    let t = sine::known::of_parts(s.longitude);
+    let g = sine::known::of_parts(parts_of(path));
+    let z = sine::known::of_parts(s.azimuth);
     relative_velocity(f, t, horizontal_velocity(s.speed, g, z))
 }
 
@@ -108,8 +108,8 @@ fn injected_state(s: Sphere, rule: u64, moment: u64, dut: u32, parts: u64) -> St
     requires { ⌜ (siderealAnswer rule moment dut ≡ Parts parts) × (anglesAllowed s ≡ true) ⌝ }
     ensures { λ r. ⌜ r ≡ injected s rule moment dut ⌝ }
 {
-    let table = fixed::table_on(rule, moment, dut, parts);
-    let w = fixed::rate_on(rule, moment, dut, parts);
+    let table = rotation::known::table_on(rule, moment, dut, parts);
+    let w = rotation::known::rate_on(rule, moment, dut, parts);
     let place = fixed_place(s);
     let velocity = fixed_velocity(s);
     returned_state(moment, table, w, place, velocity)

@@ -1,6 +1,6 @@
 // The turns of an injection, each by itself.
 
-use fixed::table_times;
+use rotation::known::table_times;
 use sine::SineCosine;
 use state::State;
 use state::Vector;

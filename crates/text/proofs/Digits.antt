@@ -7,9 +7,10 @@ use native.Mathlib.Omega.{arith}
 use lib.Ieee.{Float}
 use lib.ListN.{length, set, length-append, length-set}
 use Rattle.text.specs.Written.{Wrote}
-use Rattle.text.specs.Numerals.{glyph, digits, bitsOf, bitsText, floatText}
-use Rattle.text.specs.declared.Bits.{Bits}
-use Rattle.text.specs.declared.Bits.the-variants.{Pattern, NaN}
+use Rattle.text.specs.Numerals.{glyph, digits, bitsText, floatText}
+use Rattle.fields.specs.Patterns.{bitsOf}
+use Rattle.fields.specs.declared.Bits.{Bits}
+use Rattle.fields.specs.declared.Bits.the-variants.{Pattern, NaN}
 use borrow.Author.Tests.{lt-ltb, le-ltb}
 use Rattle.text.proofs.Writing.{both, byte}
 use Rattle.text.proofs.Decimal.{by-size}

@@ -1,5 +1,4 @@
 pub mod Writing
 pub mod Decimal
 pub mod Digits
-pub mod Reading
 pub mod Back

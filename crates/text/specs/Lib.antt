@@ -1,3 +1,3 @@
+pub use Rattle.fields.specs.Fields
 pub mod Numerals
-pub mod Fields
 pub mod Written

@@ -1,10 +1,11 @@
 -- How numbers are written: decimal digits, and floats as "their bits as 16 lowercase hexadecimal digits".
 use Prim.Native.Nat.{ℕ, zero, suc, _+_, _/_, _%_}
 use mathlib.Core.List.{List, [], _∷_, _++_}
-use lib.Ieee.{Float, nan, inf, fin, binary64, toBits}
+use lib.Ieee.{Float}
 use Rattle.basis.specs.Choice.{if_then_else_, _<?_}
-use Rattle.text.specs.declared.Bits.{Bits}
-use Rattle.text.specs.declared.Bits.the-variants.{Pattern, NaN}
+use Rattle.fields.specs.Patterns.{bitsOf}
+use Rattle.fields.specs.declared.Bits.{Bits}
+use Rattle.fields.specs.declared.Bits.the-variants.{Pattern, NaN}
 
 -- a digit below 16 as a byte: 0 to 9, then a to f
 abbrev pub glyph : ℕ → ℕ
@@ -26,12 +27,6 @@ shortest (suc divisions) n = if n <? 10 then glyph n ∷ [] else shortest divisi
 
 unfoldable pub decimalOf : ℕ → List ℕ
 decimalOf n = shortest n n
-
--- the bits of a float; a NaN has none of its own
-abbrev pub bitsOf : Float → Bits
-bitsOf nan = NaN
-bitsOf (inf s) = Pattern (toBits binary64 (inf s))
-bitsOf (fin s m e) = Pattern (toBits binary64 (fin s m e))
 
 -- "nan" for a NaN
 abbrev pub bitsText : Bits → List ℕ

@@ -2,8 +2,8 @@
 use native.Mathlib.Omega.{arith}
 use borrow.Author.Needs.{needs}
 use mathlib.Core.Path.{sym}
-use Rattle.book.proofs.Passing.{passing, contents-inside}
-use Rattle.book.proofs.Below.{is-false}
+use Rattle.bookcheck.proofs.Passing.{passing, contents-inside}
+use Rattle.bookcheck.proofs.Below.{is-false}
 use Rattle.book.proofs.book_passes.Statement.{statement}
 use Rattle.book.proofs.book_passes.Tie as tie
 

@@ -8,10 +8,10 @@ use native.Mathlib.Nat.{le-antisymm}
 use mathlib.Core.Bool.{true}
 use mathlib.Core.Path.{_≡_, refl, sym}
 use denote.Ref.{now}
-use Rattle.book.specs.Contents.{entryCount}
+use Rattle.bookcheck.specs.Contents.{entryCount}
 use Rattle.book.specs.Calm.{calm}
-use Rattle.book.proofs.Passing.{passing, contents-inside, block-inside}
-use Rattle.book.proofs.Below.{both, is-false, clash}
+use Rattle.bookcheck.proofs.Passing.{passing, contents-inside, block-inside}
+use Rattle.bookcheck.proofs.Below.{both, is-false, clash}
 use Rattle.book.proofs.Slow.{calmBefore, calm-at}
 use Rattle.book.proofs.calm.book_calm.Statement.{statement}
 use Rattle.book.proofs.calm.book_calm.Tie as tie

@@ -5,10 +5,10 @@ use Prim.Native.Nat.{ℕ, _+_, _<_, _≤_}
 use denote.Ref.{now}
 use mathlib.Core.Path.{_≡_, sym}
 use lib.ListN.{length}
-use Rattle.book.specs.Contents.{entryCount, entryAt}
+use Rattle.bookcheck.specs.Contents.{entryCount, entryAt}
 use Rattle.book.specs.Stands.{Narrowed}
 use Rattle.book.specs.declared.search.Stand.the-variants.{Past, Before}
-use Rattle.book.proofs.Passing.{passing, contents-inside}
+use Rattle.bookcheck.proofs.Passing.{passing, contents-inside}
 use Rattle.book.proofs.Found.{found, unsearched, narrow-past, narrow-before, nothing-left}
 use Rattle.book.proofs.known.lookup_guessed.Statement.{statement}
 use Rattle.book.proofs.known.lookup_guessed.Tie as tie

@@ -1,6 +1,6 @@
 -- `book::known::place_at` meets its contract: the entry's block lies inside a book that passes. Assumes nothing.
 use mathlib.Core.Path.{_∙_}
-use Rattle.book.proofs.Turns.{place-by}
+use Rattle.series.proofs.Turns.{place-by}
 use Rattle.book.proofs.known.place_at.Statement.{statement}
 use Rattle.book.proofs.known.place_at.Tie as tie
 

@@ -6,8 +6,8 @@ use denote.Ref.{now}
 use lib.ListN.{length}
 use lib.Dec.{le→leb}
 use lib.Ieee.{inFloat}
-use Rattle.book.specs.Contents.{entryAt}
-use Rattle.book.proofs.Passing.{passing, contents-inside, block-inside}
+use Rattle.bookcheck.specs.Contents.{entryAt}
+use Rattle.bookcheck.proofs.Passing.{passing, contents-inside, block-inside}
 use Rattle.book.proofs.Found.{covering}
 use Rattle.book.proofs.known.reading_at.Statement.{statement}
 use Rattle.book.proofs.known.reading_at.Tie as tie

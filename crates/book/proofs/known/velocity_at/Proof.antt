@@ -1,6 +1,6 @@
 -- `book::known::velocity_at` meets its contract: the entry's block lies inside a book that passes. Assumes nothing.
 use mathlib.Core.Path.{_∙_}
-use Rattle.book.proofs.Slopes.{velocity-by}
+use Rattle.series.proofs.Slopes.{velocity-by}
 use Rattle.book.proofs.known.velocity_at.Statement.{statement}
 use Rattle.book.proofs.known.velocity_at.Tie as tie
 

@@ -15,8 +15,8 @@ use Rattle.numeral.proofs.known.put_places.Reads as put-places-reads
 use Rattle.numeral.proofs.known.put_sign.Reads as put-sign-reads
 use Rattle.numeral.proofs.known.unit_of.Reads as unit-of-reads
 use Rattle.numeral.proofs.known.units.Reads as units-reads
-use Rattle.text.proofs.put_bytes.Reads as put-bytes-reads
-use Rattle.text.proofs.put_decimal.Reads as put-decimal-reads
+use Rattle.text.proofs.known.put_bytes.Reads as put-bytes-reads
+use Rattle.text.proofs.known.put_decimal.Reads as put-decimal-reads
 
 unit-of-requires : tie.Need-unit-of-requires
 unit-of-requires c κs = search needs

@@ -12,7 +12,7 @@ use Rattle.rows.proofs.known.put_row.Reads as reads
 use Rattle.rows.proofs.known.put_row.Lts as lts
 use Rattle.rows.proofs.known.put_fields.Reads as put-fields-reads
 use Rattle.stamp.proofs.known.put_stamp.Reads as put-stamp-reads
-use Rattle.text.proofs.put_bytes.Reads as put-bytes-reads
+use Rattle.text.proofs.known.put_bytes.Reads as put-bytes-reads
 
 put-stamp-requires : tie.Need-put-stamp-requires
 put-stamp-requires c κs = search needs

@@ -11,8 +11,8 @@ use Rattle.tabling.proofs.known.put_refusal.Statement.{statement}
 use Rattle.tabling.proofs.known.put_refusal.Tie as tie
 use Rattle.tabling.proofs.known.put_refusal.Reads as reads
 use Rattle.tabling.proofs.known.put_refusal.Lts as lts
-use Rattle.text.proofs.put_bytes.Reads as put-bytes-reads
-use Rattle.text.proofs.put_decimal.Reads as put-decimal-reads
+use Rattle.text.proofs.known.put_bytes.Reads as put-bytes-reads
+use Rattle.text.proofs.known.put_decimal.Reads as put-decimal-reads
 
 returns : tie.Need-returns
 unfolding refusalText

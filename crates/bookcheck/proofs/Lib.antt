@@ -1,0 +1,4 @@
+pub mod FiniteBits
+pub mod Below
+pub mod Passing
+pub mod Checked

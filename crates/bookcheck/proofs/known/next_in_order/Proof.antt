@@ -1,0 +1,20 @@
+-- `bookcheck::known::next_in_order` meets its contract: the last entry has no next. Assumes nothing.
+use borrow.Author.Needs.{needs}
+use borrow.Author.Tests.{lt-ltb, le-ltb}
+use Rattle.bookcheck.proofs.known.next_in_order.Statement.{statement}
+use Rattle.bookcheck.proofs.known.next_in_order.Tie as tie
+
+add-next : tie.Need-add-next
+add-next c = search needs
+
+in-order-requires : tie.Need-in-order-requires
+in-order-requires c κs = search needs
+
+returns : tie.Need-returns
+returns c = rw (lt-ltb _ _ (c .before .if1 .taken)) (c .in-order .ensures)
+
+returns-2 : tie.Need-returns-2
+returns-2 c = rw (le-ltb _ _ (c .if1 .left))
+
+pub next-in-order-spec : {M : Type 1} → statement M
+next-in-order-spec = tie.close (tie.spec add-next in-order-requires returns returns-2)

@@ -1,0 +1,23 @@
+-- `reporting::known::put_component` meets its contract. Assumes nothing.
+use Rattle.parting.proofs.Puts.{bits-same, bits-differ}
+use borrow.Author.Needs.{needs}
+use Rattle.reporting.proofs.known.put_component.Statement.{statement}
+use Rattle.reporting.proofs.known.put_component.Tie as tie
+
+returns : tie.Need-returns
+returns c = bits-same _ _ _ _ _ _ (c .if1 .taken)
+
+steps-between-requires : tie.Need-steps-between-requires
+steps-between-requires c κs = search needs
+
+put-diff-requires : tie.Need-put-diff-requires
+put-diff-requires c κs = search needs
+
+same-length : tie.Need-same-length
+same-length c = search needs
+
+returns-2 : tie.Need-returns-2
+returns-2 c = bits-differ _ _ _ _ _ _ _ _ (c .before .before .before .before .before .if1 .left) (rw (c .before .before .before .steps-between .ensures) at (c .before .before .put-diff .ensures))
+
+pub put-component-spec : {M : Type 1} → statement M
+put-component-spec = tie.close (tie.spec returns steps-between-requires put-diff-requires same-length returns-2)

@@ -1,0 +1,22 @@
+-- `reporting::known::put_numbered` meets its contract: two texts, one after the other. Assumes nothing.
+use native.Mathlib.Omega.{arith}
+use Rattle.text.proofs.Writing.{both}
+use Rattle.text.proofs.Decimal.{decimal-fits}
+use borrow.Author.Needs.{needs}
+use Rattle.reporting.proofs.known.put_numbered.Statement.{statement}
+use Rattle.reporting.proofs.known.put_numbered.Tie as tie
+
+put-bytes-requires : tie.Need-put-bytes-requires
+put-bytes-requires c κs = search needs
+
+put-decimal-requires : tie.Need-put-decimal-requires
+put-decimal-requires c κs = omega (arith, decimal-fits (c .before .before .before .before .before .before .before .args .n) (omega arith), c .before .before .before .put-bytes .ensures .next, c .before .before .before .put-bytes .kept .0)
+
+same-length : tie.Need-same-length
+same-length c = search needs
+
+returns : tie.Need-returns
+returns c = record { wrote = both (c .before .before .before .before .before .before .put-bytes .ensures) (c .before .before .put-decimal .ensures); short = omega (arith, decimal-fits (c .before .before .before .before .before .before .before .before .before .before .args .n) (omega arith), c .before .before .before .before .before .before .put-bytes .ensures .next, c .before .before .put-decimal .ensures .next) }
+
+pub put-numbered-spec : {M : Type 1} → statement M
+put-numbered-spec = tie.close (tie.spec put-bytes-requires put-decimal-requires same-length returns)

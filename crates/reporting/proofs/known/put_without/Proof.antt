@@ -1,0 +1,28 @@
+-- `reporting::known::put_without` meets its contract. Assumes nothing.
+use Rattle.parting.specs.Report.{textOf}
+use Rattle.parting.proofs.Puts.{none}
+use borrow.Author.Needs.{needs}
+use Rattle.reporting.proofs.known.put_without.Statement.{statement}
+use Rattle.reporting.proofs.known.put_without.Tie as tie
+
+enum-known-second : tie.Need-enum-known-second
+enum-known-second c = search needs
+
+put-only-requires : tie.Need-put-only-requires
+put-only-requires c κs = search needs
+
+enum-told : tie.Need-enum-told
+enum-told c = search needs
+
+same-length : tie.Need-same-length
+same-length c = search needs
+
+returns : tie.Need-returns
+returns c = rw (c .before .before .before .before .before .second .given .1) (c .before .before .put-only .ensures)
+
+returns-2 : tie.Need-returns-2
+unfolding textOf
+returns-2 c = rw (c .enum-told .given .1) (none _ _ 300)
+
+pub put-without-spec : {M : Type 1} → statement M
+put-without-spec = tie.close (tie.spec enum-known-second put-only-requires enum-told same-length returns returns-2)

@@ -1,0 +1,3 @@
+// How the Earth stands at a moment, and how fast it turns.
+
+pub mod known;

@@ -1,0 +1,3 @@
+pub mod Numerator
+pub mod Turns
+pub mod Slopes

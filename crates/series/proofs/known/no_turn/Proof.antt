@@ -1,0 +1,10 @@
+-- `series::known::no_turn` meets its contract. Assumes nothing.
+use mathlib.Core.Path.{refl}
+use Rattle.series.proofs.known.no_turn.Statement.{statement}
+use Rattle.series.proofs.known.no_turn.Tie as tie
+
+returns : tie.Need-returns
+returns c = refl
+
+pub no-turn-spec : {M : Type 1} → statement M
+no-turn-spec = tie.close (tie.spec returns)

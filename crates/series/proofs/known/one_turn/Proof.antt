@@ -1,0 +1,10 @@
+-- `series::known::one_turn` meets its contract. Assumes nothing.
+use mathlib.Core.Path.{refl}
+use Rattle.series.proofs.known.one_turn.Statement.{statement}
+use Rattle.series.proofs.known.one_turn.Tie as tie
+
+returns : tie.Need-returns
+returns c = refl
+
+pub one-turn-spec : {M : Type 1} → statement M
+one-turn-spec = tie.close (tie.spec returns)

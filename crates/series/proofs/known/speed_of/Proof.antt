@@ -1,0 +1,12 @@
+-- `series::known::speed_of` meets its contract. Assumes nothing.
+use mathlib.Core.Path.{refl}
+use lib.Ieee.{ofBits, ofInt, round}
+use Rattle.series.proofs.known.speed_of.Statement.{statement}
+use Rattle.series.proofs.known.speed_of.Tie as tie
+
+returns : tie.Need-returns
+unfolding ofBits ofInt round
+returns c = refl
+
+pub speed-of-spec : {M : Type 1} → statement M
+speed-of-spec = tie.close (tie.spec returns)
