@@ -1,5 +1,5 @@
 #!/bin/sh
-# Builds the three archives of the exported calls and the two examples over them, and compares what they print with document 01's
+# Builds the four archives of the exported calls and the two examples over them, and compares what they print with document 01's
 # figures; then every call with the Rust reference, on inputs from a seed. One line for each check; ends with 1 if one failed.
 #
 # The archives are for x86-64. On another machine, or with LINK_NATIVE=1, the modules that they are made of are compiled for this
@@ -29,13 +29,13 @@ native_archive() { # NAME
 }
 
 c_example() {
-    cc -std=c99 -Wall -Wextra -Werror -O2 -Icrates/link -o "$work/c-link" examples/c-link/main.c "$archive/liblink.a" "$archive/libalmanaclink.a" "$archive/libmendlink.a" &&
-        "$work/c-link" >"$work/c-link.out" && diff examples/link.expected "$work/c-link.out"
+    cc -std=c99 -Wall -Wextra -Werror -O2 -Icrates/link -o "$work/c-link" examples/c-link/main.c "$archive/liblink.a" "$archive/libcentrelink.a" "$archive/libalmanaclink.a" "$archive/libmendlink.a" &&
+        "$work/c-link" data/books/book30.bin >"$work/c-link.out" && diff examples/link.expected "$work/c-link.out"
 }
 
 rust_example() {
     BELFRYWOOL_LIB=$archive cargo build --release -j1 --manifest-path examples/rust-link/Cargo.toml --target-dir "$work/rust-link" &&
-        "$work/rust-link/release/belfrywool" >"$work/rust-link.out" && diff examples/link.expected "$work/rust-link.out"
+        "$work/rust-link/release/belfrywool" data/books/book30.bin >"$work/rust-link.out" && diff examples/link.expected "$work/rust-link.out"
 }
 
 same_as_reference() {
@@ -45,12 +45,14 @@ same_as_reference() {
 if [ "$machine" = x86_64 ] && [ -z "${LINK_NATIVE:-}" ]; then
     archive=$PWD/target/staticlib
     check archive rt staticlib link
+    check archive-about-a-centre rt staticlib centrelink
     check archive-without-state rt staticlib almanaclink
     check archive-of-repair rt staticlib mendlink
 else
     echo "this machine is $machine: the archives' modules are compiled for it"
     archive=$work
     check archive native_archive link
+    check archive-about-a-centre native_archive centrelink
     check archive-without-state native_archive almanaclink
     check archive-of-repair native_archive mendlink
 fi

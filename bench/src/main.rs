@@ -1,7 +1,8 @@
 //! `bench BOOK ORDER [TIMES]`: the proved calls beside the Rust reference, in one process. The
 //! flight is the order's state with the Earth, the Moon and the Sun for thirty days at one-minute
-//! steps. Answers are compared bit by bit first. Each pair is then timed TIMES times, one after the
-//! other in turn, and the least time of each is printed, with the first over the second.
+//! steps, and a second one is an orbit about the Moon for as long. Answers are compared bit by bit
+//! first. Each pair is then timed TIMES times, one after the other in turn, and the least time of
+//! each is printed, with the first over the second.
 
 use std::hint::black_box;
 use std::process::ExitCode;
@@ -14,31 +15,35 @@ const H: u32 = 60_000;
 const STEPS: u32 = 30 * 24 * 60;
 const MOON: u64 = 2;
 
-/// The thirty days from a state, on a book.
-struct Flight {
-    book: Vec<u8>,
+/// A proved call that walks: `belfrywool::run`, about the Earth, or `belfrywool::fly`.
+type Walk = fn(
+    &[u8], &belfrywool::Setting, &belfrywool::State, u32, u64, u32, &[u64; 5],
+) -> belfrywool::Ran;
+
+/// The thirty days from a state, on a book, and the call that is measured.
+struct Flight<'a> {
+    book: &'a [u8],
     setting: Setting,
     start: State,
+    walk: Walk,
 }
 
-impl Flight {
+impl Flight<'_> {
     fn target(&self) -> u64 {
         self.start.moment + u64::from(H) * u64::from(STEPS)
     }
 
     fn by_reference(&self) -> Ran {
-        let book = black_box(&self.book);
+        let book = black_box(self.book);
         run(book, &self.setting, &self.start, H, self.target(), u32::MAX, [0; 5])
     }
 
     fn by_proved(&self) -> belfrywool::Ran {
-        let Setting { coefficients, dut, .. } = self.setting;
-        let setting = belfrywool::Setting { coefficients, dut };
-        let ([x, y, z], [vx, vy, vz]) = (self.start.position, self.start.velocity);
-        let moment = self.start.moment;
-        let state = belfrywool::State { moment, coordinates: [x, y, z, vx, vy, vz] };
-        let book = black_box(&self.book);
-        belfrywool::run(book, &setting, &state, H, self.target(), u32::MAX, &[0; 5])
+        let Setting { coefficients, dut, rule } = self.setting;
+        let setting = belfrywool::Setting { coefficients, dut, rule };
+        let State { moment, centre, position: [x, y, z], velocity: [vx, vy, vz] } = self.start;
+        let state = belfrywool::State { moment, centre, coordinates: [x, y, z, vx, vy, vz] };
+        (self.walk)(black_box(self.book), &setting, &state, H, self.target(), u32::MAX, &[0; 5])
     }
 
     fn same(&self) -> bool {
@@ -48,10 +53,26 @@ impl Flight {
         ran.outcome == Outcome::Arrived
             && outcome == belfrywool::Outcome::Arrived
             && (ran.steps, STEPS) == (u64::from(steps), steps)
-            && ran.state.moment == state.moment
+            && (ran.state.moment, ran.state.centre) == (state.moment, state.centre)
             && reached.eq(state.coordinates.iter().map(|x| x.to_bits()))
             && ran.guesses == guesses
     }
+
+    /// The two walks compared, then timed.
+    fn timed(&self, name: &str, times: u32) -> Result<(), String> {
+        if !self.same() {
+            return Err(format!("{name}: the two walks differ, or do not arrive"));
+        }
+        println!("{name}: {STEPS} steps, arrived, the same bits");
+        told(name, least(times, 1, || took(self.by_proved()), || took(self.by_reference())));
+        Ok(())
+    }
+}
+
+/// An orbit about the Moon at 5,000 km, at the order's moment.
+fn about_the_moon(order: &State, setting: &Setting) -> State {
+    let (r, m) = (5000.0, setting.coefficients[MOON as usize - 1]);
+    State { moment: order.moment, centre: MOON, position: [r, 0.0, 0.0], velocity: [0.0, (m / r).sqrt(), 0.0] }
 }
 
 /// Nanoseconds of one turn, the least of so many times; `first` and `second` in turn.
@@ -136,13 +157,13 @@ fn bench(words: &[String]) -> Result<(), String> {
     let order = read_order(&read(order)?).ok_or("the order is too short")?;
     let [earth, moon, sun, ..] = order.setting.coefficients;
     let setting = Setting { coefficients: [earth, moon, sun, 0.0, 0.0, 0.0], dut: order.setting.dut, rule: 0 };
-    let flight = Flight { book: read(book)?, setting, start: order.state };
-    if !flight.same() {
-        return Err("the two walks differ, or do not arrive".to_string());
-    }
-    println!("{STEPS} steps: arrived, the same bits");
-    told("thirty days", least(times, 1, || took(flight.by_proved()), || took(flight.by_reference())));
-    books(times, &flight.book, flight.target());
+    let book = read(book)?;
+    let flight = Flight { book: &book, setting, start: order.state, walk: belfrywool::run };
+    flight.timed("thirty days", times)?;
+    let moon = about_the_moon(&order.state, &setting);
+    let flight = Flight { start: moon, walk: belfrywool::fly, ..flight };
+    flight.timed("thirty days about the Moon", times)?;
+    books(times, &book, flight.target());
     roots(times);
     angles(times);
     Ok(())

@@ -4,15 +4,16 @@
 use belfrywool as proved;
 use reference::hour::CIRCLE;
 use reference::sphere::QUARTER;
+use reference::trial::centres::{centred, some_centre};
 use reference::trial::chance::Chance;
 use reference::trial::floats::{flight, one_not_finite, wild};
 use reference::trial::mends::made;
 use reference::trial::plan::worlds;
 use reference::trial::runs::RUN;
 use reference::trial::times::{bad_dut, bad_moment, hard_ut, moment_dut, some_rule};
-use reference::trial::trip::Trip;
+use reference::trial::trip::{bad_centre, Trip};
 use reference::trial::world::World;
-use reference::{book, calendar, conic, fixed, hour, motion, repair, root, sine, sphere};
+use reference::{book, calendar, conic, fixed, hour, motion, moves, repair, root, sine, sphere};
 
 const TIMES: usize = 20_000;
 
@@ -75,28 +76,45 @@ fn some_state(c: &mut Chance) -> [f64; 6] {
     make(c)
 }
 
+/// A conic as both versions tell it: the centre, the kind and the figures.
+type Figured = Result<(u64, u64, [u64; 5]), u64>;
+
+fn figured(x: Result<conic::Conic, u64>) -> Figured {
+    x.map(|x| match x.kind {
+        conic::Kind::Ellipse { a, e, p, q, far } => (x.centre, 0, bits([a, e, p, q, far])),
+        conic::Kind::Hyperbola { a, e, p, q, v } => (x.centre, 1, bits([a, e, p, q, v])),
+    })
+}
+
+fn proved_figured(x: Result<(u64, proved::Conic), u64>) -> Figured {
+    x.map(|(centre, kind)| match kind {
+        proved::Conic::Ellipse(figures) => (centre, 0, bits(figures)),
+        proved::Conic::Hyperbola(figures) => (centre, 1, bits(figures)),
+    })
+}
+
+/// The same state for the one and for the other.
+fn both(moment: u64, centre: u64, coordinates: [f64; 6]) -> (proved::State, motion::State) {
+    let (position, velocity) = halves(coordinates);
+    (proved::State { moment, centre, coordinates }, motion::State { moment, centre, position, velocity })
+}
+
 #[test]
 fn states() {
     let mut c = Chance::new(2);
     for _ in 0..TIMES {
         let (moment, dut) = moment_dut(&mut c);
         let coordinates = some_state(&mut c);
-        let (p, v) = halves(coordinates);
-        let state = proved::State { moment, coordinates };
-        let turned = |rule| fixed::earth_fixed(rule, dut, moment, p, v).map(|(p, v)| bits(joined(p, v)));
-        assert_eq!(proved::earth_fixed(&state, dut).map(bits), turned(0));
-        let rule = some_rule(&mut c);
-        assert_eq!(proved::turn(rule, dut, &state).map(bits), turned(rule));
+        let (own, other) = both(moment, 1, coordinates);
+        let turned = |rule, s: &motion::State| fixed::earth_fixed(rule, dut, s).map(|(p, v)| bits(joined(p, v)));
+        assert_eq!(proved::earth_fixed(&own, dut).map(bits), turned(0, &other));
         let m = if c.one_in(8) { c.any_bits() } else { c.sized(-2, 20).abs() };
-        let expected = conic::conic(m, p, v).map(|x| match x.kind {
-            conic::Kind::Ellipse { a, e, p, q, far } => (x.centre, 0, bits([a, e, p, q, far])),
-            conic::Kind::Hyperbola { a, e, p, q, v } => (x.centre, 1, bits([a, e, p, q, v])),
-        });
-        let got = proved::conic(m, &state).map(|(centre, kind)| match kind {
-            proved::Conic::Ellipse(figures) => (centre, 0, bits(figures)),
-            proved::Conic::Hyperbola(figures) => (centre, 1, bits(figures)),
-        });
-        assert_eq!(got, expected);
+        assert_eq!(proved_figured(proved::conic(m, &own)), figured(conic::conic(m, &other)));
+        let centre = c.pick(&[1, 1, c.clone().between(1, 6), bad_centre(&mut c.clone())]);
+        let (own, other) = both(moment, centre, coordinates);
+        let rule = some_rule(&mut c);
+        assert_eq!(proved::turn(rule, dut, &own).map(bits), turned(rule, &other));
+        assert_eq!(proved_figured(proved::orbit(m, &own)), figured(conic::conic(m, &other)));
     }
 }
 
@@ -144,15 +162,7 @@ fn back(ran: &motion::Ran) -> Back {
     (number, ran.steps as u32, ran.state.moment, coordinates, ran.guesses)
 }
 
-fn proved_back(book: &[u8], t: &Trip, single: bool) -> Back {
-    let setting = proved::Setting { coefficients: t.setting.coefficients, dut: t.setting.dut };
-    let coordinates = joined(t.state.position, t.state.velocity);
-    let state = proved::State { moment: t.state.moment, coordinates };
-    let ran = if single {
-        proved::single_step(book, &setting, &state, t.h, &t.guesses)
-    } else {
-        proved::run(book, &setting, &state, t.h, t.target, t.budget, &t.guesses)
-    };
+fn proved_back(ran: &proved::Ran) -> Back {
     let number = match ran.outcome {
         proved::Outcome::Arrived => Some(0),
         proved::Outcome::Going => None,
@@ -161,19 +171,44 @@ fn proved_back(book: &[u8], t: &Trip, single: bool) -> Back {
     (number, ran.steps, ran.state.moment, bits(ran.state.coordinates), ran.guesses)
 }
 
+/// Setting and state of a trip for the proved calls.
+fn given(t: &Trip) -> (proved::Setting, proved::State) {
+    let motion::Setting { coefficients, dut, rule } = t.setting;
+    let (state, _) = both(t.state.moment, t.state.centre, joined(t.state.position, t.state.velocity));
+    (proved::Setting { coefficients, dut, rule }, state)
+}
+
+/// The calls about the Earth.
 fn on_a_book(c: &mut Chance, w: &World, t: &Trip) {
-    let book = w.bytes();
+    let (book, what) = (w.bytes(), format!("{} {}", w.name, t.run_line()));
+    let (setting, state) = given(t);
     assert_eq!(proved::book_passes(book), book::check(book), "{}", w.name);
-    assert_eq!(proved_back(book, t, false), back(&t.run(book)), "{} {}", w.name, t.line());
+    let ran = proved::run(book, &setting, &state, t.h, t.target, t.budget, &t.guesses);
+    assert_eq!(proved_back(&ran), back(&t.run(book)), "{what}");
+    let ran = proved::single_step(book, &setting, &state, t.h, &t.guesses);
     let single = motion::single(book, &t.setting, &t.state, t.h, t.guesses);
-    assert_eq!(proved_back(book, t, true), back(&single), "{} {}", w.name, t.line());
+    assert_eq!(proved_back(&ran), back(&single), "{what}");
     let (body, moment) = (c.below(9), t.state.moment);
     let found = book::body(book, body, moment).map(|m| bits(m.six()));
     assert_eq!(proved::position(book, body, moment).map(bits), found, "{}", w.name);
-    let setting = proved::Setting { coefficients: t.setting.coefficients, dut: t.setting.dut };
-    let expected = motion::acceleration(book, &t.setting, moment, t.state.position).map(bits);
+    let expected = motion::acceleration(book, &t.setting, moment, 1, t.state.position).map(bits);
     let got = proved::acceleration(book, &setting, moment, &t.state.position).map(bits);
-    assert_eq!(got, expected, "{} {}", w.name, t.line());
+    assert_eq!(got, expected, "{what}");
+}
+
+/// The calls about any centre, and moves from it.
+fn about_a_centre(c: &mut Chance, w: &World, t: &Trip) {
+    let (book, what) = (w.bytes(), format!("{} {}", w.name, t.fly_line()));
+    let (setting, state) = given(t);
+    let ran = proved::fly(book, &setting, &state, t.h, t.target, t.budget, &t.guesses);
+    assert_eq!(proved_back(&ran), back(&t.run(book)), "{what}");
+    let (moment, centre, position) = (t.state.moment, t.state.centre, t.state.position);
+    let expected = motion::acceleration(book, &t.setting, moment, centre, position).map(bits);
+    assert_eq!(proved::pull(book, &setting, moment, centre, &position).map(bits), expected, "{what}");
+    let new = if c.one_in(6) { centre } else { some_centre(c, &t.setting) };
+    let expected = moves::moved(book, &t.setting, &t.state, new).map(|s| bits(joined(s.position, s.velocity)));
+    let got = proved::moved(book, &setting, &state, new).map(|s| bits(s.coordinates));
+    assert_eq!(got, expected, "to {new}, {what}");
 }
 
 #[test]
@@ -183,7 +218,9 @@ fn books_and_runs() {
     for w in worlds(&mut c, &[]).iter() {
         for (_, make) in RUN.iter().cycle().take(400) {
             for (_, t) in make(&mut c, w) {
-                on_a_book(&mut c, w, &t.shortened(w.bytes(), 100));
+                on_a_book(&mut c, w, &t.clone().shortened(w.bytes(), 100));
+                let t = centred(&mut c, t).shortened(w.bytes(), 100);
+                about_a_centre(&mut c, w, &t);
                 compared += 1;
             }
         }

@@ -1,6 +1,6 @@
 /* Belfrywool for C: link with the archives that `rt staticlib NAME` writes to target/staticlib, libNAME.a, in any order:
-   `almanaclink` has the calls that take no state (belfry_date to belfry_position), `mendlink` has belfry_repair, and `link` has
-   all others. A program that uses the calls of one of them alone needs no other.
+   `almanaclink` has the calls that take no state (belfry_date to belfry_position), `mendlink` has belfry_repair, `centrelink` has
+   the calls about any centre (belfry_pull to belfry_orbit), and `link` has all others. A program that uses the calls of one of them alone needs no other.
 
    Each call returns BELFRY_ACCEPTED, or the number of a refusal. Outside a run a refused call leaves all lent
    memory as it was. No call keeps a pointer, allocates, or reads or writes anything but what it is lent.
@@ -10,7 +10,8 @@
 
    Moments are milliseconds of ephemeris time since 0h 1950 January 1. DUT is ephemeris time less UT, in milliseconds.
    A setting is the gravitational coefficients of the bodies 1 to 6 (Earth, Moon, Sun, Venus, Mars, Jupiter) in km^3/s^2, and DUT.
-   A state is a moment and six coordinates: x, y, z in km, then their rates in km/s. */
+   A state is a moment and six coordinates: x, y, z in km, then their rates in km/s, from a centre, the number of a body. Calls
+   that take no centre are about the Earth; calls that take no rule go by rule 0. */
 #ifndef BELFRYWOOL_H
 #define BELFRYWOOL_H
 
@@ -38,6 +39,7 @@ enum {
     BELFRY_STRAIGHT = 10,    /* n(C) is zero: the conic is a straight line */
     BELFRY_ROOT = 11,        /* root of a negative or non-finite number */
     BELFRY_ANGLE = 12,       /* an angle of a circle or more */
+    BELFRY_CENTRE = 14,      /* no body of that number, or one that the setting does not use; Earth-fixed: not the Earth */
     BELFRY_SHORT = 16        /* a repair's input or output of fewer than 8 bytes */
 };
 
@@ -112,9 +114,6 @@ uint64_t belfry_single_step(const uint8_t *book, size_t length, const double coe
 /* turned: the state's six coordinates in axes that turn with the Earth. */
 uint64_t belfry_earth_fixed(uint64_t moment, const double coordinates[6], uint32_t dut, double turned[6]);
 
-/* turned: the same by a rule of the hour angle, as belfry_sidereal takes it. */
-uint64_t belfry_turn(uint64_t rule, uint32_t dut, uint64_t moment, const double coordinates[6], double turned[6]);
-
 /* An injection as launch crews speak it, Earth-fixed, to a state's six coordinates in 1950.0 axes at the moment. sizes: radius
    in km and speed in km/s. angles, in parts of 10^-10 degree: latitude and path angle from -90 to 90 degrees, longitude
    (eastward) and azimuth (from the north) within one circle; in the order latitude, longitude, path angle, azimuth. rule: as belfry_sidereal
@@ -125,6 +124,33 @@ uint64_t belfry_from_sphere(uint64_t rule, uint64_t moment, uint32_t dut, const 
 /* The conic of a state about a centre of coefficient m. names: the number of the centre, and the kind.
    figures: a, e, p, q, and the far distance of an ellipse or the root of c3 of a hyperbola. */
 uint64_t belfry_conic(double m, uint64_t moment, const double coordinates[6], uint64_t names[2], double figures[5]);
+
+/* The calls about a centre, 1 to 6, under the whole setting: rule is the rule of the hour angle, as belfry_sidereal takes it. A
+   centre has to be a body whose coefficient is above 0, else BELFRY_CENTRE. */
+
+/* acceleration: as belfry_acceleration, of a craft at a position from the centre. */
+uint64_t belfry_pull(const uint8_t *book, size_t length, const double coefficients[6], uint32_t dut, uint64_t rule,
+                     uint64_t moment, uint64_t centre, const double position[3], double acceleration[3]);
+
+/* moved: the same craft about the centre `target_centre`: its coordinates less those of that centre, seen from the one that it
+   has. The moment stays. */
+uint64_t belfry_move(const uint8_t *book, size_t length, const double coefficients[6], uint32_t dut, uint64_t rule,
+                     uint64_t moment, uint64_t centre, const double coordinates[6], uint64_t target_centre,
+                     double moved[6]);
+
+/* As belfry_run, about the centre. The state that it writes is about the same one. */
+uint64_t belfry_fly(const uint8_t *book, size_t length, const double coefficients[6], uint32_t dut, uint64_t rule,
+                    uint64_t moment, uint64_t centre, const double coordinates[6], uint32_t h, uint64_t target,
+                    uint32_t budget, const uint64_t guesses[5], uint64_t *reached, double there[6],
+                    uint64_t entries[5], uint32_t *steps);
+
+/* turned: as belfry_earth_fixed, by the rule. A state about another centre than the Earth is BELFRY_CENTRE. */
+uint64_t belfry_turn(uint64_t rule, uint32_t dut, uint64_t moment, uint64_t centre, const double coordinates[6],
+                     double turned[6]);
+
+/* As belfry_conic, with the state's centre as the first name. */
+uint64_t belfry_orbit(double m, uint64_t moment, uint64_t centre, const double coordinates[6], uint64_t names[2],
+                      double figures[5]);
 
 #ifdef __cplusplus
 }

@@ -1,9 +1,12 @@
-/* Document 01's figures by the calls of belfrywool.h. Numbers that are no whole ones are printed as their bits. */
+/* c-link BOOK: document 01's figures by the calls of belfrywool.h, and a flight to the Moon of the book. Numbers that are no whole
+   ones are printed as their bits. */
 #include <inttypes.h>
 #include <stdio.h>
 #include <string.h>
 
 #include "belfrywool.h"
+
+enum { EARTH = 1, MOON = 2, MARS = 5 };
 
 static void floats(const double *x, int count) {
     for (int i = 0; i < count; i++) {
@@ -170,6 +173,16 @@ static void runs(void) {
     printf("a day's step, %s: steps %" PRIu32 ", moment %" PRIu64 "\n", number ? "going" : "arrived", steps, next.moment);
 }
 
+/* The centre, the kind and the figures of a conic, or its refusal. */
+static void conic_told(uint64_t number, const uint64_t names[2], const double figures[5]) {
+    if (number) {
+        refused(number);
+        return;
+    }
+    printf(" centre %" PRIu64 ", %s", names[0], names[1] == BELFRY_ELLIPSE ? "ellipse" : "hyperbola");
+    floats(figures, 5);
+}
+
 static void states(void) {
     const double velocities[4][2] = {{0, 2}, {0, 4}, {2, 2}, {2, 0}};
     double coordinates[6] = {2}, turned[6], figures[5];
@@ -179,12 +192,7 @@ static void states(void) {
         coordinates[4] = velocities[i][1];
         uint64_t number = belfry_conic(8, 0, coordinates, names, figures);
         printf("conic:");
-        if (number) {
-            refused(number);
-            continue;
-        }
-        printf(" centre %" PRIu64 ", %s", names[0], names[1] == BELFRY_ELLIPSE ? "ellipse" : "hyperbola");
-        floats(figures, 5);
+        conic_told(number, names, figures);
     }
     printf("Earth-fixed below 0h UT:");
     refused(belfry_earth_fixed(0, coordinates, 1, turned));
@@ -194,7 +202,7 @@ static void states(void) {
     belfry_earth_fixed(0, coordinates, 0, turned);
     printf("Earth-fixed, 3 km up the axis:");
     floats(turned + 2, 1);
-    belfry_turn(1, 0, 0, coordinates, turned);
+    belfry_turn(1, 0, 0, EARTH, coordinates, turned);
     printf("the same by the 1982 rule:");
     floats(turned + 2, 1);
 }
@@ -219,7 +227,71 @@ static void launch(void) {
     refused(belfry_from_sphere(0, moment, 35000, sizes, angles, coordinates));
 }
 
-int main(void) {
+static const uint64_t minute = 60000, hour = 3600000;
+
+/* The book of the flight below. */
+static uint8_t lent[61440];
+static size_t lent_length;
+
+static double length(const double v[3]) {
+    double value = 0;
+    belfry_root((v[0] * v[0] + v[1] * v[1]) + v[2] * v[2], &value);
+    return value;
+}
+
+/* How far from its centre a state is, in km, and how fast it goes, in km/s. */
+static void told_from(const char *what, uint32_t steps, uint64_t centre, const double coordinates[6]) {
+    printf("%s, steps %" PRIu32 ": %.3f km from centre %" PRIu64 ", %.6f km/s\n", what, steps, length(coordinates), centre,
+           length(coordinates + 3));
+}
+
+static const double three[6] = {398600.63, 4902.6293, 132714110000};
+
+/* One call about a centre, to the target. */
+static uint32_t flown(struct place *now, uint64_t centre, uint64_t target) {
+    struct place next;
+    uint32_t steps;
+    belfry_fly(lent, lent_length, three, 35000, 0, now->moment, centre, now->coordinates, (uint32_t)minute, target, UINT32_MAX,
+               now->guesses, &next.moment, next.coordinates, next.guesses, &steps);
+    *now = next;
+    return steps;
+}
+
+/* JPL's check case 1 under the Moon and the Sun: 58 hours about the Earth, a move to the Moon, four hours about it. */
+static void to_the_moon(void) {
+    struct place now = {UINT64_C(411331356297), {5936.9501, 2718.6042, -728.83219, -4.2284408, 8.5267773, -5.4530145}, {0}};
+    const uint64_t reached = now.moment + 58 * hour;
+    double moon[6], turned[6], acceleration[3], figures[5];
+    uint64_t names[2], number;
+    uint32_t steps = flown(&now, EARTH, reached);
+    told_from("toward the Moon", steps, EARTH, now.coordinates);
+    belfry_move(lent, lent_length, three, 35000, 0, now.moment, EARTH, now.coordinates, MOON, moon);
+    memcpy(now.coordinates, moon, sizeof moon);
+    told_from("moved to the Moon", 0, MOON, now.coordinates);
+    printf("turned about the Moon:");
+    refused(belfry_turn(0, 35000, now.moment, MOON, now.coordinates, turned));
+    printf("moved to Mars, which is not used:");
+    refused(belfry_move(lent, lent_length, three, 35000, 0, now.moment, MOON, now.coordinates, MARS, moon));
+    steps = flown(&now, MOON, reached + 4 * hour);
+    told_from("four hours on", steps, MOON, now.coordinates);
+    printf("there:");
+    floats(now.coordinates, 6);
+    belfry_pull(lent, lent_length, three, 35000, 0, now.moment, MOON, now.coordinates, acceleration);
+    printf("its acceleration:");
+    floats(acceleration, 3);
+    number = belfry_orbit(three[1], now.moment, MOON, now.coordinates, names, figures);
+    printf("its orbit:");
+    conic_told(number, names, figures);
+}
+
+int main(int count, char **words) {
+    FILE *file = count == 2 ? fopen(words[1], "rb") : NULL;
+    if (!file) {
+        fprintf(stderr, "c-link BOOK\n");
+        return 2;
+    }
+    lent_length = fread(lent, 1, sizeof lent, file);
+    fclose(file);
     calendar();
     angles();
     positions();
@@ -228,5 +300,6 @@ int main(void) {
     runs();
     states();
     launch();
+    to_the_moon();
     return 0;
 }

@@ -1,7 +1,8 @@
 //! Conic figures.
 
+use crate::motion::{State, CENTRES};
 use crate::root::root;
-use crate::vector::{cross, finite, n, Vector};
+use crate::vector::{cross, n};
 
 #[derive(Clone, Copy, Debug, PartialEq)]
 pub enum Kind {
@@ -33,14 +34,16 @@ pub fn not_zero(x: f64, number: u64) -> Result<f64, u64> {
     Ok(x)
 }
 
-/// The conic call for centre coefficient m.
-pub fn conic(m: f64, position: Vector, velocity: Vector) -> Result<Conic, u64> {
+/// The conic call for centre coefficient m: 4, 14 (a centre outside 1 to 6), 7, and then figure by figure.
+pub fn conic(m: f64, s: &State) -> Result<Conic, u64> {
     if !m.is_finite() || m <= 0.0 {
         return Err(4);
     }
-    if !finite(position) || !finite(velocity) {
-        return Err(7);
+    if !CENTRES.contains(&s.centre) {
+        return Err(14);
     }
+    s.finite()?;
+    let State { centre, position, velocity, .. } = *s;
     let r = root(not_zero(n(position), 7)?)?;
     let v2 = figure(n(velocity))?;
     let c3 = not_zero(v2 - (2.0 * m) / r, 9)?;
@@ -55,5 +58,5 @@ pub fn conic(m: f64, position: Vector, velocity: Vector) -> Result<Conic, u64> {
     } else {
         Kind::Hyperbola { a, e, p, q, v: figure(root(c3)?)? }
     };
-    Ok(Conic { centre: 1, kind })
+    Ok(Conic { centre, kind })
 }

@@ -1,6 +1,7 @@
 //! The Earth-fixed turn: precession from 1950.0 to the mean equator of date, then the turn.
 
-use crate::hour::{sidereal, universal, DAY};
+use crate::hour::{allowed, sidereal, universal, DAY};
+use crate::motion::{State, EARTH};
 use crate::sine::{sine_cosine, C};
 use crate::vector::{finite, Vector};
 
@@ -45,19 +46,19 @@ pub fn rate(day: u64) -> f64 {
     (0.00417807417 / (1.0 + 0.000000000000521 * day as f64)) * C
 }
 
-/// The Earth-fixed call: 4 (DUT, rule), 3, 7 (state, then result).
-pub fn earth_fixed(
-    rule: u64, dut: u32, moment: u64, position: Vector, velocity: Vector,
-) -> Result<(Vector, Vector), u64> {
-    let angle = sidereal(rule, moment, dut)?;
-    let ut = universal(moment, dut)?;
-    if !finite(position) || !finite(velocity) {
-        return Err(7);
+/// The Earth-fixed call: 4 (DUT, rule), 14 (a centre other than the Earth), 3, 7 (state, then result).
+pub fn earth_fixed(rule: u64, dut: u32, s: &State) -> Result<(Vector, Vector), u64> {
+    allowed(rule, dut)?;
+    if s.centre != EARTH {
+        return Err(14);
     }
+    let angle = sidereal(rule, s.moment, dut)?;
+    let ut = universal(s.moment, dut)?;
+    s.finite()?;
     let (sine, cosine) = sine_cosine(angle)?;
-    let rows = product(turn(sine, cosine), precession(moment));
-    let p = turned(rows, position);
-    let mut v = turned(rows, velocity);
+    let rows = product(turn(sine, cosine), precession(s.moment));
+    let p = turned(rows, s.position);
+    let mut v = turned(rows, s.velocity);
     let w = rate(ut / DAY);
     v[0] += w * p[1];
     v[1] -= w * p[0];

@@ -12,11 +12,17 @@ pub const CIRCLE: u64 = 3_600_000_000_000;
 /// The rules are 0 and 1.
 pub const LAST_RULE: u64 = 1;
 
-/// Universal time of a moment: 4 for DUT, 3 for the moment or a UT below 0.
-pub fn universal(moment: u64, dut: u32) -> Result<u64, u64> {
-    if dut > DUT_MOST {
+/// DUT and rule as a setting may have them; else 4.
+pub fn allowed(rule: u64, dut: u32) -> Result<(), u64> {
+    if dut > DUT_MOST || rule > LAST_RULE {
         return Err(4);
     }
+    Ok(())
+}
+
+/// Universal time of a moment: 4 for DUT, 3 for the moment or a UT below 0.
+pub fn universal(moment: u64, dut: u32) -> Result<u64, u64> {
+    allowed(0, dut)?;
     if moment >= END {
         return Err(3);
     }
@@ -65,11 +71,8 @@ pub fn angle_by(rule: u64, ut: u64) -> Result<u64, u64> {
 
 /// The hour angle call with its rule: 4 for DUT and rule, then 3.
 pub fn sidereal(rule: u64, moment: u64, dut: u32) -> Result<u64, u64> {
-    let ut = universal(moment, dut);
-    if rule > LAST_RULE {
-        return Err(4);
-    }
-    angle_by(rule, ut?)
+    allowed(rule, dut)?;
+    angle_by(rule, universal(moment, dut)?)
 }
 
 /// The hour angle call.

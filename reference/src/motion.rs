@@ -1,7 +1,7 @@
 //! Acceleration, the step and the run.
 
 use crate::book;
-use crate::hour::{DUT_MOST, END, LAST_RULE};
+use crate::hour::{self, END};
 use crate::root::root;
 use crate::vector::{add, along, finite, n, sub, Vector};
 
@@ -13,12 +13,28 @@ pub struct Setting {
     pub rule: u64,
 }
 
-/// A moment with position and velocity.
+/// The Earth's number, and the numbers a centre can have.
+pub const EARTH: u64 = 1;
+pub const CENTRES: std::ops::RangeInclusive<u64> = 1..=6;
+
+/// A moment and a centre, with position and velocity from that centre.
 #[derive(Clone, Copy, Debug)]
 pub struct State {
     pub moment: u64,
+    pub centre: u64,
     pub position: Vector,
     pub velocity: Vector,
+}
+
+impl State {
+    /// Position and velocity finite; else 7.
+    pub fn finite(&self) -> Result<(), u64> {
+        if finite(self.position) && finite(self.velocity) {
+            Ok(())
+        } else {
+            Err(7)
+        }
+    }
 }
 
 #[derive(Clone, Copy, Debug, PartialEq, Eq)]
@@ -41,16 +57,25 @@ pub struct Ran {
 pub fn setting_allowed(setting: &Setting) -> Result<(), u64> {
     let m = setting.coefficients;
     let allowed = m.iter().all(|c| c.is_finite() && *c >= 0.0) && m[0] > 0.0;
-    if allowed && setting.dut <= DUT_MOST && setting.rule <= LAST_RULE {
-        Ok(())
-    } else {
-        Err(4)
+    if !allowed {
+        return Err(4);
     }
+    hour::allowed(setting.rule, setting.dut)
 }
 
-/// The body numbers from 2 on whose coefficient is above 0.
+/// The body numbers whose coefficient is above 0, with it.
 pub fn used(setting: &Setting) -> impl Iterator<Item = (usize, f64)> + '_ {
-    (2..=6).map(|body| (body, setting.coefficients[body - 1])).filter(|&(_, m)| m > 0.0)
+    (1..=6).map(|body| (body, setting.coefficients[body - 1])).filter(|&(_, m)| m > 0.0)
+}
+
+/// Those of them that a book has: all but the Earth.
+pub fn looked_up(setting: &Setting) -> impl Iterator<Item = usize> + '_ {
+    used(setting).map(|(body, _)| body).filter(|&body| body as u64 != EARTH)
+}
+
+/// A centre is one of the used bodies; else 14.
+pub fn centre_allowed(setting: &Setting, centre: u64) -> Result<(), u64> {
+    used(setting).any(|(body, _)| body as u64 == centre).then_some(()).ok_or(14)
 }
 
 /// g(v, m); 7 when n is not finite, or r3 is zero or not finite.
@@ -66,23 +91,24 @@ pub fn pull(v: Vector, m: f64) -> Result<Vector, u64> {
     Ok([(m * v[0]) / r3, (m * v[1]) / r3, (m * v[2]) / r3])
 }
 
-/// Positions of the used bodies, looked up in rising number: 6, then 7, body by body.
+/// Positions of the used bodies from the Earth, looked up in rising number: 6, then 7, body by body. The Earth's is zero.
 pub fn lookups(book: &[u8], setting: &Setting, t: u64) -> Result<[Vector; 7], u64> {
     let mut places = [[0.0; 3]; 7];
-    for (body, _) in used(setting) {
+    for body in looked_up(setting) {
         let i = book::find(book, body as u64, t).ok_or(6u64)?;
         places[body] = book::motion(book, i, t)?.place;
     }
     Ok(places)
 }
 
-/// The acceleration's own rule, for a book that passes and a setting that is allowed.
-pub fn slope(book: &[u8], setting: &Setting, t: u64, p: Vector) -> Result<Vector, u64> {
+/// The acceleration's own rule, for a book that passes and a setting and a centre that are allowed.
+pub fn slope(book: &[u8], setting: &Setting, t: u64, centre: u64, p: Vector) -> Result<Vector, u64> {
     let places = lookups(book, setting, t)?;
-    let g = pull(p, setting.coefficients[0])?;
+    let centre = centre as usize;
+    let g = pull(p, setting.coefficients[centre - 1])?;
     let mut a = [-g[0], -g[1], -g[2]];
-    for (body, m) in used(setting) {
-        let r = places[body];
+    for (body, m) in used(setting).filter(|&(body, _)| body != centre) {
+        let r = sub(places[body], places[centre]);
         a = sub(a, add(pull(sub(p, r), m)?, pull(r, m)?));
     }
     if finite(a) {
@@ -92,17 +118,20 @@ pub fn slope(book: &[u8], setting: &Setting, t: u64, p: Vector) -> Result<Vector
     }
 }
 
-/// The acceleration call: 1, 4, 3, 7 (position), then its own rule.
-pub fn acceleration(book: &[u8], setting: &Setting, t: u64, p: Vector) -> Result<Vector, u64> {
+/// The acceleration call: 1, 4, 14, 3, 7 (position), then its own rule.
+pub fn acceleration(
+    book: &[u8], setting: &Setting, t: u64, centre: u64, p: Vector,
+) -> Result<Vector, u64> {
     book::check(book)?;
     setting_allowed(setting)?;
+    centre_allowed(setting, centre)?;
     if t >= END {
         return Err(3);
     }
     if !finite(p) {
         return Err(7);
     }
-    slope(book, setting, t, p)
+    slope(book, setting, t, centre, p)
 }
 
 /// base + (H/6)·(((k1 + 2·k2) + 2·k3) + k4)
@@ -121,31 +150,28 @@ pub fn step(book: &[u8], setting: &Setting, s: &State, h: u32) -> Result<State, 
     let (t, p, v) = (s.moment, s.position, s.velocity);
     let middle = t.saturating_add(u64::from(h) / 2);
     let last = t.saturating_add(u64::from(h));
-    let a1 = slope(book, setting, t, p)?;
+    let a1 = slope(book, setting, t, s.centre, p)?;
     let (p2, v2) = (along(p, half, v), along(v, half, a1));
-    let a2 = slope(book, setting, middle, p2)?;
+    let a2 = slope(book, setting, middle, s.centre, p2)?;
     let (p3, v3) = (along(p, half, v2), along(v, half, a2));
-    let a3 = slope(book, setting, middle, p3)?;
+    let a3 = slope(book, setting, middle, s.centre, p3)?;
     let (p4, v4) = (along(p, whole, v3), along(v, whole, a3));
-    let a4 = slope(book, setting, last, p4)?;
+    let a4 = slope(book, setting, last, s.centre, p4)?;
     let position = blend(p, whole / 6.0, [v, v2, v3, v4]);
     let velocity = blend(v, whole / 6.0, [a1, a2, a3, a4]);
-    if !finite(position) || !finite(velocity) {
-        return Err(7);
-    }
-    Ok(State { moment: last, position, velocity })
+    let next = State { moment: last, position, velocity, ..*s };
+    next.finite().map(|()| next)
 }
 
-/// What is refused before any step: 1, 4, 3 (state, then target), 7, 2, 5.
+/// What is refused before any step: 1, 4, 14, 3 (state, then target), 7, 2, 5.
 pub fn start_checks(book: &[u8], setting: &Setting, s: &State, h: u32, target: u64) -> Result<(), u64> {
     book::check(book)?;
     setting_allowed(setting)?;
+    centre_allowed(setting, s.centre)?;
     if s.moment >= END || target >= END {
         return Err(3);
     }
-    if !finite(s.position) || !finite(s.velocity) {
-        return Err(7);
-    }
+    s.finite()?;
     if !(2..=86_400_000).contains(&h) || h % 2 != 0 {
         return Err(2);
     }
@@ -186,7 +212,7 @@ pub fn run(
     let (outcome, steps, state) = walk(book, setting, state, h, target, budget);
     let mut guesses = guesses;
     if steps > 0 {
-        for (body, _) in used(setting) {
+        for body in looked_up(setting) {
             if let Some(i) = book::find(book, body as u64, state.moment) {
                 guesses[body - 2] = i as u64;
             }

@@ -3,7 +3,7 @@
 use std::io::{self, Write};
 
 use crate::book::{bytes_at, float_at, LIMIT};
-use crate::motion::{self, Setting, State};
+use crate::motion::{self, Setting, State, EARTH};
 
 /// Bytes of an order.
 pub const ORDER: usize = 120;
@@ -16,7 +16,7 @@ pub struct Order {
     pub target: u64,
 }
 
-/// The order at the front of the input, if it is long enough.
+/// The order at the front of the input, if it is long enough; it has no centre, and so the Earth.
 pub fn read_order(input: &[u8]) -> Option<Order> {
     let mut f = [0.0; 6];
     for (i, value) in f.iter_mut().enumerate() {
@@ -25,6 +25,7 @@ pub fn read_order(input: &[u8]) -> Option<Order> {
     let three = |at| Some([float_at(input, at)?, float_at(input, at + 8)?, float_at(input, at + 16)?]);
     let state = State {
         moment: bytes_at(input, 48).map(u64::from_le_bytes)?,
+        centre: EARTH,
         position: three(56)?,
         velocity: three(80)?,
     };

@@ -6,7 +6,7 @@ use reference::calendar::{date_of, day_of};
 use reference::conic::{conic, Kind};
 use reference::fixed::{earth_fixed, precession, precession_by, turned, SINCE_1950_0};
 use reference::hour::{angle_at, angle_by, exact_1982, hour_angle, sidereal, CIRCLE, DAY, END, PART};
-use reference::motion::{acceleration, start_checks, run, Outcome, Setting, State};
+use reference::motion::{acceleration, start_checks, run, Outcome, Setting, State, EARTH};
 use reference::root::root;
 use reference::sine::{sine_cosine, OCTANT};
 use reference::sphere::{from_sphere, Sphere};
@@ -35,6 +35,11 @@ fn one(body: u16, start: u64, span: u64, coefficients: &[f64]) -> Vec<u8> {
 }
 
 const EMPTY: [u8; 8] = [8, 0, 0, 0, 0, 0, 0, 0];
+
+/// A state about the Earth.
+fn about_earth(moment: u64, position: [f64; 3], velocity: [f64; 3]) -> State {
+    State { moment, centre: EARTH, position, velocity }
+}
 
 fn earth_alone(m: f64) -> Setting {
     Setting { coefficients: [m, 0.0, 0.0, 0.0, 0.0, 0.0], dut: 0, rule: 0 }
@@ -136,7 +141,7 @@ fn ground_points() {
     ];
     for (day, ut, position, (latitude, longitude)) in cases {
         let moment = day * DAY + ut + 35_000;
-        let (p, _) = earth_fixed(0, 35_000, moment, position, [0.0; 3]).unwrap();
+        let (p, _) = earth_fixed(0, 35_000, &about_earth(moment, position, [0.0; 3])).unwrap();
         let (lat, lon) = ground(p);
         assert!((lat - latitude).abs() < 0.003 && (lon - longitude).abs() < 0.003, "{lat} {lon}");
     }
@@ -241,12 +246,12 @@ fn rule_of_1982() {
 /// A setting's rule is judged wherever a setting is.
 #[test]
 fn rule_of_a_setting() {
-    let state = State { moment: 0, position: [2.0, 0.0, 0.0], velocity: [0.0, 4.0, 0.0] };
+    let state = about_earth(0, [2.0, 0.0, 0.0], [0.0, 4.0, 0.0]);
     for (rule, told) in [(0, None), (1, None), (2, Some(4)), (u64::MAX, Some(4))] {
         let setting = Setting { rule, ..earth_alone(8.0) };
         let ran = run(&EMPTY, &setting, &state, 1000, 1000, 1, [0; 5]);
         assert_eq!(ran.outcome, told.map_or(Outcome::Arrived, Outcome::Refused));
-        assert_eq!(acceleration(&EMPTY, &setting, 0, [2.0, 0.0, 0.0]).err(), told);
+        assert_eq!(acceleration(&EMPTY, &setting, 0, EARTH, [2.0, 0.0, 0.0]).err(), told);
     }
 }
 
@@ -291,31 +296,31 @@ fn series() {
 #[test]
 fn accelerations() {
     let p = [2.0, 0.0, 0.0];
-    let a = acceleration(&EMPTY, &earth_alone(8.0), 0, p).unwrap();
+    let a = acceleration(&EMPTY, &earth_alone(8.0), 0, EARTH, p).unwrap();
     assert_eq!(a[0], -2.0);
     // A body at (4, 0, 0): the same book on each axis, then Y and Z set to 0.
     let mut book = one(2, 0, 100, &[4.0, 0.0]);
     book[32 + 16..32 + 48].fill(0);
     let mut setting = earth_alone(8.0);
     setting.coefficients[1] = 16.0;
-    assert_eq!(acceleration(&book, &setting, 0, p).unwrap()[0], 1.0);
+    assert_eq!(acceleration(&book, &setting, 0, EARTH, p).unwrap()[0], 1.0);
 }
 
 #[test]
 fn conics() {
-    let p = [2.0, 0.0, 0.0];
+    let of = |m, v| conic(m, &about_earth(0, [2.0, 0.0, 0.0], v));
     let ellipse = Kind::Ellipse { a: 2.0, e: 0.0, p: 2.0, q: 2.0, far: 2.0 };
-    assert_eq!(conic(8.0, p, [0.0, 2.0, 0.0]).unwrap().kind, ellipse);
+    assert_eq!(of(8.0, [0.0, 2.0, 0.0]).unwrap().kind, ellipse);
     let hyperbola = Kind::Hyperbola { a: -1.0, e: 3.0, p: 8.0, q: 2.0, v: 8f64.sqrt() };
-    assert_eq!(conic(8.0, p, [0.0, 4.0, 0.0]).unwrap().kind, hyperbola);
-    assert_eq!(conic(8.0, p, [2.0, 2.0, 0.0]), Err(9));
-    assert_eq!(conic(8.0, p, [2.0, 0.0, 0.0]), Err(10));
-    assert_eq!(conic(4.0, p, [2.0, 0.0, 0.0]), Err(9));
+    assert_eq!(of(8.0, [0.0, 4.0, 0.0]).unwrap().kind, hyperbola);
+    assert_eq!(of(8.0, [2.0, 2.0, 0.0]), Err(9));
+    assert_eq!(of(8.0, [2.0, 0.0, 0.0]), Err(10));
+    assert_eq!(of(4.0, [2.0, 0.0, 0.0]), Err(9));
 }
 
 #[test]
 fn steps_allowed() {
-    let state = State { moment: 0, position: [2.0, 0.0, 0.0], velocity: [0.0, 4.0, 0.0] };
+    let state = about_earth(0, [2.0, 0.0, 0.0], [0.0, 4.0, 0.0]);
     let setting = earth_alone(8.0);
     assert_eq!(start_checks(&EMPTY, &setting, &state, 3, 0), Err(2));
     assert_eq!(start_checks(&EMPTY, &setting, &state, 86_400_000, 86_400_000), Ok(()));

@@ -49,8 +49,8 @@ fn damaged_books_do_not() {
 #[test]
 fn the_first_of_two_refusals_is_met() {
     let mut c = Chance::new(9);
-    let numbers = [1, 4, 3, 3, 7, 2, 5];
-    for round in 0..400 {
+    let numbers = [1, 4, 14, 3, 3, 7, 2, 5];
+    for round in 0..300 {
         let base = build(&pieces(&mut c));
         for first in 0..BREAKS.len() {
             for second in first + 1..BREAKS.len() {
@@ -102,10 +102,10 @@ fn every_refusal_is_reached() {
     let tally = tally(0);
     assert_eq!((tally.compared, tally.differ), (5000, 0));
     let sorts: BTreeSet<&str> = tally.counts.answers.keys().map(|(_, sort)| sort.as_str()).collect();
-    for number in [1, 3, 4, 6, 7, 8, 9, 10, 11, 12] {
+    for number in [1, 3, 4, 6, 7, 8, 9, 10, 11, 12, 14] {
         assert!(sorts.contains(format!("refused {number}").as_str()), "{number}");
     }
-    for number in 1..8 {
+    for number in [1, 2, 3, 4, 5, 6, 7, 14] {
         assert!(sorts.contains(format!("refused {number} at 0 steps").as_str()), "{number} in a run");
     }
     for sort in ["refused 6 on the way", "refused 7 on the way", "arrived", "going", "arrived at 0 steps",

@@ -1,9 +1,11 @@
 // The question line: reads calls on standard input, one a line, and writes one line for each. Its
 // argument names the file of the book; without one the book has no bytes.
 
+mod about;
 mod calls;
 mod form;
 mod put;
+mod values;
 
 use put::Out;
 ghost use Prim.Native.Nat.{_+_, _≤_};

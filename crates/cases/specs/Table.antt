@@ -43,7 +43,7 @@ firstOf (acceleration.Is a) = a .x
 firstOf (acceleration.Refused k) = nan
 
 abbrev pub moving : ℕ → ℕ → State
-moving vx vy = record { moment = 0; x = whole 2; y = whole 0; z = whole 0; vx = whole vx; vy = whole vy; vz = whole 0 }
+moving vx vy = record { moment = 0; centre = 1; x = whole 2; y = whole 0; z = whole 0; vx = whole vx; vy = whole vy; vz = whole 0 }
 
 abbrev pub Right : Case → Type 0
 Right (day d answer) = dateAnswer d ≡ answer
@@ -68,7 +68,7 @@ table =
     ∷ value 5000 (whole 2)
     ∷ value 5500 (neg (whole 2))
     ∷ first [] (neg (whole 2))
-    ∷ first (record { m = whole 16; R = record { x = whole 4; y = whole 0; z = whole 0 } } ∷ []) (whole 1)
+    ∷ first (record { number = 2; m = whole 16; R = record { x = whole 4; y = whole 0; z = whole 0 } } ∷ []) (whole 1)
     ∷ orbit 0 2 (about1 (Ellipse (whole 2) (whole 0) (whole 2) (whole 2) (whole 2)))
     ∷ orbit 0 4 (about1 (Hyperbola (neg (whole 1)) (whole 3) (whole 8) (whole 2) (rootOf (whole 8))))
     ∷ orbit 2 2 (Refused 9)

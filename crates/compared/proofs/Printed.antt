@@ -54,13 +54,13 @@ pub record Fits (s : State) : Type 0 where
   pub vy : T (fits binary64 (s .vy))
   pub vz : T (fits binary64 (s .vz))
 
-arrived-fits : (t : ℕ) (b : Vector) (f : Float) (d c : Vector) (g : Float) (e : Vector) (next : State) → arrive t (along b f d) (along c g e) ≡ On next → Fits next
+arrived-fits : (t o : ℕ) (b : Vector) (f : Float) (d c : Vector) (g : Float) (e : Vector) (next : State) → arrive t o (along b f d) (along c g e) ≡ On next → Fits next
 unfolding along
-arrived-fits t b f d c g e next = go (finiteVector (along b f d) && finiteVector (along c g e))
+arrived-fits t o b f d c g e next = go (finiteVector (along b f d) && finiteVector (along c g e))
   where
-    go : (ok : Bool) → (if ok then On (stateAt t (along b f d) (along c g e)) else Off 7) ≡ On next → Fits next
+    go : (ok : Bool) → (if ok then On (stateAt t o (along b f d) (along c g e)) else Off 7) ≡ On next → Fits next
     go true q =
-        let is : stateAt t (along b f d) (along c g e) ≡ next = cc in
+        let is : stateAt t o (along b f d) (along c g e) ≡ next = cc in
         subst Fits is (record { x = add-fits binary64 _ _; y = add-fits binary64 _ _; z = add-fits binary64 _ _; vx = add-fits binary64 _ _; vy = add-fits binary64 _ _; vz = add-fits binary64 _ _ })
     go false q = let z : _≡_ {A = ℕ} 0 1 = cc in absurd (omega arith)
 
@@ -71,7 +71,7 @@ peel (Refused n) rest next k e = let z : _≡_ {A = ℕ} 0 1 = cc in absurd (ome
 step-fits : (b : List ℕ) (setting : Setting) (h : ℕ) (s next : State) → step b setting h s ≡ On next → Fits next
 unfolding step
 step-fits b setting h s next =
-    let acc = accelerationAt b setting in
+    let acc = accelerationAt b setting (s .centre) in
     peel (acc (s .moment) (position s)) (stage2 acc h s) next
     (λ a1.
     peel (acc (s .moment + h / 2) (along (position s) (half h) (velocity s))) (stage3 acc h s a1) next
@@ -79,7 +79,7 @@ step-fits b setting h s next =
     peel (acc (s .moment + h / 2) (along (position s) (half h) (velocity2 h s a1))) (stage4 acc h s a1 a2) next
     (λ a3.
     peel (acc (s .moment + h) (along (position s) (stepH h) (velocity3 h s a2))) (lastly h s a1 a2 a3) next
-    (λ a4 e. arrived-fits (s .moment + h) (position s) (sixth h) _ (velocity s) (sixth h) _ next e))))
+    (λ a4 e. arrived-fits (s .moment + h) (s .centre) (position s) (sixth h) _ (velocity s) (sixth h) _ next e))))
 
 both-true : (p q : Bool) → (p && q) ≡ true → (p ≡ true) × (q ≡ true)
 both-true true q e = (refl, e)

@@ -8,16 +8,16 @@ use Rattle.state.specs.declared.State.{State}
 use Rattle.state.specs.State.{n}
 use Rattle.root.specs.Root.{rootOf}
 use Rattle.conic.specs.declared.ConicAnswer.the-variants.{Refused}
-use Rattle.conic.specs.Conic.{cross, eccentricity, lastFigure, orbit, unfit, _before_, refusal, conicOf, orbitAnswer, conicAnswer}
+use Rattle.conic.specs.Conic.{cross, eccentricity, lastFigure, orbit, unfit, _before_, refusal, conicOf, orbitAnswer, figuresAbout, conicAnswer}
 
 -- position and velocity (2, 0, 0), at a moment t: a straight fall
 abbrev straight : ℕ → State
-straight t = record { moment = t; x = whole 2; y = whole 0; z = whole 0; vx = whole 2; vy = whole 0; vz = whole 0 }
+straight t = record { moment = t; centre = 1; x = whole 2; y = whole 0; z = whole 0; vx = whole 2; vy = whole 0; vz = whole 0 }
 
 pub no-momentum : (t : ℕ) → conicAnswer (whole 8) (straight t) ≡ Refused 10
-unfolding conicAnswer orbitAnswer orbit refusal conicOf unfit _before_ lastFigure eccentricity cross n rootOf neg add sub mul div lt eq ofBits ofInt
+unfolding conicAnswer figuresAbout orbitAnswer orbit refusal conicOf unfit _before_ lastFigure eccentricity cross n rootOf neg add sub mul div lt eq ofBits ofInt
 no-momentum t = refl
 
 pub no-energy : (t : ℕ) → conicAnswer (whole 4) (straight t) ≡ Refused 9
-unfolding conicAnswer orbitAnswer orbit refusal conicOf unfit _before_ lastFigure eccentricity cross n rootOf neg add sub mul div lt eq ofBits ofInt
+unfolding conicAnswer figuresAbout orbitAnswer orbit refusal conicOf unfit _before_ lastFigure eccentricity cross n rootOf neg add sub mul div lt eq ofBits ofInt
 no-energy t = refl

@@ -1,4 +1,4 @@
--- Document 01, "Earth-fixed turn and conic": the figures of the conic for a centre coefficient m, and their refusals.
+-- Document 01, "Earth-fixed turn and conic", and document 02, R-6: the figures of the conic for a centre coefficient m, and their refusals.
 use mathlib.Core.Bool.{not, _&&_}
 use Prim.Native.Nat.{ℕ}
 use lib.Ieee.{Float, neg, eq}
@@ -7,7 +7,7 @@ use Rattle.basis.specs.Choice.{if_then_else_, _=?_}
 use Rattle.basis.specs.Floats.{_⊕_, _⊖_, _⊗_, _⊘_, zero64, above0, below0, whole}
 use Rattle.state.specs.declared.State.{State}
 use Rattle.state.specs.declared.Vector.{Vector}
-use Rattle.state.specs.State.{position, velocity, n, finiteState}
+use Rattle.state.specs.State.{position, velocity, n, finiteState, isBody}
 use Rattle.root.specs.Root.{rootOf}
 use Rattle.conic.specs.declared.Conic.{Conic}
 use Rattle.conic.specs.declared.Conic.the-variants.{Ellipse, Hyperbola}
@@ -78,15 +78,18 @@ conicOf o =
     if below0 (o .c3) then Ellipse (o .a) (o .e) (o .p) (o .q) (o .last) else
     Hyperbola (o .a) (o .e) (o .p) (o .q) (o .last)
 
--- "A conic answer names its centre and holds one kind"; "in the base the centre is 1"
-unfoldable pub orbitAnswer : Orbit → ConicAnswer
-orbitAnswer o =
-    if refusal o =? 0 then Figures (record { centre = 1; conic = conicOf o }) else
+-- "A conic answer names its centre and holds one kind"; R-6: the state's own centre
+unfoldable pub orbitAnswer : ℕ → Orbit → ConicAnswer
+orbitAnswer centre o =
+    if refusal o =? 0 then Figures (record { centre = centre; conic = conicOf o }) else
     Refused (refusal o)
 
--- "4 (m not finite or not above 0), 7 (state), then" the figures
-unfoldable pub conicAnswer : Float → State → ConicAnswer
-conicAnswer m state =
-    if not (finite m && above0 m) then Refused 4 else
+-- "4 (m not finite or not above 0), 7 (state), then" the figures; R-6: a centre outside 1 to 6 is 14, "directly after 4"
+unfoldable pub figuresAbout : Float → State → ConicAnswer
+figuresAbout m state =
+    if not (isBody (state .centre)) then Refused 14 else
     if not (finiteState state) then Refused 7 else
-    orbitAnswer (orbit m state)
+    orbitAnswer (state .centre) (orbit m state)
+
+unfoldable pub conicAnswer : Float → State → ConicAnswer
+conicAnswer m state = if not (finite m && above0 m) then Refused 4 else figuresAbout m state

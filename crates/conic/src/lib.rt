@@ -3,7 +3,7 @@
 use state::State;
 use state::Vector;
 ghost use mathlib.Core.Path.{_≡_};
-ghost use Rattle.conic.specs.Conic.{cross, eccentricity, lastFigure, orbit, unfit, _before_, refusal, conicOf, orbitAnswer, conicAnswer};
+ghost use Rattle.conic.specs.Conic.{cross, eccentricity, lastFigure, orbit, unfit, _before_, refusal, conicOf, orbitAnswer, figuresAbout, conicAnswer};
 
 pub enum Conic {
     Ellipse {
@@ -156,15 +156,27 @@ fn conic_of(o: Orbit) -> Conic
     }
 }
 
-fn answer_of(o: Orbit) -> ConicAnswer
-    ensures { λ r. ⌜ r ≡ orbitAnswer o ⌝ }
+fn answer_of(centre: u64, o: Orbit) -> ConicAnswer
+    ensures { λ r. ⌜ r ≡ orbitAnswer centre o ⌝ }
 {
     let number = refusal_of(o);
     if number == 0 {
         let conic = conic_of(o);
-        return ConicAnswer::Figures(CentredConic { centre: 1, conic });
+        return ConicAnswer::Figures(CentredConic { centre, conic });
     }
     ConicAnswer::Refused(number)
+}
+
+fn figures_about(m: f64, state: State) -> ConicAnswer
+    ensures { λ r. ⌜ r ≡ figuresAbout m state ⌝ }
+{
+    if state::is_body(state.centre) {
+        if state::state_is_finite(state) {
+            return answer_of(state.centre, orbit_of(m, state));
+        }
+        return ConicAnswer::Refused(7);
+    }
+    ConicAnswer::Refused(14)
 }
 
 pub fn conic_figures(m: f64, state: State) -> ConicAnswer
@@ -172,10 +184,7 @@ pub fn conic_figures(m: f64, state: State) -> ConicAnswer
 {
     if basis::is_finite(m) {
         if 0.0 < m {
-            if state::state_is_finite(state) {
-                return answer_of(orbit_of(m, state));
-            }
-            return ConicAnswer::Refused(7);
+            return figures_about(m, state);
         }
     }
     ConicAnswer::Refused(4)

@@ -1,11 +1,12 @@
--- Document 01, "Earth-fixed turn and conic", and document 02, R-2 and R-9: a state in coordinates that turn with the Earth.
+-- Document 01, "Earth-fixed turn and conic", and document 02, R-2, R-6 and R-9: a state in coordinates that turn with the Earth.
 use mathlib.Core.Bool.{Bool, not, _&&_}
 use Prim.Native.Nat.{ℕ}
-use Rattle.basis.specs.Choice.{if_then_else_}
+use Rattle.basis.specs.Choice.{if_then_else_, _=?_}
 use Rattle.basis.specs.Floats.{_⊕_, _⊖_, _⊗_}
+use Rattle.basis.specs.Limits.{isDUT}
 use Rattle.state.specs.declared.State.{State}
 use Rattle.state.specs.State.{position, velocity, finiteVector, finiteState}
-use Rattle.hour.specs.Hour.{siderealAnswer}
+use Rattle.hour.specs.Hour.{isRule, siderealAnswer}
 use Rattle.hour.specs.declared.HourAnswer.{HourAnswer}
 use Rattle.rotation.specs.Rotation.{times, Rotation, rotation}
 use Rattle.fixed.specs.declared.EarthFixed.{EarthFixed}
@@ -43,6 +44,11 @@ abbrev pub afterHour : HourAnswer → FixedAnswer → FixedAnswer
 afterHour (HourAnswer.Parts parts) answer = answer
 afterHour (HourAnswer.Refused number) answer = Refused number
 
--- the hour angle's refusals, "4 (DUT), 3", and 4 of a rule other than the two, "then 7 (state, then result)"
+-- "4 (DUT), 3", and 4 of a rule other than the two, "then 7 (state, then result)"; R-6: "Earth-fixed takes centre 1 alone, else 14", directly
+-- after 4: the hour angle then refuses by 3 alone
 unfoldable pub fixedAnswer : ℕ → ℕ → State → FixedAnswer
-fixedAnswer rule dut state = afterHour (siderealAnswer rule (state .moment) dut) (finiteAnswer rule dut state)
+fixedAnswer rule dut state =
+    if not (isDUT dut) then Refused 4 else
+    if not (isRule rule) then Refused 4 else
+    if not (state .centre =? 1) then Refused 14 else
+    afterHour (siderealAnswer rule (state .moment) dut) (finiteAnswer rule dut state)

@@ -9,7 +9,7 @@ use state::Vector;
 ghost use mathlib.Core.Path.{_≡_};
 ghost use Rattle.hour.specs.declared.HourAnswer.the-variants.{Parts};
 ghost use Rattle.hour.specs.Hour.{siderealAnswer};
-ghost use Rattle.fixed.specs.Fixed.{turned, finiteFixed, finiteAnswer, fixedAnswer};
+ghost use Rattle.fixed.specs.Fixed.{turned, finiteFixed, finiteAnswer, afterHour, fixedAnswer};
 
 // Position in km and velocity in km/s, in axes that turn with the Earth.
 pub struct EarthFixed {
@@ -75,8 +75,24 @@ fn fixed_at(rule: u64, dut: u32, state: State, parts: u64) -> FixedAnswer
     FixedAnswer::Refused(7)
 }
 
+// (02, R-6) Earth-fixed coordinates are of a state about the Earth alone.
 pub fn earth_fixed(rule: u64, dut: u32, state: State) -> FixedAnswer
     ensures { λ r. ⌜ r ≡ fixedAnswer rule dut state ⌝ }
+{
+    if basis::LONGEST_DUT < dut {
+        return FixedAnswer::Refused(4);
+    }
+    if hour::LAST_RULE < rule {
+        return FixedAnswer::Refused(4);
+    }
+    if state.centre == 1 {
+        return after_hour(rule, dut, state);
+    }
+    FixedAnswer::Refused(14)
+}
+
+fn after_hour(rule: u64, dut: u32, state: State) -> FixedAnswer
+    ensures { λ r. ⌜ r ≡ afterHour (siderealAnswer rule (state .moment) dut) (finiteAnswer rule dut state) ⌝ }
 {
     match hour::sidereal(rule, state.moment, dut) {
         HourAnswer::Parts(parts) => fixed_at(rule, dut, state, parts),

@@ -8,7 +8,7 @@ use borrow.Author.Tests.{ne-eqb}
 use lib.Dec.{eqb·suc-zero}
 use Rattle.basis.specs.Choice.{if_then_else_, _=?_}
 use Rattle.basis.specs.Limits.{isMoment}
-use Rattle.state.specs.State.{finiteVector, settingAllowed}
+use Rattle.state.specs.State.{finiteVector, settingAllowed, centreAllowed}
 use Rattle.state.specs.declared.Vector.{Vector}
 use Rattle.state.specs.declared.Setting.{Setting}
 use Rattle.book.specs.Passes.{passes}
@@ -25,33 +25,44 @@ one : (ok : Bool) (k later : ℕ) (x rest : AccelerationAnswer) → numberOr lat
 one true k later x rest e = e
 one false k later x rest e = rw eqb·suc-zero
 
-abbrev pub checks : List ℕ → Setting → ℕ → Vector → ℕ
-checks b s t P =
-    if not (passes b) then 1 else if not (settingAllowed s) then 4 else if not (isMoment t) then 3 else if not (finiteVector P) then 7 else 0
+abbrev pub checks : List ℕ → Setting → ℕ → ℕ → Vector → ℕ
+checks b s c t P =
+    if not (passes b) then 1 else
+    if not (settingAllowed s) then 4 else
+    if not (centreAllowed s c) then 14 else
+    if not (isMoment t) then 3 else
+    if not (finiteVector P) then 7 else 0
 
-pub inOrder : (b : List ℕ) (s : Setting) (t : ℕ) (P : Vector) → numberOr (checks b s t P) (accelerationAt b s t P) ≡ accelerationAnswer b s t P
-unfolding accelerationAnswer
-inOrder b s t P =
-    let x = accelerationAt b s t P in
-    one (passes b) 0 _ x _ (one (settingAllowed s) 3 _ x _ (one (isMoment t) 2 _ x _ (one (finiteVector P) 6 0 x x refl)))
-
-first : (ok : Bool) (k later : ℕ) → (if not ok then suc k else later) ≡ 0 → ok ≡ true
-first true k later e = refl
+first : (ok : Bool) (k later : ℕ) → (if not ok then suc k else later) ≡ 0 → (ok ≡ true) × (later ≡ 0)
+first true k later e = (refl, e)
 first false k later e = absurd (omega arith)
 
-pub bookPasses : (b : List ℕ) (s : Setting) (t : ℕ) (P : Vector) → checks b s t P ≡ 0 → passes b ≡ true
-bookPasses b s t P e = first (passes b) 0 _ e
+module _ (b : List ℕ) (s : Setting) (c t : ℕ) (P : Vector) where
+  pub inOrder : numberOr (checks b s c t P) (accelerationAt b s c t P) ≡ accelerationAnswer b s c t P
+  unfolding accelerationAnswer
+  inOrder =
+      let x = accelerationAt b s c t P in
+      one (passes b) 0 _ x _
+      (one (settingAllowed s) 3 _ x _
+      (one (centreAllowed s c) 13 _ x _ (one (isMoment t) 2 _ x _ (one (finiteVector P) 6 0 x x refl))))
 
-pub accepted : (b : List ℕ) (s : Setting) (t : ℕ) (P : Vector) → checks b s t P ≡ 0 → accelerationAt b s t P ≡ accelerationAnswer b s t P
-accepted b s t P e = sym (ap (λ (k : ℕ). numberOr k (accelerationAt b s t P)) e) ∙ inOrder b s t P
+  -- what the rule may lean on once nothing is refused
+  pub passed : checks b s c t P ≡ 0 → (passes b ≡ true) × (centreAllowed s c ≡ true)
+  passed e =
+      let book = first (passes b) 0 _ e in
+      let setting = first (settingAllowed s) 3 _ (book .1) in
+      (book .0, first (centreAllowed s c) 13 _ (setting .1) .0)
 
-pub refused : (b : List ℕ) (s : Setting) (t : ℕ) (P : Vector) (k : ℕ) → k ≡ checks b s t P → (k ≡ 0 → ⊥) → Refused k ≡ accelerationAnswer b s t P
-refused b s t P k e some =
-    let by : numberOr k (accelerationAt b s t P) ≡ Refused k = rw (ne-eqb k 0 some) in
-    sym by ∙ ap (λ (j : ℕ). numberOr j (accelerationAt b s t P)) e ∙ inOrder b s t P
+  pub accepted : checks b s c t P ≡ 0 → accelerationAt b s c t P ≡ accelerationAnswer b s c t P
+  accepted e = sym (ap (λ (k : ℕ). numberOr k (accelerationAt b s c t P)) e) ∙ inOrder
 
--- the checks as the code puts them in order, the last one first
-pub numbered : (b : List ℕ) (s : Setting) (t : ℕ) (P : Vector) (p a f : Bool) (k1 k2 k3 k4 : ℕ) → p ≡ passes b → a ≡ settingAllowed s → f ≡ finiteVector P
-    → k1 ≡ (if not f then 7 else 0) → k2 ≡ (if not (isMoment t) then 3 else k1) → k3 ≡ (if not a then 4 else k2) → k4 ≡ (if not p then 1 else k3)
-    → k4 ≡ checks b s t P
-numbered b s t P p a f k1 k2 k3 k4 ep ea ef e1 e2 e3 e4 = rw (e4, e3, e2, e1, ep, ea, ef)
+  pub refused : (k : ℕ) → k ≡ checks b s c t P → (k ≡ 0 → ⊥) → Refused k ≡ accelerationAnswer b s c t P
+  refused k e some =
+      let by : numberOr k (accelerationAt b s c t P) ≡ Refused k = rw (ne-eqb k 0 some) in
+      sym by ∙ ap (λ (j : ℕ). numberOr j (accelerationAt b s c t P)) e ∙ inOrder
+
+  -- the checks as the code puts them in order, the last one first
+  pub numbered : (p a h f : Bool) (k1 k2 k3 k4 k5 : ℕ) → p ≡ passes b → a ≡ settingAllowed s → h ≡ centreAllowed s c → f ≡ finiteVector P
+      → k1 ≡ (if not f then 7 else 0) → k2 ≡ (if not (isMoment t) then 3 else k1) → k3 ≡ (if not h then 14 else k2)
+      → k4 ≡ (if not a then 4 else k3) → k5 ≡ (if not p then 1 else k4) → k5 ≡ checks b s c t P
+  numbered p a h f k1 k2 k3 k4 k5 ep ea eh ef e1 e2 e3 e4 e5 = rw (e5, e4, e3, e2, e1, ep, ea, eh, ef)

@@ -1,5 +1,5 @@
 pub mod Under
 pub mod OneAnswer
 pub mod Refused
-pub mod Drawn
+pub mod Centres
 pub mod Checks

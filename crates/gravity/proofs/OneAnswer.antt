@@ -7,5 +7,5 @@ use Rattle.gravity.proofs.acceleration as acceleration
 
 pub acceleration-answers-once : OneAnswer acceleration.ended (λ M. acceleration.clauses)
 acceleration-answers-once =
-    one-answer (λ κs inputs. accelerationAnswer (now (inputs .0)) (inputs .1 .0) (inputs .1 .1 .0) (inputs .1 .1 .1 .0))
+    one-answer (λ κs inputs. accelerationAnswer (now (inputs .0)) (inputs .1 .0) (inputs .1 .1 .0) (inputs .1 .1 .1 .0) (inputs .1 .1 .1 .1 .0))
     (λ M 𝓤 H A mem run κs inputs g r after. refl)

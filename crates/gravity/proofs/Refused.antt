@@ -3,11 +3,10 @@ use mathlib.Core.Bool.{Bool, true, not, _&&_}
 use mathlib.Core.List.{List, [], _∷_}
 use mathlib.Core.Path.{_≡_, refl}
 use Prim.Native.Nat.{ℕ}
-use lib.Ieee.{Float}
-use Rattle.basis.specs.Choice.{if_then_else_}
+use Rattle.basis.specs.Choice.{if_then_else_, _=?_}
 use Rattle.basis.specs.Limits.{isMoment}
 use Rattle.basis.proofs.Cases.{by-if}
-use Rattle.state.specs.State.{finiteVector, used, settingAllowed}
+use Rattle.state.specs.State.{finiteVector, used, settingAllowed, coefficientOf, centreAllowed}
 use Rattle.state.specs.declared.Vector.{Vector}
 use Rattle.state.specs.declared.Setting.{Setting}
 use Rattle.book.specs.Passes.{passes}
@@ -16,7 +15,7 @@ use Rattle.book.specs.declared.PositionAnswer.{PositionAnswer}
 use Rattle.book.specs.declared.PositionAnswer.the-variants as position
 use Rattle.book.proofs.Refused as book
 use Rattle.gravity.specs.Pull.{negated, g, sound}
-use Rattle.gravity.specs.Acceleration.{Sky, Bodies, Hidden, Listed, bodiesOf, seen, skyOf, sky, less, allSound, finished, accelerationAt, accelerationAnswer}
+use Rattle.gravity.specs.Acceleration.{Sky, Bodies, Hidden, Listed, bodiesOf, atRest, stands, placeOf, seen, skyOf, sky, fromCentre, less, allSound, finished, accelerationAt, accelerationAnswer}
 use Rattle.gravity.specs.declared.AccelerationAnswer.{AccelerationAnswer}
 use Rattle.gravity.specs.declared.AccelerationAnswer.the-variants.{Is, Refused}
 
@@ -30,17 +29,24 @@ hiddenBy ok (Bodies bodies) = true
 hiddenBy ok (Hidden k) = ok k
 
 module _ (ok : ℕ → Bool) (six : ok 6 ≡ true) (seven : ok 7 ≡ true) where
-  seen-hidden : (m : Float) (p : PositionAnswer) (later : Sky) → book.refusedBy ok p ≡ true → hiddenBy ok later ≡ true → hiddenBy ok (seen m p later) ≡ true
-  seen-hidden m (position.At R) (Bodies later) first rest = refl
-  seen-hidden m (position.At R) (Hidden k) first rest = rest
-  seen-hidden m (position.Refused k) later first rest = first
+  seen-hidden : (body : Listed) (p : PositionAnswer) (later : Sky) → book.refusedBy ok p ≡ true → hiddenBy ok later ≡ true → hiddenBy ok (seen body p later) ≡ true
+  seen-hidden body (position.At R) (Bodies later) first rest = refl
+  seen-hidden body (position.At R) (Hidden k) first rest = rest
+  seen-hidden body (position.Refused k) later first rest = first
+
+  stands-refused : (b : List ℕ) (number t : ℕ) → book.refusedBy ok (stands b number t) ≡ true
+  stands-refused b number t = by-if (book.refusedBy ok) (number =? 1) refl (book.body-refused ok six seven b number t)
 
   sky-hidden : (b : List ℕ) (t : ℕ) (bodies : List Listed) → hiddenBy ok (skyOf b t bodies) ≡ true
   sky-hidden b t [] = refl
   sky-hidden b t (body ∷ rest) =
       by-if (hiddenBy ok) (used (body .m))
-      (seen-hidden (body .m) (bodyAt b (body .number) t) (skyOf b t rest) (book.body-refused ok six seven b (body .number) t) (sky-hidden b t rest))
+      (seen-hidden body (stands b (body .number) t) (skyOf b t rest) (stands-refused b (body .number) t) (sky-hidden b t rest))
       (sky-hidden b t rest)
+
+  about-hidden : (centre : ℕ) (C : Vector) (bodies : Sky) → hiddenBy ok bodies ≡ true → hiddenBy ok (fromCentre centre C bodies) ≡ true
+  about-hidden centre C (Bodies bodies) hidden = refl
+  about-hidden centre C (Hidden k) hidden = hidden
 
   finished-refused : (P : Vector) (sofar : Bool) (a : Vector) (bodies : Sky) → hiddenBy ok bodies ≡ true → refusedBy ok (finished P sofar a bodies) ≡ true
   finished-refused P sofar a (Bodies bodies) hidden =
@@ -48,16 +54,18 @@ module _ (ok : ℕ → Bool) (six : ok 6 ≡ true) (seven : ok 7 ≡ true) where
   finished-refused P sofar a (Hidden k) hidden = hidden
 
   -- the rule refuses by 6 or 7 alone
-  pub rule-refused : (b : List ℕ) (s : Setting) (t : ℕ) (P : Vector) → refusedBy ok (accelerationAt b s t P) ≡ true
+  pub rule-refused : (b : List ℕ) (s : Setting) (c t : ℕ) (P : Vector) → refusedBy ok (accelerationAt b s c t P) ≡ true
   unfolding accelerationAt sky
-  rule-refused b s t P = finished-refused P (sound P) (negated (g P (s .earth))) (sky b s t) (sky-hidden b t (bodiesOf s))
+  rule-refused b s c t P =
+      finished-refused P (sound P) (negated (g P (coefficientOf s c))) (fromCentre c (placeOf (stands b c t)) (sky b s t)) (about-hidden c (placeOf (stands b c t)) (sky b s t) (sky-hidden b t (bodiesOf s)))
 
-  -- the call by 1, 4, 3, 6 or 7 alone
-  pub acceleration-refused : ok 1 ≡ true → ok 4 ≡ true → ok 3 ≡ true → (b : List ℕ) (s : Setting) (t : ℕ) (P : Vector)
-      → refusedBy ok (accelerationAnswer b s t P) ≡ true
+  -- the call by 1, 4, 14, 3, 6 or 7 alone
+  pub acceleration-refused : ok 1 ≡ true → ok 4 ≡ true → ok 14 ≡ true → ok 3 ≡ true → (b : List ℕ) (s : Setting) (c t : ℕ) (P : Vector)
+      → refusedBy ok (accelerationAnswer b s c t P) ≡ true
   unfolding accelerationAnswer
-  acceleration-refused one four three b s t P =
+  acceleration-refused one four fourteen three b s c t P =
       let p = refusedBy ok in
       by-if p (not (passes b)) one
       (by-if p (not (settingAllowed s)) four
-      (by-if p (not (isMoment t)) three (by-if p (not (finiteVector P)) seven (rule-refused b s t P))))
+      (by-if p (not (centreAllowed s c)) fourteen
+      (by-if p (not (isMoment t)) three (by-if p (not (finiteVector P)) seven (rule-refused b s c t P)))))

@@ -1,5 +1,5 @@
--- The acceleration under the bodies as they were looked up is document 01's acceleration. Assumes nothing.
-use mathlib.Core.Bool.{Bool, true, false, _&&_, and-true, and-assoc}
+-- The acceleration under the bodies as they were looked up is document 01's acceleration, about the centre. Assumes nothing.
+use mathlib.Core.Bool.{Bool, true, false, _&&_, and-true, and-assoc, true≢false}
 use mathlib.Core.List.{List, [], _∷_}
 use mathlib.Core.Path.{_≡_, refl, sym, ap, _∙_}
 use Prim.Native.Nat.{ℕ, zero, suc}
@@ -8,7 +8,7 @@ use lib.Dec.{eqb·suc-zero}
 use borrow.Author.Tests.{ne-eqb}
 use native.Mathlib.Omega.{arith}
 use Rattle.basis.specs.Choice.{if_then_else_, _=?_}
-use Rattle.state.specs.State.{finiteVector, used}
+use Rattle.state.specs.State.{finiteVector, used, coefficientOf, centreAllowed}
 use Rattle.state.specs.declared.Vector.{Vector}
 use Rattle.state.specs.declared.Setting.{Setting}
 use Rattle.book.specs.Lookup.{lookup}
@@ -20,114 +20,187 @@ use Rattle.book.specs.declared.Lookup.{Lookup}
 use Rattle.book.specs.declared.Lookup.the-variants.{Entry, Nothing}
 use Rattle.book.specs.declared.PositionAnswer.{PositionAnswer}
 use Rattle.book.specs.declared.PositionAnswer.the-variants as position
-use Rattle.gravity.specs.Pull.{plus, minus, g, sound}
-use Rattle.gravity.specs.Acceleration.{Body, Sky, Bodies, Hidden, Listed, bodiesOf, standing, seen, skyOf, sky, less, allSound, settled, finished, accelerationAt}
-use Rattle.gravity.specs.Sight.{pullOf, blank, sightAt, sightBy, sightOf, sights, orLater, refusalOf, takenOff, lessBy, lessAll, vectorOf, startBy, listed, settledBy, finishedBy, accelerationBy, entryOr}
+use Rattle.gravity.specs.Pull.{plus, minus, negated, g, sound}
+use Rattle.gravity.specs.Acceleration.{Body, Sky, Bodies, Hidden, Listed, bodiesOf, standing, nowhere, atRest, stands, placeOf, seen, skyOf, sky, others, fromCentre, less, allSound, settled, finished, accelerationAt}
+use Rattle.gravity.specs.Sight.{pullOf, blank, foundAt, foundBy, foundOf, foundIn, placeIn, besides, otherOf, othersOf, sights, orLater, refusalOf, refusalIn, takenOff, lessBy, lessAll, vectorOf, startBy, listed, settledBy, finishedBy, accelerationBy, entryOr}
+use Rattle.gravity.proofs.Centres.{One, one, two, three, four, five, six, centreOne}
 use Rattle.gravity.specs.declared.AccelerationAnswer.{AccelerationAnswer}
 use Rattle.gravity.specs.declared.AccelerationAnswer.the-variants.{Is, Refused}
 use Rattle.gravity.specs.declared.Pull.{Pull}
 use Rattle.gravity.specs.declared.Sight.{Sight}
+use Rattle.gravity.specs.declared.Other.{Other}
 use Rattle.gravity.specs.declared.Sights.{Sights}
 
 -- ---- by the refusal: none, or some
 
-pub clear : (P : Vector) (sum : Pull) (ss : List Sight) → refusalOf ss ≡ 0 → finishedBy P sum ss ≡ settledBy (lessAll P sum ss)
-clear P sum ss e = rw e
+pub clear : (s : Sights) (P : Vector) → s .refusal ≡ 0 → accelerationBy s P ≡ settledBy (lessAll P (startBy P (s .own)) (listed (s .others)))
+unfolding accelerationBy
+clear s P e = rw e
 
-pub refused : (P : Vector) (sum : Pull) (ss : List Sight) → (refusalOf ss ≡ 0 → ⊥) → finishedBy P sum ss ≡ Refused (refusalOf ss)
-refused P sum ss h = rw (ne-eqb (refusalOf ss) 0 h)
+pub refused : (s : Sights) (P : Vector) → (s .refusal ≡ 0 → ⊥) → accelerationBy s P ≡ Refused (s .refusal)
+unfolding accelerationBy
+refused s P h = rw (ne-eqb (s .refusal) 0 h)
 
 -- ---- the three ways in which a body can be looked up
 
 data Looked (b : List ℕ) (number : ℕ) (m : Float) (t : ℕ) : Sight → Type 0 where
   unused : used m ≡ false → Looked b number m t (blank m 0)
-  hidden : (k : ℕ) → used m ≡ true → bodyAt b number t ≡ position.Refused (suc k) → Looked b number m t (blank m (suc k))
-  there : (R : Motion) (i : ℕ) → used m ≡ true → bodyAt b number t ≡ position.At R → lookup b number t ≡ Entry i
-      → Looked b number m t (record { refusal = 0; entry = i; m = m; place = standing (R .place); pull = pullOf (standing (R .place)) m })
+  hidden : (k : ℕ) → used m ≡ true → stands b number t ≡ position.Refused (suc k) → Looked b number m t (blank m (suc k))
+  there : (M : Motion) (i : ℕ) → used m ≡ true → stands b number t ≡ position.At M
+      → Looked b number m t (record { refusal = 0; entry = i; m = m; place = standing (M .place) })
 
-looked : (b : List ℕ) (number : ℕ) (m : Float) (t : ℕ) → Looked b number m t (sightOf b number m t)
-unfolding sightOf
-looked b number m t = go (used m) refl
-  where
-    at : used m ≡ true → (i : ℕ) (ok slow : Bool) → lookup b number t ≡ Entry i → finiteVector (standing (place b i t)) ≡ ok → finiteVelocity (velocity b i t) ≡ slow
-        → Looked b number m t (sightAt (place b i t) (finiteVelocity (velocity b i t)) i m)
-    at u i true true l e v = rw (e, v) (there (record { place = place b i t; velocity = velocity b i t }) i u (at-place b number t i l e v) l)
-    at u i true false l e v = rw (e, v) (hidden 6 u (too-fast b number t i l e v))
-    at u i false slow l e v = rw e (hidden 6 u (not-finite b number t i l e))
+-- the Earth stands where it is seen from; another body has to be looked up
+sightOf : List ℕ → ℕ → Listed → Sight
+sightOf b t body = if body .number =? 1 then blank (body .m) 0 else foundOf b (body .number) (body .m) t
 
-    by : used m ≡ true → (l : Lookup) → lookup b number t ≡ l → Looked b number m t (sightBy b m t l)
-    by u Nothing e = hidden 5 u (no-cover b number t e)
-    by u (Entry i) e = at u i (finiteVector (standing (place b i t))) (finiteVelocity (velocity b i t)) e refl refl
+module _ (b : List ℕ) (number : ℕ) (m : Float) (t : ℕ) where
+  found : (number =? 1) ≡ false → Looked b number m t (foundOf b number m t)
+  unfolding foundOf
+  found far = go (used m) refl
+    where
+      is : {p : PositionAnswer} → bodyAt b number t ≡ p → stands b number t ≡ p
+      is e = rw far e
 
-    go : (u : Bool) → used m ≡ u → Looked b number m t (if u then sightBy b m t (lookup b number t) else blank m 0)
-    go true u = by u (lookup b number t) refl
-    go false u = unused u
+      at : used m ≡ true → (i : ℕ) (ok slow : Bool) → lookup b number t ≡ Entry i → finiteVector (standing (place b i t)) ≡ ok → finiteVelocity (velocity b i t) ≡ slow
+          → Looked b number m t (foundAt (place b i t) (finiteVelocity (velocity b i t)) i m)
+      at u i true true l e v = rw (e, v) (there (record { place = place b i t; velocity = velocity b i t }) i u (is (at-place b number t i l e v)))
+      at u i true false l e v = rw (e, v) (hidden 6 u (is (too-fast b number t i l e v)))
+      at u i false slow l e v = rw e (hidden 6 u (is (not-finite b number t i l e)))
+
+      by : used m ≡ true → (l : Lookup) → lookup b number t ≡ l → Looked b number m t (foundBy b m t l)
+      by u Nothing e = hidden 5 u (is (no-cover b number t e))
+      by u (Entry i) e = at u i (finiteVector (standing (place b i t))) (finiteVelocity (velocity b i t)) e refl refl
+
+      go : (u : Bool) → used m ≡ u → Looked b number m t (if u then foundBy b m t (lookup b number t) else blank m 0)
+      go true u = by u (lookup b number t) refl
+      go false u = unused u
+
+  earth : (number =? 1) ≡ true → Looked b number m t (blank m 0)
+  earth near = go (used m) refl
+    where
+      go : (u : Bool) → used m ≡ u → Looked b number m t (blank m 0)
+      go true u = there atRest 0 u (rw near)
+      go false u = unused u
+
+  looked : Looked b number m t (if number =? 1 then blank m 0 else foundOf b number m t)
+  looked = go (number =? 1) refl
+    where
+      go : (near : Bool) → (number =? 1) ≡ near → Looked b number m t (if near then blank m 0 else foundOf b number m t)
+      go true near = earth near
+      go false near = found near
+
+  -- where a used body is seen is where it stands
+  placed : used m ≡ true → (s : Sight) → Looked b number m t s → s .place ≡ placeOf (stands b number t)
+  placed u s (unused n) = let z : true ≡ false = sym u ∙ n in absurd (true≢false z)
+  placed u s (hidden k e f) = rw f
+  placed u s (there M i e f) = rw f
 
 -- ---- body by body
 
-lessUsed : (P : Vector) (sum : Pull) (s : Sight) → used (s .m) ≡ true → lessBy P sum s ≡ takenOff sum (pullOf (minus P (s .place)) (s .m)) (s .pull)
-unfolding lessBy
-lessUsed P sum s u = rw u
+lessUsed : (P : Vector) (sum : Pull) (C : Vector) (s : Sight) → used (s .m) ≡ true
+    → lessBy P sum (otherOf C s) ≡ takenOff sum (pullOf (minus P (minus (s .place) C)) (s .m)) (pullOf (minus (s .place) C) (s .m))
+unfolding lessBy otherOf
+lessUsed P sum C s u = rw (u, u)
 
-lessUnused : (P : Vector) (sum : Pull) (s : Sight) → used (s .m) ≡ false → lessBy P sum s ≡ sum
-unfolding lessBy
-lessUnused P sum s u = rw u
+lessUnused : (P : Vector) (sum : Pull) (C : Vector) (s : Sight) → used (s .m) ≡ false → lessBy P sum (otherOf C s) ≡ sum
+unfolding lessBy otherOf
+lessUnused P sum C s u = rw (u, u)
 
--- a body that is there: the rest goes on from the sum with this body taken off
-onward : (P : Vector) (ok : Bool) (a : Vector) (m : Float) (M : Motion) (later : Sky)
-    → finished P ok a (seen m (position.At M) later)
-    ≡ finished P ((ok && sound (minus P (standing (M .place)))) && sound (standing (M .place))) (minus a (plus (g (minus P (standing (M .place))) m) (g (standing (M .place)) m))) later
-onward P ok a m M (Bodies bs) =
-    let R = standing (M .place) in
+-- a body that is there: the rest goes on from the sum with this body taken off, unless it is the centre
+onward : (P : Vector) (ok : Bool) (a : Vector) (centre : ℕ) (C : Vector) (body : Listed) (M : Motion) (later : Sky) → (body .number =? centre) ≡ false
+    → finished P ok a (fromCentre centre C (seen body (position.At M) later))
+    ≡ finished P ((ok && sound (minus P (minus (standing (M .place)) C))) && sound (minus (standing (M .place)) C))
+    (minus a (plus (g (minus P (minus (standing (M .place)) C)) (body .m)) (g (minus (standing (M .place)) C) (body .m)))) (fromCentre centre C later)
+onward P ok a centre C body M (Bodies bs) far =
+    let R = minus (standing (M .place)) C in
     let A = sound (minus P R) in
     let B = sound R in
-    ap (λ (t : Bool). settled t (less P (minus a (plus (g (minus P R) m) (g R m))) bs))
-    (sym (and-assoc ok (A && B) (allSound P bs)) ∙ ap (λ (t : Bool). t && allSound P bs) (sym (and-assoc ok A B)))
-onward P ok a m M (Hidden k) = refl
+    let bs' = others centre C bs in
+    rw far
+    (ap (λ (t : Bool). settled t (less P (minus a (plus (g (minus P R) (body .m)) (g R (body .m)))) bs'))
+    (sym (and-assoc ok (A && B) (allSound P bs')) ∙ ap (λ (t : Bool). t && allSound P bs') (sym (and-assoc ok A B))))
+onward P ok a centre C body M (Hidden k) far = refl
+
+itself : (P : Vector) (ok : Bool) (a : Vector) (centre : ℕ) (C : Vector) (body : Listed) (M : Motion) (later : Sky) → (body .number =? centre) ≡ true
+    → finished P ok a (fromCentre centre C (seen body (position.At M) later)) ≡ finished P ok a (fromCentre centre C later)
+itself P ok a centre C body M (Bodies bs) near = rw near
+itself P ok a centre C body M (Hidden k) near = refl
 
 sightsOf : List ℕ → ℕ → List Listed → List Sight
 sightsOf b t [] = []
-sightsOf b t (body ∷ rest) = sightOf b (body .number) (body .m) t ∷ sightsOf b t rest
+sightsOf b t (body ∷ rest) = sightOf b t body ∷ sightsOf b t rest
 
-module _ (b : List ℕ) (t : ℕ) (P : Vector) where
+-- the bodies beside the centre, as the code sees them
+othersBy : List ℕ → ℕ → ℕ → Vector → List Listed → List Other
+othersBy b t centre C [] = []
+othersBy b t centre C (body ∷ rest) =
+    if body .number =? centre then othersBy b t centre C rest else otherOf C (sightOf b t body) ∷ othersBy b t centre C rest
+
+module _ (b : List ℕ) (t : ℕ) (P : Vector) (centre : ℕ) (C : Vector) where
+  Agree : List Listed → Pull → Type 0
+  Agree bodies sum =
+      finishedBy P sum (refusalOf (sightsOf b t bodies)) (othersBy b t centre C bodies)
+      ≡ finished P (sum .sound) (vectorOf sum) (fromCentre centre C (skyOf b t bodies))
+
   -- a body and those after it, where those after it are known to agree
-  oneMore : (body : Listed) (rest : List Listed) (sum : Pull)
-      → ((s : Pull) → finishedBy P s (sightsOf b t rest) ≡ finished P (s .sound) (vectorOf s) (skyOf b t rest))
-      → (s : Sight)
-      → Looked b (body .number) (body .m) t s
-      → finishedBy P sum (s ∷ sightsOf b t rest) ≡ finished P (sum .sound) (vectorOf sum) (skyOf b t (body ∷ rest))
-  unfolding refusalOf pullOf
-  oneMore body rest sum later s (unused u) =
-      rw u (ap (λ (p : Pull). finishedBy P p (sightsOf b t rest)) (lessUnused P sum s u) ∙ later sum)
-  oneMore body rest sum later s (hidden k u e) =
-      let first : refusalOf (s ∷ sightsOf b t rest) ≡ suc k = rw eqb·suc-zero in
-      rw (u, e) (refused P sum (s ∷ sightsOf b t rest) (λ z. absurd (omega arith)) ∙ ap Refused first)
-  oneMore body rest sum later s (there R i u e l) =
-      rw (u, e)
-      (ap (λ (p : Pull). finishedBy P p (sightsOf b t rest)) (lessUsed P sum s u)
-      ∙ later (takenOff sum (pullOf (minus P (s .place)) (s .m)) (s .pull))
-      ∙ sym (onward P (sum .sound) (vectorOf sum) (body .m) R (skyOf b t rest)))
+  module _ (body : Listed) (rest : List Listed) (later : (s : Pull) → Agree rest s) where
+    oneMore : (near : Bool) → (body .number =? centre) ≡ near → (sum : Pull) (s : Sight) → Looked b (body .number) (body .m) t s
+        → finishedBy P sum (orLater (s .refusal) (refusalOf (sightsOf b t rest)))
+        (if near then othersBy b t centre C rest else otherOf C s ∷ othersBy b t centre C rest)
+        ≡ finished P (sum .sound) (vectorOf sum) (fromCentre centre C (skyOf b t (body ∷ rest)))
+    unfolding Agree pullOf
+    oneMore true near sum s (unused u) = rw u (later sum)
+    oneMore false near sum s (unused u) =
+        rw u (ap (λ (p : Pull). finishedBy P p (refusalOf (sightsOf b t rest)) (othersBy b t centre C rest)) (lessUnused P sum C s u) ∙ later sum)
+    oneMore near far sum s (hidden k u e) = rw (u, e, eqb·suc-zero, eqb·suc-zero)
+    oneMore true near sum s (there M i u e) =
+        rw (u, e) (later sum ∙ sym (itself P (sum .sound) (vectorOf sum) centre C body M (skyOf b t rest) near))
+    oneMore false near sum s (there M i u e) =
+        let R = minus (standing (M .place)) C in
+        rw (u, e)
+        (ap (λ (p : Pull). finishedBy P p (refusalOf (sightsOf b t rest)) (othersBy b t centre C rest)) (lessUsed P sum C s u)
+        ∙ later (takenOff sum (pullOf (minus P R) (body .m)) (pullOf R (body .m)))
+        ∙ sym (onward P (sum .sound) (vectorOf sum) centre C body M (skyOf b t rest) near))
 
-  byList : (bodies : List Listed) (sum : Pull)
-      → finishedBy P sum (sightsOf b t bodies) ≡ finished P (sum .sound) (vectorOf sum) (skyOf b t bodies)
-  unfolding refusalOf sightsOf
+  byList : (bodies : List Listed) (sum : Pull) → Agree bodies sum
+  unfolding Agree refusalOf sightsOf othersBy sightOf
   byList [] sum = ap (λ (ok : Bool). settled ok (vectorOf sum)) (sym (and-true (sum .sound)))
-  byList (body ∷ rest) sum = oneMore body rest sum (byList rest) _ (looked b (body .number) (body .m) t)
+  byList (body ∷ rest) sum =
+      oneMore body rest (byList rest) (body .number =? centre) refl sum _ (looked b (body .number) (body .m) t)
 
-pub underIs : (b : List ℕ) (s : Setting) (t : ℕ) (P : Vector) → accelerationBy (sights b s t) (s .earth) P ≡ accelerationAt b s t P
-unfolding accelerationBy sights accelerationAt sky sightsOf pullOf
-underIs b s t P = byList b t P (bodiesOf s) (startBy P (s .earth))
+-- ---- about each of the six centres
+
+module _ (b : List ℕ) (s : Setting) (t : ℕ) (P : Vector) where
+  about : (c : ℕ) (own : Float) → placeIn (foundIn b s t) c ≡ placeOf (stands b c t)
+      → finishedBy P (startBy P own) (refusalOf (sightsOf b t (bodiesOf s))) (othersBy b t c (placeIn (foundIn b s t) c) (bodiesOf s))
+      ≡ finished P (sound P) (negated (g P own)) (fromCentre c (placeOf (stands b c t)) (skyOf b t (bodiesOf s)))
+  unfolding Agree pullOf
+  about c own e =
+      byList b t P c (placeIn (foundIn b s t) c) (bodiesOf s) (startBy P own)
+      ∙ ap (λ (C : Vector). finished P (sound P) (negated (g P own)) (fromCentre c C (skyOf b t (bodiesOf s)))) e
+
+  pub underIs : (c : ℕ) → centreAllowed s c ≡ true → accelerationBy (sights b s c t) P ≡ accelerationAt b s c t P
+  unfolding accelerationBy sights accelerationAt sky sightsOf othersBy sightOf refusalIn foundIn besides othersOf placeIn coefficientOf centreAllowed refusalOf
+  underIs c ok = go c (centreOne s c ok) ok
+    where
+      go : (c : ℕ) → One c → centreAllowed s c ≡ true → accelerationBy (sights b s c t) P ≡ accelerationAt b s c t P
+      go c one u = about 1 (s .earth) refl
+      go c two u = about 2 (s .moon) (placed b 2 (s .moon) t u _ (found b 2 (s .moon) t refl))
+      go c three u = about 3 (s .sun) (placed b 3 (s .sun) t u _ (found b 3 (s .sun) t refl))
+      go c four u = about 4 (s .venus) (placed b 4 (s .venus) t u _ (found b 4 (s .venus) t refl))
+      go c five u = about 5 (s .mars) (placed b 5 (s .mars) t u _ (found b 5 (s .mars) t refl))
+      go c six u = about 6 (s .jupiter) (placed b 6 (s .jupiter) t u _ (found b 6 (s .jupiter) t refl))
 
 -- ---- what an accepted acceleration tells of the bodies
 
-pub isClear : (s : Sights) (earth : Float) (P a : Vector) → accelerationBy s earth P ≡ Is a → refusalOf (listed s) ≡ 0
+pub isClear : (s : Sights) (P a : Vector) → accelerationBy s P ≡ Is a → s .refusal ≡ 0
 unfolding accelerationBy
-isClear s earth P a e = go (refusalOf (listed s)) refl
+isClear s P a e = go (s .refusal) refl
   where
-    go : (k : ℕ) → refusalOf (listed s) ≡ k → k ≡ 0
+    go : (k : ℕ) → s .refusal ≡ k → k ≡ 0
     go zero r = refl
     go (suc k) r =
-        let no = refused P (startBy P earth) (listed s) (λ z. absurd (omega arith)) in
+        let no = refused s P (λ z. absurd (omega arith)) in
         let z : _≡_ {A = ℕ} 0 1 = cc in
         absurd (omega arith)
 
@@ -145,12 +218,23 @@ allClear [] e = tt
 allClear (s ∷ rest) e = let f = firstClear (s .refusal) (refusalOf rest) e in (f .0, allClear rest (f .1))
 
 -- a body's guess from where it was seen is the covering entry
-pub seenEntry : (b : List ℕ) (number : ℕ) (m : Float) (t given : ℕ) → (sightOf b number m t) .refusal ≡ 0
-    → (if used ((sightOf b number m t) .m) then (sightOf b number m t) .entry else given) ≡ (if used m then entryOr given (lookup b number t) else given)
-seenEntry b number m t given = go (sightOf b number m t) (looked b number m t)
+pub seenEntry : (b : List ℕ) (number : ℕ) (m : Float) (t given : ℕ) → (foundOf b number m t) .refusal ≡ 0
+    → (if used m then (foundOf b number m t) .entry else given) ≡ (if used m then entryOr given (lookup b number t) else given)
+unfolding foundOf
+seenEntry b number m t given = go (used m)
   where
-    go : (s : Sight) → Looked b number m t s → s .refusal ≡ 0
-        → (if used (s .m) then s .entry else given) ≡ (if used m then entryOr given (lookup b number t) else given)
-    go s (unused u) r = rw u
-    go s (hidden k u e) r = absurd (omega arith)
-    go s (there R i u e l) r = rw (u, l)
+    at : (i : ℕ) (ok slow : Bool) → finiteVector (standing (place b i t)) ≡ ok
+        → foundAt (place b i t) slow i m .refusal ≡ 0 → foundAt (place b i t) slow i m .entry ≡ i
+    at i true true e r = rw e
+    at i true false e r = let z : _≡_ {A = ℕ} 7 0 = rw e at r in absurd (omega arith)
+    at i false slow e r = let z : _≡_ {A = ℕ} 7 0 = rw e at r in absurd (omega arith)
+
+    by : (l : Lookup) → (foundBy b m t l) .refusal ≡ 0 → (foundBy b m t l) .entry ≡ entryOr given l
+    by Nothing r = absurd (omega arith)
+    by (Entry i) r = at i (finiteVector (standing (place b i t))) (finiteVelocity (velocity b i t)) refl r
+
+    go : (u : Bool) → (if u then foundBy b m t (lookup b number t) else blank m 0) .refusal ≡ 0
+        → (if u then (if u then foundBy b m t (lookup b number t) else blank m 0) .entry else given)
+        ≡ (if u then entryOr given (lookup b number t) else given)
+    go true r = by (lookup b number t) r
+    go false r = refl

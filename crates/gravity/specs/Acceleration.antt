@@ -1,16 +1,18 @@
--- Document 01, "Setting, state, acceleration": the bodies looked up, and the acceleration that they give.
+-- Document 01, "Setting, state, acceleration", and document 02, R-6: the bodies looked up, and the acceleration that they give about a centre.
 use mathlib.Core.Bool.{Bool, true, not, _&&_}
 use mathlib.Core.List.{List, [], _∷_}
 use Prim.Native.Nat.{ℕ}
 use lib.Ieee.{Float}
-use Rattle.basis.specs.Choice.{if_then_else_}
+use Rattle.basis.specs.Choice.{if_then_else_, _=?_}
+use Rattle.basis.specs.Floats.{zero64}
 use Rattle.basis.specs.Limits.{isMoment}
-use Rattle.state.specs.State.{finiteVector, used, settingAllowed}
+use Rattle.state.specs.State.{finiteVector, used, settingAllowed, coefficientOf, centreAllowed}
 use Rattle.state.specs.declared.Vector.{Vector}
 use Rattle.state.specs.declared.Setting.{Setting}
 use Rattle.book.specs.Passes.{passes}
 use Rattle.book.specs.Position.{bodyAt}
 use Rattle.series.specs.declared.Place.{Place}
+use Rattle.series.specs.declared.Velocity.{Velocity}
 use Rattle.book.specs.declared.Motion.{Motion}
 use Rattle.book.specs.declared.PositionAnswer.{PositionAnswer}
 use Rattle.book.specs.declared.PositionAnswer.the-variants.{At, Refused}
@@ -18,12 +20,13 @@ use Rattle.gravity.specs.Pull.{plus, minus, negated, g, sound}
 use Rattle.gravity.specs.declared.AccelerationAnswer.{AccelerationAnswer}
 use Rattle.gravity.specs.declared.AccelerationAnswer.the-variants as answer
 
--- a body that pulls: its coefficient m, and R, where it stands
+-- a body that pulls: its number, its coefficient m, and R, where it stands
 pub record Body : Type 0 where
+  pub number : ℕ
   pub m : Float
   pub R : Vector
 
--- the used bodies from 2 on, or the number with which one of them is refused
+-- the used bodies, or the number with which one of them is refused
 pub data Sky : Type 0 where
   Bodies : List Body → Sky
   Hidden : ℕ → Sky
@@ -31,26 +34,37 @@ pub data Sky : Type 0 where
 abbrev pub standing : Place → Vector
 standing p = record { x = p .x; y = p .y; z = p .z }
 
--- one body's answer before the bodies after it: the first refusal counts
-abbrev pub seen : Float → PositionAnswer → Sky → Sky
-seen m (At R) (Bodies later) = Bodies (record { m = m; R = standing (R .place) } ∷ later)
-seen m (At R) (Hidden k) = Hidden k
-seen m (Refused k) later = Hidden k
+abbrev pub nowhere : Vector
+nowhere = record { x = zero64; y = zero64; z = zero64 }
+
+-- position and velocity from the Earth: "the Earth's is zero", and it needs no cover
+abbrev pub atRest : Motion
+atRest = record { place = record { x = zero64; y = zero64; z = zero64 }; velocity = record { x = zero64; y = zero64; z = zero64 } }
+
+abbrev pub stands : List ℕ → ℕ → ℕ → PositionAnswer
+stands b number t = if number =? 1 then At atRest else bodyAt b number t
 
 -- a body of the setting: its number and its coefficient
 pub record Listed : Type 0 where
   pub number : ℕ
   pub m : Float
 
+-- one body's answer before the bodies after it: the first refusal counts
+abbrev pub seen : Listed → PositionAnswer → Sky → Sky
+seen body (At M) (Bodies later) = Bodies (record { number = body .number; m = body .m; R = standing (M .place) } ∷ later)
+seen body (At M) (Hidden k) = Hidden k
+seen body (Refused k) later = Hidden k
+
 -- "looked up in rising number first, each for cover (6), then for a finite position (7)"; and, document 02, R-5, for a finite velocity (7)
 abbrev pub skyOf : List ℕ → ℕ → List Listed → Sky
 skyOf b t [] = Bodies []
-skyOf b t (body ∷ rest) = if used (body .m) then seen (body .m) (bodyAt b (body .number) t) (skyOf b t rest) else skyOf b t rest
+skyOf b t (body ∷ rest) = if used (body .m) then seen body (stands b (body .number) t) (skyOf b t rest) else skyOf b t rest
 
--- "2 Moon, 3 Sun, 4 Venus, 5 Mars, 6 Jupiter"
+-- "1 Earth, 2 Moon, 3 Sun, 4 Venus, 5 Mars, 6 Jupiter"
 abbrev pub bodiesOf : Setting → List Listed
 bodiesOf s =
-    record { number = 2; m = s .moon }
+    record { number = 1; m = s .earth }
+    ∷ record { number = 2; m = s .moon }
     ∷ record { number = 3; m = s .sun }
     ∷ record { number = 4; m = s .venus }
     ∷ record { number = 5; m = s .mars }
@@ -59,6 +73,26 @@ bodiesOf s =
 
 unfoldable pub sky : List ℕ → Setting → ℕ → Sky
 sky b s t = skyOf b t (bodiesOf s)
+
+-- "every other used body, the Earth included, in rising number, at its position less the centre's": C is where the centre stands
+abbrev pub others : ℕ → Vector → List Body → List Body
+others centre C [] = []
+others centre C (body ∷ rest) =
+    if body .number =? centre then others centre C rest else
+    record { number = body .number; m = body .m; R = minus (body .R) C } ∷ others centre C rest
+
+abbrev pub fromCentre : ℕ → Vector → Sky → Sky
+fromCentre centre C (Bodies bodies) = Bodies (others centre C bodies)
+fromCentre centre C (Hidden k) = Hidden k
+
+-- the centre's position; of a centre that is refused none is asked for
+abbrev pub placeOf : PositionAnswer → Vector
+placeOf (At M) = standing (M .place)
+placeOf (Refused k) = nowhere
+
+-- the bodies beside the centre, seen from it
+abbrev pub skyAbout : List ℕ → Setting → ℕ → ℕ → Sky
+skyAbout b s centre t = fromCentre centre (placeOf (stands b centre t)) (sky b s t)
 
 -- "For each used body .. at R: subtract, component by component, g(P - R, m) + g(R, m)"
 abbrev pub less : Vector → Vector → List Body → Vector
@@ -79,15 +113,16 @@ abbrev pub finished : Vector → Bool → Vector → Sky → AccelerationAnswer
 finished P ok a (Bodies bodies) = settled (ok && allSound P bodies) (less P a bodies)
 finished P ok a (Hidden k) = answer.Refused k
 
--- "Acceleration at position P: start with -g(P, Earth)"
-unfoldable pub accelerationAt : List ℕ → Setting → ℕ → Vector → AccelerationAnswer
-accelerationAt b s t P = finished P (sound P) (negated (g P (s .earth))) (sky b s t)
+-- "Acceleration at position P: start with -g(P, Earth)", and document 02, R-6: "the centre's own pull", then every other used body
+unfoldable pub accelerationAt : List ℕ → Setting → ℕ → ℕ → Vector → AccelerationAnswer
+accelerationAt b s centre t P = finished P (sound P) (negated (g P (coefficientOf s centre))) (skyAbout b s centre t)
 
--- "Acceleration: 1, 4, 3, 7 (position), then its own rule"
-unfoldable pub accelerationAnswer : List ℕ → Setting → ℕ → Vector → AccelerationAnswer
-accelerationAnswer b s t P =
+-- "Acceleration: 1, 4, 3, 7 (position), then its own rule"; R-6: 14 "directly after 4"
+unfoldable pub accelerationAnswer : List ℕ → Setting → ℕ → ℕ → Vector → AccelerationAnswer
+accelerationAnswer b s centre t P =
     if not (passes b) then answer.Refused 1 else
     if not (settingAllowed s) then answer.Refused 4 else
+    if not (centreAllowed s centre) then answer.Refused 14 else
     if not (isMoment t) then answer.Refused 3 else
     if not (finiteVector P) then answer.Refused 7 else
-    accelerationAt b s t P
+    accelerationAt b s centre t P

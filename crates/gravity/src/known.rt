@@ -1,166 +1,178 @@
-// The bodies at a moment, and the acceleration under them. These functions are for a book that is known to pass: the
-// crates above call them once they have checked it.
+// The bodies at a moment about a centre, and the acceleration under them. These functions are for a book that is known to pass:
+// the crates above call them once they have checked it.
 
 use crate::AccelerationAnswer;
+use crate::Besides;
+use crate::Found;
 use crate::Guesses;
+use crate::Other;
+use crate::Others;
 use crate::Pull;
 use crate::Sight;
 use crate::Sights;
+use crate::looked::blank_sight;
+use crate::looked::found_in;
+use crate::looked::refusal_of;
+pub use crate::pulls::difference;
 use crate::pulls::less;
 use crate::pulls::near_sum;
 use crate::pulls::pull;
 use crate::pulls::two_pulls;
-use book::Lookup;
-use book::Place;
 use state::Setting;
 use state::Vector;
 ghost use mathlib.Core.Path.{_≡_};
+ghost use Rattle.basis.specs.Choice.{if_then_else_};
 ghost use Rattle.book.specs.Calm.{Ready};
-ghost use Rattle.gravity.specs.Sight.{blank, foundAt, foundOf, withPull, sightOf, sights, orLater, refusalOf, settledBy, listed, accelerationBy};
+ghost use Rattle.gravity.specs.Sight.{placeIn, besides, otherBy, otherOf, othersOf, entriesOf, sights, settledBy, accelerationBy};
 
-fn blank_sight(m: f64, refusal: u64) -> Sight
-    ensures { λ r. ⌜ r ≡ blank m refusal ⌝ }
-{
-    let place = Vector {
-        x: 0.0,
-        y: 0.0,
-        z: 0.0,
-    };
-    let pull = Pull {
-        x: 0.0,
-        y: 0.0,
-        z: 0.0,
-        sound: true,
-    };
-    Sight {
-        refusal,
-        entry: 0,
-        m,
-        place,
-        pull,
-    }
-}
-
-// A body that an entry puts at p; `slow` where its velocity is finite.
-fn found_at(p: Place, slow: bool, entry: usize, m: f64) -> Sight
-    ensures { λ r. ⌜ r ≡ foundAt p slow entry m ⌝ }
-{
-    let place = Vector {
-        x: p.x,
-        y: p.y,
-        z: p.z,
-    };
-    if state::vector_is_finite(place) {
-        if slow {
-            let blank = blank_sight(m, 0);
-            let pull = blank.pull;
-            return Sight {
-                refusal: 0,
-                entry,
-                m,
-                place,
-                pull,
-            };
-        }
-        return blank_sight(m, 7);
-    }
-    blank_sight(m, 7)
-}
-
-// A body as it is looked up. `calm` is told only of a book in which no velocity can overflow.
-fn found(book: &[u8], number: u64, m: f64, moment: u64, guess: u64, calm: bool) -> Sight
-    requires { ⌜ Ready (now book) calm ⌝ }
-    ensures { λ r. ⌜ r ≡ foundOf (now (book .entry)) number m moment ⌝ }
-{
-    if 0.0 < m {
-        let Lookup::Entry(entry) = book::known::lookup_guessed(book, number, moment, guess as usize)
-        else {
-            return blank_sight(m, 6);
-        };
-        let place = book::known::place_at(book, entry, moment);
-        let slow = book::known::slow_at(book, entry, moment, calm);
-        return found_at(place, slow, entry, m);
-    }
-    blank_sight(m, 0)
-}
-
-fn with_pull(s: Sight, pull: Pull) -> Sight
-    ensures { λ r. ⌜ r ≡ withPull s pull ⌝ }
-{
-    if 0.0 < s.m {
-        if s.refusal == 0 {
-            let place = s.place;
-            return Sight {
-                refusal: s.refusal,
-                entry: s.entry,
-                m: s.m,
-                place,
-                pull,
-            };
-        }
-    }
-    s
-}
-
-fn sight(book: &[u8], number: u64, coefficient: f64, moment: u64, guess: u64, calm: bool) -> Sight
-    requires { ⌜ Ready (now book) calm ⌝ }
-    ensures { λ r. ⌜ r ≡ sightOf (now (book .entry)) number coefficient moment ⌝ }
-{
-    let there = found(book, number, coefficient, moment, guess, calm);
-    if 0.0 < coefficient {
-        let place = there.place;
-        return with_pull(there, pull(place, coefficient));
-    }
-    there
-}
-
-// The bodies' own pulls on the Earth are worked out here, once for the moment: those of the first two, which are almost always
-// used, side by side.
-pub fn sights_at(book: &[u8], setting: Setting, moment: u64, guesses: Guesses, calm: bool) -> Sights
-    requires { ⌜ Ready (now book) calm ⌝ }
-    ensures { λ r. ⌜ r ≡ sights (now (book .entry)) setting moment ⌝ }
-{
-    let found_moon = found(book, 2, setting.moon, moment, guesses.moon, calm);
-    let found_sun = found(book, 3, setting.sun, moment, guesses.sun, calm);
-    let moon_place = found_moon.place;
-    let sun_place = found_sun.place;
-    let pulls = two_pulls(moon_place, setting.moon, sun_place, setting.sun);
-    let by_moon = pulls.first;
-    let by_sun = pulls.second;
-    let moon = with_pull(found_moon, by_moon);
-    let sun = with_pull(found_sun, by_sun);
-    let venus = sight(book, 4, setting.venus, moment, guesses.venus, calm);
-    let mars = sight(book, 5, setting.mars, moment, guesses.mars, calm);
-    let jupiter = sight(book, 6, setting.jupiter, moment, guesses.jupiter, calm);
-    Sights {
-        moon,
-        sun,
-        venus,
-        mars,
-        jupiter,
-    }
-}
-
-fn or_later(k: u64, later: u64) -> u64
-    ensures { λ r. ⌜ r ≡ orLater k later ⌝ }
-{
-    if k == 0 { later } else { k }
-}
-
-// The number of the first body refused, 0 where there is none.
-fn refusal_of(bodies: Sights) -> u64
-    ensures { λ r. ⌜ r ≡ refusalOf (listed bodies) ⌝ }
+// Where the centre stands, seen from the Earth.
+fn centre_place(centre: u64, bodies: Found) -> Vector
+    ensures { λ r. ⌜ r ≡ placeIn bodies centre ⌝ }
 {
     let moon = bodies.moon;
     let sun = bodies.sun;
     let venus = bodies.venus;
     let mars = bodies.mars;
     let jupiter = bodies.jupiter;
-    let last = or_later(mars.refusal, or_later(jupiter.refusal, 0));
-    or_later(
-        moon.refusal,
-        or_later(sun.refusal, or_later(venus.refusal, last)),
-    )
+    match centre {
+        2 => moon.place,
+        3 => sun.place,
+        4 => venus.place,
+        5 => mars.place,
+        6 => jupiter.place,
+        _ => Vector {
+            x: 0.0,
+            y: 0.0,
+            z: 0.0,
+        },
+    }
+}
+
+fn either(a: bool, x: Sight, y: Sight) -> Sight
+    ensures { λ r. ⌜ r ≡ (if a then x else y) ⌝ }
+{
+    if a { x } else { y }
+}
+
+// The bodies other than the centre, in rising number.
+fn beside(centre: u64, earth: Sight, bodies: Found) -> Besides
+    ensures { λ r. ⌜ r ≡ besides centre earth bodies ⌝ }
+{
+    let moon = bodies.moon;
+    let sun = bodies.sun;
+    let venus = bodies.venus;
+    let mars = bodies.mars;
+    let jupiter = bodies.jupiter;
+    let first = either(centre <= 1, moon, earth);
+    let second = either(centre <= 2, sun, moon);
+    let third = either(centre <= 3, venus, sun);
+    let fourth = either(centre <= 4, mars, venus);
+    let fifth = either(centre <= 5, jupiter, mars);
+    Besides {
+        first,
+        second,
+        third,
+        fourth,
+        fifth,
+    }
+}
+
+// A body that pulls the centre by so much, if it is used.
+fn other_by(place: Vector, m: f64, by: Pull) -> Other
+    ensures { λ r. ⌜ r ≡ otherBy place m by ⌝ }
+{
+    if 0.0 < m {
+        return Other { m, place, pull: by };
+    }
+    let pull = Pull {
+        x: 0.0,
+        y: 0.0,
+        z: 0.0,
+        sound: true,
+    };
+    Other { m, place, pull }
+}
+
+fn other(c: Vector, b: Sight) -> Other
+    ensures { λ r. ⌜ r ≡ otherOf c b ⌝ }
+{
+    let place = difference(b.place, c);
+    if 0.0 < b.m {
+        return other_by(place, b.m, pull(place, b.m));
+    }
+    let none = Pull {
+        x: 0.0,
+        y: 0.0,
+        z: 0.0,
+        sound: true,
+    };
+    other_by(place, b.m, none)
+}
+
+// The bodies' pulls on the centre are worked out here, once for the moment: those of the first two, which are almost always
+// used, side by side.
+fn seen_from(c: Vector, bodies: Besides) -> Others
+    ensures { λ r. ⌜ r ≡ othersOf c bodies ⌝ }
+{
+    let a = bodies.first;
+    let b = bodies.second;
+    let a_place = difference(a.place, c);
+    let b_place = difference(b.place, c);
+    let pulls = two_pulls(a_place, a.m, b_place, b.m);
+    let by_a = pulls.first;
+    let by_b = pulls.second;
+    let first = other_by(a_place, a.m, by_a);
+    let second = other_by(b_place, b.m, by_b);
+    let third = other(c, bodies.third);
+    let fourth = other(c, bodies.fourth);
+    let fifth = other(c, bodies.fifth);
+    Others {
+        first,
+        second,
+        third,
+        fourth,
+        fifth,
+    }
+}
+
+fn entries_of(bodies: Found) -> Guesses
+    ensures { λ r. ⌜ r ≡ entriesOf bodies ⌝ }
+{
+    let moon = bodies.moon;
+    let sun = bodies.sun;
+    let venus = bodies.venus;
+    let mars = bodies.mars;
+    let jupiter = bodies.jupiter;
+    Guesses {
+        moon: moon.entry as u64,
+        sun: sun.entry as u64,
+        venus: venus.entry as u64,
+        mars: mars.entry as u64,
+        jupiter: jupiter.entry as u64,
+    }
+}
+
+pub fn sights_at(
+    book: &[u8],
+    setting: Setting,
+    centre: u64,
+    moment: u64,
+    guesses: Guesses,
+    calm: bool,
+) -> Sights
+    requires { ⌜ Ready (now book) calm ⌝ }
+    ensures { λ r. ⌜ r ≡ sights (now (book .entry)) setting centre moment ⌝ }
+{
+    let bodies = found_in(book, setting, moment, guesses, calm);
+    let earth = blank_sight(setting.earth, 0);
+    let c = centre_place(centre, bodies);
+    let others = seen_from(c, beside(centre, earth, bodies));
+    Sights {
+        refusal: refusal_of(bodies),
+        entries: entries_of(bodies),
+        own: state::coefficient_of(setting, centre),
+        others,
+    }
 }
 
 fn settle(sum: Pull) -> AccelerationAnswer
@@ -179,18 +191,18 @@ fn settle(sum: Pull) -> AccelerationAnswer
     AccelerationAnswer::Refused(7)
 }
 
-pub fn acceleration_under(bodies: Sights, earth: f64, p: Vector) -> AccelerationAnswer
-    ensures { λ r. ⌜ r ≡ accelerationBy bodies earth p ⌝ }
+pub fn acceleration_under(bodies: Sights, p: Vector) -> AccelerationAnswer
+    ensures { λ r. ⌜ r ≡ accelerationBy bodies p ⌝ }
 {
-    let refusal = refusal_of(bodies);
-    if refusal == 0 {
-        let moon = bodies.moon;
-        let sun = bodies.sun;
-        let venus = bodies.venus;
-        let mars = bodies.mars;
-        let jupiter = bodies.jupiter;
-        let sum = near_sum(p, earth, moon, sun);
-        return settle(less(p, less(p, less(p, sum, venus), mars), jupiter));
+    if bodies.refusal == 0 {
+        let others = bodies.others;
+        let first = others.first;
+        let second = others.second;
+        let third = others.third;
+        let fourth = others.fourth;
+        let fifth = others.fifth;
+        let sum = near_sum(p, bodies.own, first, second);
+        return settle(less(p, less(p, less(p, sum, third), fourth), fifth));
     }
-    AccelerationAnswer::Refused(refusal)
+    AccelerationAnswer::Refused(bodies.refusal)
 }

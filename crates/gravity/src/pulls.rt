@@ -1,7 +1,7 @@
 // The pull of one body, and sums of pulls.
 
+use crate::Other;
 use crate::Pull;
-use crate::Sight;
 use crate::ThreePulls;
 use crate::TwoPulls;
 use state::Vector;
@@ -94,7 +94,7 @@ fn turned_round(p: Pull) -> Pull
     }
 }
 
-fn difference(u: Vector, v: Vector) -> Vector
+pub fn difference(u: Vector, v: Vector) -> Vector
     ensures { λ r. ⌜ r ≡ minus u v ⌝ }
 {
     Vector {
@@ -116,7 +116,7 @@ fn take_off(sum: Pull, near: Pull, far: Pull) -> Pull
 }
 
 // Takes a body off the sum, where its pull on the craft is known.
-fn less_near(sum: Pull, b: Sight, near: Pull) -> Pull
+fn less_near(sum: Pull, b: Other, near: Pull) -> Pull
     ensures { λ r. ⌜ r ≡ lessNear sum b near ⌝ }
 {
     if 0.0 < b.m {
@@ -126,8 +126,8 @@ fn less_near(sum: Pull, b: Sight, near: Pull) -> Pull
     sum
 }
 
-// Takes a body off the sum: what it pulls the craft at p, and what it pulls the Earth.
-pub fn less(p: Vector, sum: Pull, b: Sight) -> Pull
+// Takes a body off the sum: what it pulls the craft at p, and what it pulls the centre.
+pub fn less(p: Vector, sum: Pull, b: Other) -> Pull
     ensures { λ r. ⌜ r ≡ lessBy p sum b ⌝ }
 {
     if 0.0 < b.m {
@@ -138,17 +138,21 @@ pub fn less(p: Vector, sum: Pull, b: Sight) -> Pull
     sum
 }
 
-// The Earth's pull turned round, less the first two bodies: the three that are almost always used.
-pub fn near_sum(p: Vector, earth: f64, moon: Sight, sun: Sight) -> Pull
-    ensures { λ r. ⌜ r ≡ lessBy p (lessBy p (startBy p earth) moon) sun ⌝ }
+// The centre's pull turned round, less the first two bodies beside it: the three that are almost always used.
+pub fn near_sum(p: Vector, own: f64, first: Other, second: Other) -> Pull
+    ensures { λ r. ⌜ r ≡ lessBy p (lessBy p (startBy p own) first) second ⌝ }
 {
-    let moon_place = moon.place;
-    let sun_place = sun.place;
-    let from_moon = difference(p, moon_place);
-    let from_sun = difference(p, sun_place);
-    let near = three_pulls(p, earth, from_moon, moon.m, from_sun, sun.m);
-    let own = near.first;
-    let by_moon = near.second;
-    let by_sun = near.third;
-    less_near(less_near(turned_round(own), moon, by_moon), sun, by_sun)
+    let first_place = first.place;
+    let second_place = second.place;
+    let from_first = difference(p, first_place);
+    let from_second = difference(p, second_place);
+    let near = three_pulls(p, own, from_first, first.m, from_second, second.m);
+    let by_centre = near.first;
+    let by_first = near.second;
+    let by_second = near.third;
+    less_near(
+        less_near(turned_round(by_centre), first, by_first),
+        second,
+        by_second,
+    )
 }

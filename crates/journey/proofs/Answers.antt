@@ -7,12 +7,13 @@ use native.Mathlib.Nat.{mul-mod-left}
 use native.Mathlib.Omega.{arith}
 use borrow.Author.Tests.{lt-ltb, le-leb, ltb-true, ne-eqb}
 use Rattle.basis.specs.Limits.{endOfTime}
-use Rattle.state.specs.State.{finiteState}
+use Rattle.state.specs.State.{finiteState, centreAllowed}
 use Rattle.state.specs.declared.State.{State}
 use Rattle.state.specs.declared.Setting.{Setting}
-use Rattle.gravity.specs.Sight.{sights, listed, refusalOf}
+use Rattle.gravity.specs.Sight.{sights}
 use Rattle.gravity.specs.declared.Guesses.{Guesses}
-use Rattle.motion.specs.Step.{On, step}
+use Rattle.motion.specs.Step.{Moved, On, Off, step}
+use Rattle.motion.specs.Walk.{onward, walk}
 use Rattle.start.specs.Start.{withinSteps, startRefusal}
 use Rattle.motion.specs.Run.{runTo, withGuesses, refusedAtOnce, runAnswer}
 use Rattle.start.proofs.Allowed.{away}
@@ -36,10 +37,10 @@ stillWithin t h left target e =
     let apart : target - t ≡ left * h = omega arith in
     rw (le-leb t target ahead, apart, mul-mod-left left h)
 
--- what a step leaves true of its new state: its components are finite, and every used body was seen at its moment
+-- what a step leaves true of its new state: its components are finite, and every used body was seen at its moment, if its centre is one
 pub record Left (b : List ℕ) (setting : Setting) (s : State) : Type 0 where
   pub finite : finiteState s ≡ true
-  pub clear : refusalOf (listed (sights b setting (s .moment))) ≡ 0
+  pub clear : centreAllowed setting (s .centre) ≡ true → sights b setting (s .centre) (s .moment) .refusal ≡ 0
 
 module _ (b : List ℕ) (setting : Setting) (h target : ℕ) where
   pub moves : (s next : State) → step b setting h s ≡ On next → next .moment ≡ s .moment + h
@@ -48,7 +49,24 @@ module _ (b : List ℕ) (setting : Setting) (h target : ℕ) where
   pub leaves : (s next : State) → step b setting h s ≡ On next → Left b setting next
   leaves s next e =
       let d = done b setting h s next e in
-      record { finite = d .finite; clear = ap (λ (t : ℕ). refusalOf (listed (sights b setting t))) (d .moment) ∙ d .clear }
+      record {
+        finite = d .finite;
+        clear = λ ok.
+            ap (λ (c : ℕ). sights b setting c (next .moment) .refusal) (d .centre)
+            ∙ ap (λ (t : ℕ). sights b setting (s .centre) t .refusal) (d .moment)
+            ∙ d .clear (ap (centreAllowed setting) (sym (d .centre)) ∙ ok);
+      }
+
+  -- steps stay about their centre
+  pub centreStays : (n : ℕ) (s last : State) → walk (step b setting h) n s ≡ On last → last .centre ≡ s .centre
+  unfolding walk
+  centreStays zero s last e = let same : last ≡ s = cc in ap (λ (x : State). x .centre) same
+  centreStays (suc n) s last e = go (walk (step b setting h) n s) refl e (centreStays n s)
+    where
+      go : (m : Moved) → walk (step b setting h) n s ≡ m → onward (step b setting h) m ≡ On last
+          → ((middle : State) → walk (step b setting h) n s ≡ On middle → middle .centre ≡ s .centre) → last .centre ≡ s .centre
+      go (On middle) w e before = done b setting h middle last e .centre ∙ before middle w
+      go (Off k) w e before = let z : _≡_ {A = ℕ} 0 1 = cc in absurd (omega arith)
 
   pub runFrom : (s : State) (budget : ℕ) → Passed b setting s h target
       → Ran (step b setting h) h target (Left b setting) moves leaves s budget (runTo (step b setting h) target budget s)
@@ -66,6 +84,7 @@ module _ (b : List ℕ) (setting : Setting) (h target : ℕ) where
       record {
         book = p .book;
         set = p .set;
+        centred = ap (centreAllowed setting) (centreStays (q .steps) s (q .state) (r .walked)) ∙ p .centred;
         begins = lt-ltb _ _ here;
         ends = p .ends;
         finite = go (q .steps) refl;

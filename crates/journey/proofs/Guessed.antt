@@ -12,7 +12,7 @@ use Rattle.state.specs.declared.Setting.{Setting}
 use Rattle.book.specs.Lookup.{lookup}
 use Rattle.book.specs.declared.Lookup.{Lookup}
 use Rattle.book.specs.declared.Lookup.the-variants.{Entry, Nothing}
-use Rattle.gravity.specs.Sight.{sightOf, sights, listed, refusalOf, entryOr}
+use Rattle.gravity.specs.Sight.{foundOf, foundIn, refusalIn, sights, entryOr}
 use Rattle.gravity.specs.declared.Guesses.{Guesses}
 use Rattle.gravity.proofs.Under.{allClear}
 use Rattle.motion.specs.Step.{step}
@@ -22,11 +22,11 @@ use Rattle.motion.specs.declared.RunAnswer.{RunAnswer}
 use Rattle.start.proofs.Passed.{passed}
 use Rattle.journey.specs.Guessed.{Guess, AllGuessed}
 use Rattle.journey.proofs.Ran.{Ran}
-use Rattle.journey.proofs.Answers.{Left, answerIs, refusedIs, runFrom}
+use Rattle.journey.proofs.Answers.{Left, answerIs, refusedIs, runFrom, checksStay}
 
 -- a body that was seen
-one : (b : List ℕ) (number : ℕ) (m : Float) (t given : ℕ) → sightOf b number m t .refusal ≡ 0 → Guess b t number m given (guessAt b t number m given)
-unfolding sightOf
+one : (b : List ℕ) (number : ℕ) (m : Float) (t given : ℕ) → foundOf b number m t .refusal ≡ 0 → Guess b t number m given (guessAt b t number m given)
+unfolding foundOf
 one b number m t given clear =
     record { covering = λ u. by u (lookup b number t) refl; other = λ u. rw u }
   where
@@ -34,10 +34,10 @@ one b number m t given clear =
     by u (Entry i) e = rw (u, e)
     by u Nothing e = let six : _≡_ {A = ℕ} 6 0 = rw (u, e) at clear in absurd (omega arith)
 
-all : (b : List ℕ) (s : Setting) (t : ℕ) (given : Guesses) → refusalOf (listed (sights b s t)) ≡ 0 → AllGuessed b s t given (guessesAt b s t given)
-unfolding sights guessesAt
-all b s t given clear =
-    let seen = allClear (listed (sights b s t)) clear in
+all : (b : List ℕ) (s : Setting) (c t : ℕ) (given : Guesses) → sights b s c t .refusal ≡ 0 → AllGuessed b s t given (guessesAt b s t given)
+unfolding sights foundIn refusalIn guessesAt
+all b s c t given clear =
+    let seen = allClear _ clear in
     record {
       moon = one b 2 (s .moon) t (given .moon) (seen .0);
       sun = one b 3 (s .sun) t (given .sun) (seen .1 .0);
@@ -55,7 +55,7 @@ module _ (b : List ℕ) (setting : Setting) (s : State) (h target budget : ℕ) 
       (λ some.
       let q = runTo (step b setting h) target budget s in
       let left = runFrom b setting h target s budget (passed b setting s h target e) .seen some in
-      rw (ne-eqb (q .steps) 0 (λ z. absurd (omega arith))) (all b setting (q .state .moment) given (left .clear)))
+      rw (ne-eqb (q .steps) 0 (λ z. absurd (omega arith))) (all b setting (q .state .centre) (q .state .moment) given (left .clear (checksStay b setting h target s budget (passed b setting s h target e) .centred))))
 
   -- where none was done, every guess comes back as given
   pub unmoved : runAnswer b setting s h target budget given .steps ≡ 0 → runAnswer b setting s h target budget given .guesses ≡ given

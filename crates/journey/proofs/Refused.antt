@@ -8,7 +8,7 @@ use borrow.Author.Tests.{eqb-true}
 use Rattle.basis.specs.Choice.{if_then_else_, _=?_}
 use Rattle.basis.specs.Limits.{isMoment}
 use Rattle.basis.proofs.Cases.{by-if}
-use Rattle.state.specs.State.{position, velocity, finiteVector, finiteState, settingAllowed}
+use Rattle.state.specs.State.{position, velocity, finiteVector, finiteState, settingAllowed, centreAllowed}
 use Rattle.state.specs.declared.Vector.{Vector}
 use Rattle.state.specs.declared.State.{State}
 use Rattle.state.specs.declared.Setting.{Setting}
@@ -40,8 +40,8 @@ module _ (ok : ℕ → Bool) (six : ok 6 ≡ true) (seven : ok 7 ≡ true) where
   then-off (Is v) next first rest = rest v
   then-off (Refused k) next first rest = first
 
-  arrive-off : (t : ℕ) (p v : Vector) → offBy ok (arrive t p v) ≡ true
-  arrive-off t p v = by-if (offBy ok) (finiteVector p && finiteVector v) refl seven
+  arrive-off : (t c : ℕ) (p v : Vector) → offBy ok (arrive t c p v) ≡ true
+  arrive-off t c p v = by-if (offBy ok) (finiteVector p && finiteVector v) refl seven
 
   module _ (acc : ℕ → Vector → AccelerationAnswer) (each : (t : ℕ) (P : Vector) → refusedBy ok (acc t P) ≡ true) (h : ℕ) (s : State) where
     stage4-off : (a1 a2 a3 : Vector) → offBy ok (stage4 acc h s a1 a2 a3) ≡ true
@@ -49,7 +49,7 @@ module _ (ok : ℕ → Bool) (six : ok 6 ≡ true) (seven : ok 7 ≡ true) where
         let P = along (position s) (stepH h) (velocity3 h s a2) in
         then-off (acc (s .moment + h) P) (lastly h s a1 a2 a3) (each (s .moment + h) P)
         (λ a4.
-        arrive-off (s .moment + h)
+        arrive-off (s .moment + h) (s .centre)
         (along (position s) (sixth h) (weighed (velocity s) (velocity2 h s a1) (velocity3 h s a2) (velocity4 h s a3)))
         (along (velocity s) (sixth h) (weighed a1 a2 a3 a4)))
 
@@ -68,7 +68,7 @@ module _ (ok : ℕ → Bool) (six : ok 6 ≡ true) (seven : ok 7 ≡ true) where
 
   pub step-off : (b : List ℕ) (setting : Setting) (h : ℕ) (s : State) → offBy ok (step b setting h s) ≡ true
   unfolding step
-  step-off b setting h s = stage1-off (accelerationAt b setting) (rule-refused ok six seven b setting) h s
+  step-off b setting h s = stage1-off (accelerationAt b setting (s .centre)) (rule-refused ok six seven b setting (s .centre)) h s
 
   module _ (f : State → Moved) (steps : (s : State) → offBy ok (f s) ≡ true) (target : ℕ) where
     after-off : (rest : State → Reached) (s : State) (m : Moved) → ((next : State) → outcomeBy ok (rest next .outcome) ≡ true) → offBy ok m ≡ true
@@ -83,7 +83,7 @@ module _ (ok : ℕ → Bool) (six : ok 6 ≡ true) (seven : ok 7 ≡ true) where
         by-if (λ (r : Reached). outcomeBy ok (r .outcome)) (atTarget target s) refl
         (after-off (runTo f target budget) s (f s) (run-off budget) (steps s))
 
-  module _ (one : ok 1 ≡ true) (four : ok 4 ≡ true) (three : ok 3 ≡ true) (two : ok 2 ≡ true) (five : ok 5 ≡ true) where
+  module _ (one : ok 1 ≡ true) (four : ok 4 ≡ true) (fourteen : ok 14 ≡ true) (three : ok 3 ≡ true) (two : ok 2 ≡ true) (five : ok 5 ≡ true) where
     -- 0, or a number of the checks
     start-off : (b : List ℕ) (setting : Setting) (s : State) (h target : ℕ)
         → ((startRefusal b setting s h target =? 0) || ok (startRefusal b setting s h target)) ≡ true
@@ -92,12 +92,13 @@ module _ (ok : ℕ → Bool) (six : ok 6 ≡ true) (seven : ok 7 ≡ true) where
         let p : ℕ → Bool = λ k. (k =? 0) || ok k in
         by-if p (not (passes b)) one
         (by-if p (not (settingAllowed setting)) four
+        (by-if p (not (centreAllowed setting (s .centre))) fourteen
         (by-if p (not (isMoment (s .moment))) three
         (by-if p (not (isMoment target)) three
         (by-if p (not (finiteState s)) seven
-        (by-if p (not (stepAllowed h)) two (by-if p (not (withinSteps (s .moment) h target)) five refl))))))
+        (by-if p (not (stepAllowed h)) two (by-if p (not (withinSteps (s .moment) h target)) five refl)))))))
 
-    -- a run by 1, 4, 3, 7, 2, 5 and 6 alone
+    -- a run by 1, 4, 14, 3, 7, 2, 5 and 6 alone
     pub run-refused : (b : List ℕ) (setting : Setting) (s : State) (h target budget : ℕ) (given : Guesses)
         → outcomeBy ok (runAnswer b setting s h target budget given .outcome) ≡ true
     unfolding runAnswer

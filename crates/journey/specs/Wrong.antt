@@ -77,7 +77,7 @@ exampleSetting =
     record { earth = whole 8; moon = whole 0; sun = whole 0; venus = whole 0; mars = whole 0; jupiter = whole 0; dut = 0; rule = 0 }
 
 abbrev pub exampleState : State
-exampleState = record { moment = 0; x = whole 2; y = whole 0; z = whole 0; vx = whole 0; vy = whole 4; vz = whole 0 }
+exampleState = record { moment = 0; centre = 1; x = whole 2; y = whole 0; z = whole 0; vx = whole 0; vy = whole 4; vz = whole 0 }
 
 abbrev pub exampleH : ℕ
 exampleH = 1000

@@ -1,11 +1,7 @@
 // The calls of document 01 about a state and its motion, for C and Rust, over numbers and memory that the caller lends.
+// An old call means an old order: centre 1 and rule 0; the calls with the whole of it are `centrelink`'s.
 // Each returns 0 where it is accepted, else the number of the refusal. A run that is still going returns 100.
 
-mod lent;
-
-use conic::ConicAnswer;
-use fixed::FixedAnswer;
-use gravity::AccelerationAnswer;
 use sphere::SphereAnswer;
 ghost use mathlib.Core.Path.{_≡_};
 ghost use Rattle.gravity.specs.Acceleration.{accelerationAnswer};
@@ -14,8 +10,8 @@ ghost use Rattle.fixed.specs.Fixed.{fixedAnswer};
 ghost use Rattle.sphere.specs.Sphere.{sphereAnswer};
 ghost use Rattle.conic.specs.Conic.{conicAnswer};
 ghost use Rattle.handed.specs.Handed.{handed, answered};
-ghost use Rattle.link.specs.Lent.{settingOf, vectorOf, stateOf, guessesOf, bothIn, sphereOf};
-ghost use Rattle.link.specs.Answers.{ofAcceleration, ofFixed, ofConic, handedBack, ofRun, ofSphere};
+ghost use Rattle.lent.specs.Lent.{settingOf, vectorOf, stateOf, guessesOf, bothIn, sphereOf};
+ghost use Rattle.lent.specs.Answers.{ofAcceleration, ofFixed, ofConic, handedBack, ofRun, ofSphere};
 
 #[no_mangle]
 pub extern "C" fn belfry_acceleration(
@@ -27,17 +23,19 @@ pub extern "C" fn belfry_acceleration(
     acceleration: &mut [f64; 3],
 ) -> u64
     ensures { λ r. ⌜ handed r (now (acceleration .exit)) ≡ answered (now (acceleration .entry))
-        (ofAcceleration (accelerationAnswer (now (book .entry)) (settingOf (now (coefficients .entry)) dut) moment
+        (ofAcceleration (accelerationAnswer (now (book .entry)) (settingOf (now (coefficients .entry)) dut 0) 1 moment
         (vectorOf (now (position .entry))))) ⌝ }
 {
-    let setting = lent::setting_of(*coefficients, dut);
-    match gravity::acceleration(book, setting, moment, lent::vector_of(*position)) {
-        AccelerationAnswer::Is(a) => {
-            *acceleration = [a.x, a.y, a.z];
-            0
-        }
-        AccelerationAnswer::Refused(k) => k,
-    }
+    lent::calls::pull(
+        book,
+        coefficients,
+        dut,
+        0,
+        moment,
+        1,
+        position,
+        acceleration,
+    )
 }
 
 // What is read and what is written stand apart: the next call reads what this one wrote.
@@ -58,14 +56,26 @@ pub extern "C" fn belfry_run(
     steps: &mut u32,
 ) -> u64
     ensures { λ r. ⌜ handedBack r (now (reached .exit)) (now (there .exit)) (now (entries .exit)) (now (steps .exit)) ≡ ofRun
-        (runAnswer (now (book .entry)) (settingOf (now (coefficients .entry)) dut)
-        (stateOf moment (now (coordinates .entry))) h target budget (guessesOf (now (guesses .entry)))) ⌝ }
+        (runAnswer (now (book .entry)) (settingOf (now (coefficients .entry)) dut 0)
+        (stateOf moment 1 (now (coordinates .entry))) h target budget (guessesOf (now (guesses .entry)))) ⌝ }
 {
-    let setting = lent::setting_of(*coefficients, dut);
-    let state = lent::state_of(moment, *coordinates);
-    let given = lent::guesses_of(*guesses);
-    let answer = motion::run(book, setting, state, h, target, budget, given);
-    lent::hand_back(answer, reached, there, entries, steps)
+    lent::calls::fly(
+        book,
+        coefficients,
+        dut,
+        0,
+        moment,
+        1,
+        coordinates,
+        h,
+        target,
+        budget,
+        guesses,
+        reached,
+        there,
+        entries,
+        steps,
+    )
 }
 
 #[no_mangle]
@@ -83,11 +93,11 @@ pub extern "C" fn belfry_single_step(
     steps: &mut u32,
 ) -> u64
     ensures { λ r. ⌜ handedBack r (now (reached .exit)) (now (there .exit)) (now (entries .exit)) (now (steps .exit)) ≡ ofRun
-        (singleStepAnswer (now (book .entry)) (settingOf (now (coefficients .entry)) dut)
-        (stateOf moment (now (coordinates .entry))) h (guessesOf (now (guesses .entry)))) ⌝ }
+        (singleStepAnswer (now (book .entry)) (settingOf (now (coefficients .entry)) dut 0)
+        (stateOf moment 1 (now (coordinates .entry))) h (guessesOf (now (guesses .entry)))) ⌝ }
 {
-    let setting = lent::setting_of(*coefficients, dut);
-    let state = lent::state_of(moment, *coordinates);
+    let setting = lent::setting_of(*coefficients, dut, 0);
+    let state = lent::state_of(moment, 1, *coordinates);
     let given = lent::guesses_of(*guesses);
     let answer = motion::single_step(book, setting, state, h, given);
     lent::hand_back(answer, reached, there, entries, steps)
@@ -101,36 +111,9 @@ pub extern "C" fn belfry_earth_fixed(
     turned: &mut [f64; 6],
 ) -> u64
     ensures { λ r. ⌜ handed r (now (turned .exit)) ≡ answered (now (turned .entry))
-        (ofFixed (fixedAnswer 0 dut (stateOf moment (now (coordinates .entry))))) ⌝ }
+        (ofFixed (fixedAnswer 0 dut (stateOf moment 1 (now (coordinates .entry))))) ⌝ }
 {
-    match fixed::earth_fixed(0, dut, lent::state_of(moment, *coordinates)) {
-        FixedAnswer::Fixed(f) => {
-            *turned = [f.x, f.y, f.z, f.vx, f.vy, f.vz];
-            0
-        }
-        FixedAnswer::Refused(k) => k,
-    }
-}
-
-// Earth-fixed coordinates by a rule of the hour angle.
-#[no_mangle]
-pub extern "C" fn belfry_turn(
-    rule: u64,
-    dut: u32,
-    moment: u64,
-    coordinates: &[f64; 6],
-    turned: &mut [f64; 6],
-) -> u64
-    ensures { λ r. ⌜ handed r (now (turned .exit)) ≡ answered (now (turned .entry))
-        (ofFixed (fixedAnswer rule dut (stateOf moment (now (coordinates .entry))))) ⌝ }
-{
-    match fixed::earth_fixed(rule, dut, lent::state_of(moment, *coordinates)) {
-        FixedAnswer::Fixed(t) => {
-            *turned = [t.x, t.y, t.z, t.vx, t.vy, t.vz];
-            0
-        }
-        FixedAnswer::Refused(k) => k,
-    }
+    lent::calls::turned(0, dut, moment, 1, coordinates, turned)
 }
 
 #[no_mangle]
@@ -163,15 +146,7 @@ pub extern "C" fn belfry_conic(
     figures: &mut [f64; 5],
 ) -> u64
     ensures { λ r. ⌜ handed r (bothIn (now (names .exit)) (now (figures .exit))) ≡ answered (bothIn (now (names .entry)) (now (figures .entry)))
-        (ofConic (conicAnswer m (stateOf moment (now (coordinates .entry))))) ⌝ }
+        (ofConic (conicAnswer m (stateOf moment 1 (now (coordinates .entry))))) ⌝ }
 {
-    match conic::conic_figures(m, lent::state_of(moment, *coordinates)) {
-        ConicAnswer::Figures(c) => {
-            let conic = c.conic;
-            *names = [c.centre, lent::kind_of(conic)];
-            *figures = lent::figures_of(conic);
-            0
-        }
-        ConicAnswer::Refused(k) => k,
-    }
+    lent::calls::orbit(m, moment, 1, coordinates, names, figures)
 }

@@ -1,4 +1,4 @@
--- Every refusal of every call has a number of document 01's table, 1 to 12. So a call returns 0 only where it is accepted, and a
+-- Every refusal of every call has a number of the table, 1 to 17. So a call returns 0 only where it is accepted, and a
 -- run returns 100 only where it is going. Assumes nothing.
 use mathlib.Core.Bool.{Bool, true, false, not, _&&_, _||_}
 use mathlib.Core.List.{List}
@@ -10,7 +10,7 @@ use Rattle.basis.specs.Choice.{if_then_else_, _<?_, _≤?_, _=?_}
 use Rattle.basis.specs.Limits.{isMoment, isDUT, lastDay, circle}
 use Rattle.basis.proofs.Cases.{by-if}
 use Rattle.basis.specs.Floats.{zero64, above0}
-use Rattle.state.specs.State.{finiteState}
+use Rattle.state.specs.State.{finiteState, isBody}
 use Rattle.state.specs.declared.State.{State}
 use Rattle.state.specs.declared.Setting.{Setting}
 use Rattle.state.specs.declared.Vector.{Vector}
@@ -30,6 +30,9 @@ use Rattle.gravity.specs.declared.Guesses.{Guesses}
 use Rattle.motion.specs.Run.{runAnswer, singleStepAnswer}
 use Rattle.motion.specs.declared.Outcome.{Outcome}
 use Rattle.journey.proofs.Refused as journey
+use Rattle.centre.specs.Move.{moveAnswer}
+use Rattle.centre.specs.declared.MoveAnswer.{MoveAnswer}
+use Rattle.centre.proofs.Moves as centre
 use Rattle.fixed.specs.declared.FixedAnswer.{FixedAnswer}
 use Rattle.sphere.specs.Sphere as sphere
 use Rattle.sphere.specs.Sphere.{anglesAllowed, sizesAllowed, injected, injectionAnswer, sphereAnswer}
@@ -37,10 +40,10 @@ use Rattle.sphere.specs.declared.Sphere.{Sphere}
 use Rattle.sphere.specs.declared.SphereAnswer.{SphereAnswer}
 use Rattle.rotation.specs.Rotation.{rotation}
 use Rattle.fixed.specs.Fixed.{afterHour, finiteFixed, finiteAnswer, fixedAnswer, turned}
-use Rattle.conic.specs.Conic.{unfit, _before_, refusal, orbitAnswer, orbit, conicAnswer}
+use Rattle.conic.specs.Conic.{unfit, _before_, refusal, orbitAnswer, orbit, figuresAbout, conicAnswer}
 use Rattle.conic.specs.declared.ConicAnswer.{ConicAnswer}
 use Rattle.almanaclink.specs.Answers.{ofDate, ofDay, ofJulian, ofHour, ofRoot, ofSineCosine, ofPosition}
-use Rattle.link.specs.Answers.{ofAcceleration, ofFixed, ofSphere, ofConic}
+use Rattle.lent.specs.Answers.{ofAcceleration, ofMove, ofFixed, ofSphere, ofConic}
 use Rattle.linked.specs.Table.{tabled, told, outcomeTold}
 
 -- 0 for none, or a number of the table
@@ -94,9 +97,16 @@ acceleration-is-told : (a : AccelerationAnswer) → gravity.refusedBy tabled a �
 acceleration-is-told (AccelerationAnswer.Is v) by = refl
 acceleration-is-told (AccelerationAnswer.Refused k) by = by
 
-pub acceleration-told : (b : List ℕ) (s : Setting) (t : ℕ) (P : Vector) → told (ofAcceleration (accelerationAnswer b s t P)) ≡ true
-acceleration-told b s t P =
-    acceleration-is-told (accelerationAnswer b s t P) (gravity.acceleration-refused tabled refl refl refl refl refl b s t P)
+pub acceleration-told : (b : List ℕ) (s : Setting) (c t : ℕ) (P : Vector) → told (ofAcceleration (accelerationAnswer b s c t P)) ≡ true
+acceleration-told b s c t P =
+    acceleration-is-told (accelerationAnswer b s c t P) (gravity.acceleration-refused tabled refl refl refl refl refl refl b s c t P)
+
+move-is-told : (a : MoveAnswer) → centre.refusedBy tabled a ≡ true → told (ofMove a) ≡ true
+move-is-told (MoveAnswer.Moved s) by = refl
+move-is-told (MoveAnswer.Refused k) by = by
+
+pub move-told : (b : List ℕ) (setting : Setting) (s : State) (c : ℕ) → told (ofMove (moveAnswer b setting s c)) ≡ true
+move-told b setting s c = move-is-told (moveAnswer b setting s c) (centre.move-refused tabled refl refl refl refl refl refl b setting s c)
 
 outcome-is-told : (o : Outcome) → journey.outcomeBy tabled o ≡ true → outcomeTold o ≡ true
 outcome-is-told Outcome.Arrived by = refl
@@ -107,7 +117,7 @@ pub run-told : (b : List ℕ) (setting : Setting) (s : State) (h target budget :
     → outcomeTold (runAnswer b setting s h target budget given .outcome) ≡ true
 run-told b setting s h target budget given =
     outcome-is-told (runAnswer b setting s h target budget given .outcome)
-    (journey.run-refused tabled refl refl refl refl refl refl refl b setting s h target budget given)
+    (journey.run-refused tabled refl refl refl refl refl refl refl refl b setting s h target budget given)
 
 pub single-step-told : (b : List ℕ) (setting : Setting) (s : State) (h : ℕ) (given : Guesses)
     → outcomeTold (singleStepAnswer b setting s h given .outcome) ≡ true
@@ -130,8 +140,12 @@ after-hour-told (HourAnswer.Refused k) answer first rest = first
 pub fixed-told : (rule dut : ℕ) (state : State) → told (ofFixed (fixedAnswer rule dut state)) ≡ true
 unfolding fixedAnswer
 fixed-told rule dut state =
-    after-hour-told (siderealAnswer rule (state .moment) dut) (finiteAnswer rule dut state) (sidereal-told rule (state .moment) dut)
-    (finite-told rule dut state)
+    let p : FixedAnswer → Bool = λ a. told (ofFixed a) in
+    by-if p (not (isDUT dut)) refl
+    (by-if p (not (isRule rule)) refl
+    (by-if p (not (state .centre =? 1)) refl
+    (after-hour-told (siderealAnswer rule (state .moment) dut) (finiteAnswer rule dut state) (sidereal-told rule (state .moment) dut)
+    (finite-told rule dut state))))
 
 sphere-told : (s : Sphere) (rule moment dut : ℕ) → told (ofSphere (injectionAnswer s rule moment dut)) ≡ true
 unfolding injectionAnswer
@@ -181,14 +195,15 @@ refusal-told m state =
     (unfit-told _ 0 refl))
     (unfit-told _ 0 refl)
 
-orbit-told : (m : Float) (state : State) → told (ofConic (orbitAnswer (orbit m state))) ≡ true
+orbit-told : (m : Float) (state : State) → told (ofConic (orbitAnswer (state .centre) (orbit m state))) ≡ true
 unfolding orbitAnswer
 orbit-told m state =
     by-number (λ a. told (ofConic a)) (refusal (orbit m state) =? 0) (tabled (refusal (orbit m state)))
     (refusal-told m state) refl (λ number. number)
 
 pub conic-told : (m : Float) (state : State) → told (ofConic (conicAnswer m state)) ≡ true
-unfolding conicAnswer
+unfolding conicAnswer figuresAbout
 conic-told m state =
     let p : ConicAnswer → Bool = λ a. told (ofConic a) in
-    by-if p (not (finite m && above0 m)) refl (by-if p (not (finiteState state)) refl (orbit-told m state))
+    by-if p (not (finite m && above0 m)) refl
+    (by-if p (not (isBody (state .centre))) refl (by-if p (not (finiteState state)) refl (orbit-told m state)))

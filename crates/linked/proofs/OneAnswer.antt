@@ -21,8 +21,8 @@ use Rattle.sphere.specs.Sphere.{sphereAnswer}
 use Rattle.conic.specs.Conic.{conicAnswer}
 use Rattle.handed.specs.Handed.{Handed, handed, answered}
 use Rattle.almanaclink.specs.Answers.{ofDate, ofDay, ofJulian, ofHour, ofRoot, ofSineCosine, ofPosition}
-use Rattle.link.specs.Lent.{settingOf, vectorOf, stateOf, guessesOf, Both, bothIn, sphereOf}
-use Rattle.link.specs.Answers.{ofAcceleration, ofFixed, ofConic, RunMemory, handedBack, ofRun, ofSphere}
+use Rattle.lent.specs.Lent.{settingOf, vectorOf, stateOf, guessesOf, Both, bothIn, sphereOf}
+use Rattle.lent.specs.Answers.{ofAcceleration, ofMove, ofFixed, ofConic, RunMemory, handedBack, ofRun, ofSphere}
 use Rattle.almanaclink.proofs.belfry_date as date
 use Rattle.almanaclink.proofs.belfry_day as day
 use Rattle.almanaclink.proofs.belfry_twice_julian_date as twice-julian-date
@@ -34,7 +34,12 @@ use Rattle.link.proofs.belfry_acceleration as acceleration
 use Rattle.link.proofs.belfry_earth_fixed as earth-fixed
 use Rattle.link.proofs.belfry_from_sphere as from-sphere
 use Rattle.almanaclink.proofs.belfry_sidereal as sidereal
-use Rattle.link.proofs.belfry_turn as turn
+use Rattle.centrelink.proofs.belfry_turn as turn
+use Rattle.centrelink.proofs.belfry_pull as pull
+use Rattle.centrelink.proofs.belfry_fly as fly
+use Rattle.centrelink.proofs.belfry_move as move
+use Rattle.centrelink.proofs.belfry_orbit as orbit
+use Rattle.centre.specs.Move.{moveAnswer}
 use Rattle.almanaclink.proofs.belfry_book_passes as book-passes
 use Rattle.link.proofs.belfry_run as run
 use Rattle.link.proofs.belfry_single_step as single-step
@@ -109,7 +114,7 @@ tell-acceleration κs r after = handed r (now (after .1 .1 .1 .1 .1 .0))
 pub acceleration-answers-once : OneOutcome acceleration.ended (λ M. acceleration.clauses) (λ κs. Handed (List Float)) tell-acceleration
 acceleration-answers-once =
     one-outcome (λ κs. Handed (List Float)) tell-acceleration
-    (λ κs inputs. answered (now (inputs .1 .1 .1 .1 .1 .0)) (ofAcceleration (accelerationAnswer (now (inputs .0)) (settingOf (now (inputs .1 .0)) (inputs .1 .1 .0)) (inputs .1 .1 .1 .0) (vectorOf (now (inputs .1 .1 .1 .1 .0))))))
+    (λ κs inputs. answered (now (inputs .1 .1 .1 .1 .1 .0)) (ofAcceleration (accelerationAnswer (now (inputs .0)) (settingOf (now (inputs .1 .0)) (inputs .1 .1 .0) 0) 1 (inputs .1 .1 .1 .0) (vectorOf (now (inputs .1 .1 .1 .1 .0))))))
     (λ M 𝓤 H A mem run″ κs inputs g r after. refl)
 
 abbrev tell-from-sphere : Tell from-sphere.ended (λ κs. Handed (List Float))
@@ -127,7 +132,7 @@ tell-earth-fixed κs r after = handed r (now (after .1 .1 .1 .0))
 pub earth-fixed-answers-once : OneOutcome earth-fixed.ended (λ M. earth-fixed.clauses) (λ κs. Handed (List Float)) tell-earth-fixed
 earth-fixed-answers-once =
     one-outcome (λ κs. Handed (List Float)) tell-earth-fixed
-    (λ κs inputs. answered (now (inputs .1 .1 .1 .0)) (ofFixed (fixedAnswer 0 (inputs .1 .1 .0) (stateOf (inputs .0) (now (inputs .1 .0))))))
+    (λ κs inputs. answered (now (inputs .1 .1 .1 .0)) (ofFixed (fixedAnswer 0 (inputs .1 .1 .0) (stateOf (inputs .0) 1 (now (inputs .1 .0))))))
     (λ M 𝓤 H A mem run″ κs inputs g r after. refl)
 
 abbrev tell-sidereal : Tell sidereal.ended (λ κs. Handed (ℕ))
@@ -140,12 +145,58 @@ sidereal-answers-once =
     (λ M 𝓤 H A mem run″ κs inputs g r after. refl)
 
 abbrev tell-turn : Tell turn.ended (λ κs. Handed (List Float))
-tell-turn κs r after = handed r (now (after .1 .1 .1 .1 .0))
+tell-turn κs r after = handed r (now (after .1 .1 .1 .1 .1 .0))
 
 pub turn-answers-once : OneOutcome turn.ended (λ M. turn.clauses) (λ κs. Handed (List Float)) tell-turn
 turn-answers-once =
     one-outcome (λ κs. Handed (List Float)) tell-turn
-    (λ κs inputs. answered (now (inputs .1 .1 .1 .1 .0)) (ofFixed (fixedAnswer (inputs .0) (inputs .1 .0) (stateOf (inputs .1 .1 .0) (now (inputs .1 .1 .1 .0))))))
+    (λ κs inputs. answered (now (inputs .1 .1 .1 .1 .1 .0)) (ofFixed (fixedAnswer (inputs .0) (inputs .1 .0) (stateOf (inputs .1 .1 .0) (inputs .1 .1 .1 .0) (now (inputs .1 .1 .1 .1 .0))))))
+    (λ M 𝓤 H A mem run″ κs inputs g r after. refl)
+
+abbrev tell-pull : Tell pull.ended (λ κs. Handed (List Float))
+tell-pull κs r after = handed r (now (after .1 .1 .1 .1 .1 .1 .1 .0))
+
+pub pull-answers-once : OneOutcome pull.ended (λ M. pull.clauses) (λ κs. Handed (List Float)) tell-pull
+pull-answers-once =
+    one-outcome (λ κs. Handed (List Float)) tell-pull
+    (λ κs inputs.
+    answered (now (inputs .1 .1 .1 .1 .1 .1 .1 .0))
+    (ofAcceleration (accelerationAnswer (now (inputs .0)) (settingOf (now (inputs .1 .0)) (inputs .1 .1 .0) (inputs .1 .1 .1 .0)) (inputs .1 .1 .1 .1 .1 .0) (inputs .1 .1 .1 .1 .0) (vectorOf (now (inputs .1 .1 .1 .1 .1 .1 .0))))))
+    (λ M 𝓤 H A mem run″ κs inputs g r after. refl)
+
+abbrev tell-move : Tell move.ended (λ κs. Handed (List Float))
+tell-move κs r after = handed r (now (after .1 .1 .1 .1 .1 .1 .1 .1 .0))
+
+pub move-answers-once : OneOutcome move.ended (λ M. move.clauses) (λ κs. Handed (List Float)) tell-move
+move-answers-once =
+    one-outcome (λ κs. Handed (List Float)) tell-move
+    (λ κs inputs.
+    answered (now (inputs .1 .1 .1 .1 .1 .1 .1 .1 .0))
+    (ofMove (moveAnswer (now (inputs .0)) (settingOf (now (inputs .1 .0)) (inputs .1 .1 .0) (inputs .1 .1 .1 .0)) (stateOf (inputs .1 .1 .1 .1 .0) (inputs .1 .1 .1 .1 .1 .0) (now (inputs .1 .1 .1 .1 .1 .1 .0))) (inputs .1 .1 .1 .1 .1 .1 .1 .0))))
+    (λ M 𝓤 H A mem run″ κs inputs g r after. refl)
+
+abbrev tell-fly : Tell fly.ended (λ κs. RunMemory)
+tell-fly κs r after =
+    let out = after .1 .1 .1 .1 .1 .1 .1 .1 .1 .1 .1 in handedBack r (now (out .0)) (now (out .1 .0)) (now (out .1 .1 .0)) (now (out .1 .1 .1 .0))
+
+pub fly-answers-once : OneOutcome fly.ended (λ M. fly.clauses) (λ κs. RunMemory) tell-fly
+fly-answers-once =
+    one-outcome (λ κs. RunMemory) tell-fly
+    (λ κs inputs.
+    let rest = inputs .1 .1 .1 .1 .1 .1 .1 in
+    ofRun
+    (runAnswer (now (inputs .0)) (settingOf (now (inputs .1 .0)) (inputs .1 .1 .0) (inputs .1 .1 .1 .0)) (stateOf (inputs .1 .1 .1 .1 .0) (inputs .1 .1 .1 .1 .1 .0) (now (inputs .1 .1 .1 .1 .1 .1 .0))) (rest .0)
+    (rest .1 .0) (rest .1 .1 .0) (guessesOf (now (rest .1 .1 .1 .0)))))
+    (λ M 𝓤 H A mem run″ κs inputs g r after. refl)
+
+abbrev tell-orbit : Tell orbit.ended (λ κs. Handed Both)
+tell-orbit κs r after = handed r (bothIn (now (after .1 .1 .1 .1 .0)) (now (after .1 .1 .1 .1 .1 .0)))
+
+pub orbit-answers-once : OneOutcome orbit.ended (λ M. orbit.clauses) (λ κs. Handed Both) tell-orbit
+orbit-answers-once =
+    one-outcome (λ κs. Handed Both) tell-orbit
+    (λ κs inputs.
+    answered (bothIn (now (inputs .1 .1 .1 .1 .0)) (now (inputs .1 .1 .1 .1 .1 .0))) (ofConic (conicAnswer (inputs .0) (stateOf (inputs .1 .0) (inputs .1 .1 .0) (now (inputs .1 .1 .1 .0))))))
     (λ M 𝓤 H A mem run″ κs inputs g r after. refl)
 
 abbrev tell-conic : Tell conic.ended (λ κs. Handed Both)
@@ -155,7 +206,7 @@ pub conic-answers-once : OneOutcome conic.ended (λ M. conic.clauses) (λ κs. H
 conic-answers-once =
     one-outcome (λ κs. Handed Both) tell-conic
     (λ κs inputs.
-    answered (bothIn (now (inputs .1 .1 .1 .0)) (now (inputs .1 .1 .1 .1 .0))) (ofConic (conicAnswer (inputs .0) (stateOf (inputs .1 .0) (now (inputs .1 .1 .0))))))
+    answered (bothIn (now (inputs .1 .1 .1 .0)) (now (inputs .1 .1 .1 .1 .0))) (ofConic (conicAnswer (inputs .0) (stateOf (inputs .1 .0) 1 (now (inputs .1 .1 .0))))))
     (λ M 𝓤 H A mem run″ κs inputs g r after. refl)
 
 pub book-passes-answers-once : OneAnswer book-passes.ended (λ M. book-passes.clauses)
@@ -173,7 +224,7 @@ run-answers-once =
     (λ κs inputs.
     let rest = inputs .1 .1 .1 .1 .1 in
     ofRun
-    (runAnswer (now (inputs .0)) (settingOf (now (inputs .1 .0)) (inputs .1 .1 .0)) (stateOf (inputs .1 .1 .1 .0) (now (inputs .1 .1 .1 .1 .0))) (rest .0)
+    (runAnswer (now (inputs .0)) (settingOf (now (inputs .1 .0)) (inputs .1 .1 .0) 0) (stateOf (inputs .1 .1 .1 .0) 1 (now (inputs .1 .1 .1 .1 .0))) (rest .0)
     (rest .1 .0) (rest .1 .1 .0) (guessesOf (now (rest .1 .1 .1 .0)))))
     (λ M 𝓤 H A mem run″ κs inputs g r after. refl)
 
@@ -187,6 +238,6 @@ single-step-answers-once =
     (λ κs inputs.
     let rest = inputs .1 .1 .1 .1 .1 in
     ofRun
-    (singleStepAnswer (now (inputs .0)) (settingOf (now (inputs .1 .0)) (inputs .1 .1 .0)) (stateOf (inputs .1 .1 .1 .0) (now (inputs .1 .1 .1 .1 .0))) (rest .0)
+    (singleStepAnswer (now (inputs .0)) (settingOf (now (inputs .1 .0)) (inputs .1 .1 .0) 0) (stateOf (inputs .1 .1 .1 .0) 1 (now (inputs .1 .1 .1 .1 .0))) (rest .0)
     (guessesOf (now (rest .1 .0)))))
     (λ M 𝓤 H A mem run″ κs inputs g r after. refl)

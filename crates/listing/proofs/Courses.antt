@@ -7,13 +7,14 @@ use native.Mathlib.Nat.{suc-mul, div-le-self}
 use native.Mathlib.Omega.{arith}
 use lib.ListN.{length, take, drop}
 use Rattle.basis.specs.Limits.{endOfTime}
+use Rattle.state.specs.State.{centreAllowed}
 use Rattle.state.specs.declared.State.{State}
 use Rattle.state.specs.declared.Setting.{Setting}
 use Rattle.gravity.specs.Sight.{sights}
 use Rattle.gravity.specs.declared.Sights.{Sights}
 use Rattle.motion.specs.Step.{Moved, On, Off, step}
 use Rattle.start.specs.Start.{withinSteps}
-use Rattle.motion.specs.Kept.{kept, bodiesAfter, MayWalk}
+use Rattle.motion.specs.Kept.{kept, bodiesAfter, MayStep, MayWalk}
 use Rattle.motion.specs.declared.Outcome.{Outcome}
 use Rattle.motion.specs.declared.Outcome.the-variants.{Arrived, Going, Refused}
 use Rattle.motion.specs.declared.Stepped.the-variants as stepped
@@ -62,8 +63,8 @@ module _ (b : List ℕ) (setting : Setting) (h : ℕ) (from : Course) (before : 
   begins on = record { text = refl; on = on; within = omega arith; rest = refl; least = omega arith; moved = λ e. refl }
 
   module _ (out : List ℕ) (now : State) (sighted : Sights) (left did at : ℕ) (l : Listing out now sighted left did at) where
-    pub stands : now .moment < endOfTime
-    stands = let i = l .on .inside in omega arith
+    pub stands : MayStep setting now
+    stands = (let i = l .on .inside in omega arith, l .on .centred)
 
     pub ends : (o : Outcome) → courseText (step b setting h) left did now ≡ remains (step b setting h) (record { state = now; sights = sighted; left = left; done = did }) o → (o ≡ Going → length out < at + longestLine) → Advanced b setting h from before out (portionOf o now sighted left did at)
     ends o rest full =
@@ -88,7 +89,8 @@ module _ (b : List ℕ) (setting : Setting) (h : ℕ) (from : Course) (before : 
       pub goes-on : (next : State) (seen : Sights) (after : List ℕ) (r : ℕ) → stepped.On next seen ≡ kept (bodiesAfter b setting h now) (step b setting h now) → Wrote out at (stateLine next) after r → at + longestLine ≤ length out → length after ≡ length out → Listing after next seen (left - 1) (did + 1) r
       goes-on next seen after r e w room same =
           let handed = handedOn (bodiesAfter b setting h now) (step b setting h now) next seen e in
-          let moment = done b setting h now next (handed .on) .moment in
+          let did′ = done b setting h now next (handed .on) in
+          let moment = did′ .moment in
           let inside = l .on .inside in
           let counts = l .on .counts in
           let least = l .least in
@@ -101,7 +103,17 @@ module _ (b : List ℕ) (setting : Setting) (h : ℕ) (from : Course) (before : 
                 ∙ ap (λ (t : List ℕ). take at out ++ t) (text-goes-on (step b setting h) did now left next some (handed .on))
                 ∙ sym (append-assoc (take at out) (stateLine next) (courseText (step b setting h) (left - 1) (did + 1) next))
                 ∙ ap (λ (t : List ℕ). t ++ courseText (step b setting h) (left - 1) (did + 1) next) (sym (w .bytes));
-            on = record { pass = l .on .pass; seen = handed .at ∙ ap (sights b setting) (sym moment); inside = omega arith; counts = omega arith };
+            on =
+                record {
+                  pass = l .on .pass;
+                  centred = ap (centreAllowed setting) (did′ .centre) ∙ l .on .centred;
+                  seen =
+                      handed .at
+                      ∙ ap (λ (c : ℕ). sights b setting c (now .moment + h)) (sym (did′ .centre))
+                      ∙ ap (sights b setting (next .centre)) (sym moment);
+                  inside = omega arith;
+                  counts = omega arith;
+                };
             within = omega (arith, w .next);
             rest = w .rest ∙ rw (w .next) (later before out at (length (stateLine next)) (l .rest));
             least = omega arith;
@@ -116,9 +128,9 @@ pub not-before : (t h target : ℕ) → withinSteps t h target ≡ true → t �
 not-before t h target e = let reach = away t h target e in omega arith
 
 -- the run of an order that passed the checks starts on course
-pub starts : (b : List ℕ) (o : Order) → MayWalk b (o .state) (o .h) (o .target) → OnCourse b (o .setting) (o .h) (startOf b o)
+pub starts : (b : List ℕ) (o : Order) → MayWalk b (o .setting) (o .state) (o .h) (o .target) → OnCourse b (o .setting) (o .h) (startOf b o)
 starts b o may =
     let reach = away (o .state .moment) (o .h) (o .target) (may .reachable) in
     let ends = may .ends in
     let few : stepsTo (o .state) (o .h) (o .target) ≤ o .target - o .state .moment = div-le-self (o .target - o .state .moment) (o .h) in
-    record { pass = may .pass; seen = refl; inside = omega arith; counts = omega arith }
+    record { pass = may .pass; centred = may .centred; seen = refl; inside = omega arith; counts = omega arith }

@@ -5,6 +5,7 @@ use mathlib.Core.List.{List, _++_}
 use mathlib.Core.Path.{_≡_}
 use lib.ListN.{length, take, drop}
 use Rattle.basis.specs.Limits.{endOfTime}
+use Rattle.state.specs.State.{centreAllowed}
 use Rattle.state.specs.declared.State.{State}
 use Rattle.state.specs.declared.Setting.{Setting}
 use Rattle.book.specs.Passes.{passes}
@@ -37,7 +38,8 @@ remains f c (Refused k) = outcomeLine (Refused k) (c .done)
 -- the bodies of the state are known, and the steps left end before the end of time
 pub record OnCourse (b : List ℕ) (setting : Setting) (h : ℕ) (c : Course) : Type 0 where
   pub pass : passes b ≡ true
-  pub seen : c .sights ≡ sights b setting (c .state .moment)
+  pub centred : centreAllowed setting (c .state .centre) ≡ true
+  pub seen : c .sights ≡ sights b setting (c .state .centre) (c .state .moment)
   pub inside : c .state .moment + c .left * h < endOfTime
   pub counts : c .done + c .left < endOfTime
 
@@ -62,7 +64,7 @@ abbrev pub startOf : List ℕ → Order → Course
 startOf b o =
     record {
       state = o .state;
-      sights = sights b (o .setting) (o .state .moment);
+      sights = sights b (o .setting) (o .state .centre) (o .state .moment);
       left = stepsTo (o .state) (o .h) (o .target);
       done = 0;
     }

@@ -28,6 +28,7 @@ abbrev pub stateOf : List ℕ → State
 stateOf b =
     record {
       moment = u64At b 48;
+      centre = 1;
       x = floatAt b 56;
       y = floatAt b 64;
       z = floatAt b 72;

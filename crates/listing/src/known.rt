@@ -17,25 +17,9 @@ ghost use mathlib.Core.Path.{_≡_};
 ghost use Rattle.motion.specs.Kept.{MayWalk};
 ghost use Rattle.listing.specs.Course.{OnCourse, Advanced, startOf, portionOf};
 
-// Where each body was found last is where to look for it first.
-fn guesses_of(sighted: Sights) -> Guesses {
-    let moon = sighted.moon;
-    let sun = sighted.sun;
-    let venus = sighted.venus;
-    let mars = sighted.mars;
-    let jupiter = sighted.jupiter;
-    Guesses {
-        moon: moon.entry as u64,
-        sun: sun.entry as u64,
-        venus: venus.entry as u64,
-        mars: mars.entry as u64,
-        jupiter: jupiter.entry as u64,
-    }
-}
-
 // The place from which the run of an order starts.
 pub fn start(book: &[u8], order: Order) -> Course
-    requires { ⌜ MayWalk (now book) (order .state) (order .h) (order .target) ⌝ }
+    requires { ⌜ MayWalk (now book) (order .setting) (order .state) (order .h) (order .target) ⌝ }
     ensures { λ r. ⌜ r ≡ startOf (now (book .entry)) order ⌝ }
 {
     let g = Guesses {
@@ -50,7 +34,7 @@ pub fn start(book: &[u8], order: Order) -> Course
     let moment = state.moment;
     Course {
         state,
-        sights: sights_at(book, setting, moment, g, false),
+        sights: sights_at(book, setting, state.centre, moment, g, false),
         left: (order.target - moment) / (order.h as u64),
         done: 0,
     }
@@ -94,7 +78,8 @@ pub fn portion(book: &[u8], setting: Setting, h: u32, from: Course, out: &mut [u
         if left == 0 {
             return portion_of(Outcome::Arrived, now, sighted, left, done, at);
         }
-        let stepped = step_under(book, setting, now, h, guesses_of(sighted), calm, sighted);
+        // where each body was found last is where to look for it first
+        let stepped = step_under(book, setting, now, h, sighted.entries, calm, sighted);
         match stepped {
             Stepped::On(next, seen) => {
                 at = put_state(out, at, next);

@@ -67,6 +67,7 @@ fn state_of(order: &[u8]) -> State
 {
     State {
         moment: u64_at(order, 48),
+        centre: 1,
         x: float_at(order, 56),
         y: float_at(order, 64),
         z: float_at(order, 72),

@@ -1,7 +1,9 @@
 -- From what the acceleration under the looked-up bodies answers to what document 01's acceleration answers, stage by stage. Assumes nothing.
+use mathlib.Core.Bool.{true}
 use mathlib.Core.List.{List}
 use mathlib.Core.Path.{_≡_, refl, sym, ap, _∙_}
 use Prim.Native.Nat.{ℕ}
+use Rattle.state.specs.State.{centreAllowed}
 use Rattle.state.specs.declared.Vector.{Vector}
 use Rattle.state.specs.declared.Setting.{Setting}
 use Rattle.gravity.specs.Acceleration.{accelerationAt}
@@ -16,12 +18,12 @@ use Rattle.motion.specs.declared.Stepped.{Stepped}
 use Rattle.motion.specs.declared.Stepped.the-variants as stepped
 
 -- p is the stage's position P, bodies the bodies at its moment, r what the acceleration under them answered
-pub answered : (b : List ℕ) (s : Setting) (t : ℕ) (P p : Vector) (bodies : Sights) (r x : AccelerationAnswer)
-    → p ≡ P → bodies ≡ sights b s t → r ≡ accelerationBy bodies (s .earth) p → r ≡ x → accelerationAt b s t P ≡ x
-answered b s t P p bodies r x place seen by is =
-    sym (underIs b s t P)
-    ∙ ap (λ (k : Sights). accelerationBy k (s .earth) P) (sym seen)
-    ∙ ap (accelerationBy bodies (s .earth)) (sym place)
+pub answered : (b : List ℕ) (s : Setting) (c : ℕ) → centreAllowed s c ≡ true → (t : ℕ) (P p : Vector) (bodies : Sights) (r x : AccelerationAnswer)
+    → p ≡ P → bodies ≡ sights b s c t → r ≡ accelerationBy bodies p → r ≡ x → accelerationAt b s c t P ≡ x
+answered b s c ok t P p bodies r x place seen by is =
+    sym (underIs b s t P c ok)
+    ∙ ap (λ (k : Sights). accelerationBy k P) (sym seen)
+    ∙ ap (accelerationBy bodies) (sym place)
     ∙ sym by
     ∙ is
 

@@ -1,16 +1,16 @@
--- What a step that was done tells: its moment, its finite components, and that every body was seen at its end. Assumes nothing.
+-- What a step that was done tells: its moment, its centre, its finite components, and that every body was seen at its end. Assumes nothing.
 use mathlib.Core.Bool.{Bool, true, false, _&&_}
 use mathlib.Core.List.{List}
 use mathlib.Core.Path.{_≡_, refl, sym, ap, _∙_, subst}
 use Prim.Native.Nat.{ℕ, _+_, _/_}
 use native.Mathlib.Omega.{arith}
 use Rattle.basis.specs.Choice.{if_then_else_}
-use Rattle.state.specs.State.{position, velocity, finiteVector, finiteState}
+use Rattle.state.specs.State.{position, velocity, finiteVector, finiteState, centreAllowed}
 use Rattle.state.specs.declared.Vector.{Vector}
 use Rattle.state.specs.declared.State.{State}
 use Rattle.state.specs.declared.Setting.{Setting}
 use Rattle.gravity.specs.Acceleration.{accelerationAt}
-use Rattle.gravity.specs.Sight.{sights, listed, refusalOf}
+use Rattle.gravity.specs.Sight.{sights}
 use Rattle.gravity.specs.declared.AccelerationAnswer.{AccelerationAnswer}
 use Rattle.gravity.specs.declared.AccelerationAnswer.the-variants.{Is, Refused}
 use Rattle.gravity.proofs.Under.{underIs, isClear}
@@ -18,8 +18,9 @@ use Rattle.motion.specs.Step.{Moved, On, Off, andThen, stateAt, arrive, 
 
 pub record Done (b : List ℕ) (setting : Setting) (h : ℕ) (s next : State) : Type 0 where
   pub moment : next .moment ≡ s .moment + h
+  pub centre : next .centre ≡ s .centre
   pub finite : finiteState next ≡ true
-  pub clear : refusalOf (listed (sights b setting (s .moment + h))) ≡ 0
+  pub clear : centreAllowed setting (s .centre) ≡ true → sights b setting (s .centre) (s .moment + h) .refusal ≡ 0
 
 -- a stage that led to a state had an acceleration
 pub record Through (q : AccelerationAnswer) (rest : Vector → Moved) (next : State) : Type 0 where
@@ -31,18 +32,18 @@ through : (q : AccelerationAnswer) (rest : Vector → Moved) (next : State) → 
 through (Is a) rest next e = record { a = a; is = refl; on = e }
 through (Refused k) rest next e = let z : _≡_ {A = ℕ} 0 1 = cc in absurd (omega arith)
 
-arrived : (t : ℕ) (p v : Vector) (next : State) → arrive t p v ≡ On next → (next ≡ stateAt t p v) × (finiteState next ≡ true)
-arrived t p v next = go (finiteVector p && finiteVector v) refl
+arrived : (t c : ℕ) (p v : Vector) (next : State) → arrive t c p v ≡ On next → (next ≡ stateAt t c p v) × (finiteState next ≡ true)
+arrived t c p v next = go (finiteVector p && finiteVector v) refl
   where
-    go : (ok : Bool) → (finiteVector p && finiteVector v) ≡ ok → (if ok then On (stateAt t p v) else Off 7) ≡ On next
-        → (next ≡ stateAt t p v) × (finiteState next ≡ true)
-    go true f e = let is : next ≡ stateAt t p v = cc in (is, ap finiteState is ∙ f)
+    go : (ok : Bool) → (finiteVector p && finiteVector v) ≡ ok → (if ok then On (stateAt t c p v) else Off 7) ≡ On next
+        → (next ≡ stateAt t c p v) × (finiteState next ≡ true)
+    go true f e = let is : next ≡ stateAt t c p v = cc in (is, ap finiteState is ∙ f)
     go false f e = let z : _≡_ {A = ℕ} 0 1 = cc in absurd (omega arith)
 
 pub done : (b : List ℕ) (setting : Setting) (h : ℕ) (s next : State) → step b setting h s ≡ On next → Done b setting h s next
 unfolding step
 done b setting h s next e =
-    let acc = accelerationAt b setting in
+    let acc = accelerationAt b setting (s .centre) in
     let one = through (acc (s .moment) (position s)) (stage2 acc h s) next e in
     let P2 = along (position s) (half h) (velocity s) in
     let two = through (acc (s .moment + h / 2) P2) (stage3 acc h s (one .a)) next (one .on) in
@@ -52,9 +53,10 @@ done b setting h s next e =
     let four = through (acc (s .moment + h) P4) (lastly h s (one .a) (two .a) (three .a)) next (three .on) in
     let P = along (position s) (sixth h) (weighed (velocity s) (velocity2 h s (one .a)) (velocity3 h s (two .a)) (velocity4 h s (three .a))) in
     let V1 = along (velocity s) (sixth h) (weighed (one .a) (two .a) (three .a) (four .a)) in
-    let last = arrived (s .moment + h) P V1 next (four .on) in
+    let last = arrived (s .moment + h) (s .centre) P V1 next (four .on) in
     record {
       moment = ap (λ (x : State). x .moment) (last .0);
+      centre = ap (λ (x : State). x .centre) (last .0);
       finite = last .1;
-      clear = isClear (sights b setting (s .moment + h)) (setting .earth) P4 (four .a) (underIs b setting (s .moment + h) P4 ∙ four .is);
+      clear = λ ok. isClear (sights b setting (s .centre) (s .moment + h)) P4 (four .a) (underIs b setting (s .moment + h) P4 (s .centre) ok ∙ four .is);
     }

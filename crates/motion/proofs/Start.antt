@@ -6,7 +6,7 @@ use Prim.Native.Nat.{ℕ, _≤_}
 use borrow.Author.Tests.{ltb-true, le-ltb}
 use Rattle.basis.specs.Choice.{if_then_else_, _=?_}
 use Rattle.basis.specs.Limits.{endOfTime}
-use Rattle.state.specs.State.{settingAllowed}
+use Rattle.state.specs.State.{settingAllowed, centreAllowed}
 use Rattle.state.specs.declared.State.{State}
 use Rattle.state.specs.declared.Setting.{Setting}
 use Rattle.book.specs.Passes.{passes}
@@ -19,22 +19,24 @@ use Rattle.motion.specs.declared.RunAnswer.{RunAnswer}
 use Rattle.start.proofs.Allowed.{longEnough}
 use Rattle.start.proofs.Passed.{Passed, passed}
 
-pub mayWalk : (b : List ℕ) (setting : Setting) (s : State) (h target : ℕ) → startRefusal b setting s h target ≡ 0 → MayWalk b s h target
+pub mayWalk : (b : List ℕ) (setting : Setting) (s : State) (h target : ℕ) → startRefusal b setting s h target ≡ 0 → MayWalk b setting s h target
 mayWalk b setting s h target e =
     let p = passed b setting s h target e in
-    record { pass = p .book; long = longEnough h (p .length); reachable = p .reachable; ends = ltb-true target endOfTime (p .ends) }
+    record { pass = p .book; centred = p .centred; long = longEnough h (p .length); reachable = p .reachable; ends = ltb-true target endOfTime (p .ends) }
 
 -- past the end of time the target is of no account
 module _ (b : List ℕ) (setting : Setting) (s : State) (given : Guesses) where
   answerBy : ℕ → Reached → RunAnswer
   answerBy k r = if k =? 0 then withGuesses b setting given r else refusedAtOnce k s given
 
-  sameLate : (p q : Bool) (r1 r2 : Reached) → answerBy (if p then 1 else if q then 4 else 3) r1 ≡ answerBy (if p then 1 else if q then 4 else 3) r2
+  sameLate : (p q c : Bool) (r1 r2 : Reached)
+      → answerBy (if p then 1 else if q then 4 else if c then 14 else 3) r1 ≡ answerBy (if p then 1 else if q then 4 else if c then 14 else 3) r2
   unfolding answerBy
-  sameLate true q r1 r2 = refl
-  sameLate false true r1 r2 = refl
-  sameLate false false r1 r2 = refl
+  sameLate true q c r1 r2 = refl
+  sameLate false true c r1 r2 = refl
+  sameLate false false true r1 r2 = refl
+  sameLate false false false r1 r2 = refl
 
   pub late : (h t1 t2 budget : ℕ) → endOfTime ≤ s .moment → runAnswer b setting s h t1 budget given ≡ runAnswer b setting s h t2 budget given
   unfolding runAnswer startRefusal answerBy
-  late h t1 t2 budget e = rw (le-ltb _ _ e) (sameLate (not (passes b)) (not (settingAllowed setting)) _ _)
+  late h t1 t2 budget e = rw (le-ltb _ _ e) (sameLate (not (passes b)) (not (settingAllowed setting)) (not (centreAllowed setting (s .centre))) _ _)

@@ -1,4 +1,5 @@
 -- The loop over the steps: how it starts, goes on and ends, in terms of `Walking`. Assumes nothing.
+use mathlib.Core.Bool.{true}
 use mathlib.Core.List.{List}
 use mathlib.Core.Path.{_≡_, refl, sym, ap, _∙_}
 use Prim.Native.Nat.{ℕ, zero, suc, _+_, _-_, _*_, _/_, _%_, _≤_, _<_}
@@ -6,15 +7,16 @@ use native.Mathlib.Nat.{suc-mul, zero-mul}
 use native.Mathlib.Omega.{arith}
 use borrow.Author.Tests.{ne-eqb}
 use Rattle.basis.specs.Limits.{endOfTime}
+use Rattle.state.specs.State.{centreAllowed}
 use Rattle.state.specs.declared.State.{State}
 use Rattle.state.specs.declared.Setting.{Setting}
-use Rattle.gravity.specs.Sight.{sights, sightOf, listed}
+use Rattle.gravity.specs.Sight.{sights, foundIn, refusalIn}
 use Rattle.gravity.specs.declared.Sights.{Sights}
 use Rattle.gravity.specs.declared.Guesses.{Guesses}
 use Rattle.gravity.proofs.Under.{allClear, seenEntry}
 use Rattle.motion.specs.Step.{Moved, On, Off, step}
 use Rattle.motion.specs.Run.{Reached, ended, runTo, guessesAt, guessesAfter, handedBack, withGuesses}
-use Rattle.motion.specs.Kept.{kept, bodiesAfter, guessesFrom, countedBy, MayWalk, Walking}
+use Rattle.motion.specs.Kept.{kept, bodiesAfter, guessesFrom, countedBy, MayStep, MayWalk, Walking}
 use Rattle.motion.specs.declared.RunAnswer.{RunAnswer}
 use Rattle.motion.specs.declared.Outcome.{Outcome}
 use Rattle.motion.specs.declared.Outcome.the-variants.{Arrived, Going, Refused}
@@ -32,11 +34,11 @@ oneLess t h (suc left) target short e = (left, let m = suc-mul left h in omega a
 
 -- ---- the guesses after a step
 
-pub guessesSeen : (b : List ℕ) (s : Setting) (t : ℕ) (given : Guesses) → Rattle.gravity.specs.Sight.refusalOf (listed (sights b s t)) ≡ 0
-    → guessesFrom (sights b s t) given ≡ guessesAt b s t given
-unfolding sights guessesAt
-guessesSeen b s t given clear =
-    let all = allClear (listed (sights b s t)) clear in
+pub guessesSeen : (b : List ℕ) (s : Setting) (c t : ℕ) (given : Guesses) → sights b s c t .refusal ≡ 0
+    → guessesFrom s (sights b s c t) given ≡ guessesAt b s t given
+unfolding sights foundIn refusalIn guessesAt
+guessesSeen b s c t given clear =
+    let all = allClear _ clear in
     λ i.
     record {
       moon = seenEntry b 2 (s .moon) t (given .moon) (all .0) i;
@@ -61,12 +63,13 @@ handedOff bodies (On s) k e = let z : _≡_ {A = ℕ} 0 1 = cc in absurd (omega 
 handedOff bodies (Off j) k e = cc
 
 module _ (b : List ℕ) (setting : Setting) (start : State) (h target budget : ℕ) (given : Guesses) where
-  pub walkStarts : MayWalk b start h target → (bodies : Sights) → bodies ≡ sights b setting (start .moment)
+  pub walkStarts : MayWalk b setting start h target → (bodies : Sights) → bodies ≡ sights b setting (start .centre) (start .moment)
       → Walking b setting start h target budget given start bodies given 0
   walkStarts may bodies e =
       record {
         within = omega arith;
         rest = countNone _ ∙ ap (λ (k : ℕ). countedBy 0 (runTo (step b setting h) target k start)) (omega arith);
+        centred = may .centred;
         seen = e;
         guess = refl;
         left = (target - start .moment) / h;
@@ -74,8 +77,8 @@ module _ (b : List ℕ) (setting : Setting) (start : State) (h target budget : �
       }
 
   module _ (now : State) (bodies : Sights) (guesses : Guesses) (n : ℕ) (w : Walking b setting start h target budget given now bodies guesses n) where
-    pub walkIn : target < endOfTime → now .moment < endOfTime
-    walkIn e = let r = w .reach in omega arith
+    pub walkIn : target < endOfTime → MayStep setting now
+    walkIn e = (let r = w .reach in omega arith, w .centred)
 
     pub walkEnds : (o : Outcome) → runTo (step b setting h) target (budget - n) now ≡ ended o now
         → handedBack o n now guesses ≡ withGuesses b setting given (runTo (step b setting h) target budget start)
@@ -86,7 +89,7 @@ module _ (b : List ℕ) (setting : Setting) (start : State) (h target budget : �
 
     pub walkGoesOn : (next : State) (seen : Sights) → n < budget → (now .moment ≡ target → ⊥)
         → stepped.On next seen ≡ kept (bodiesAfter b setting h now) (step b setting h now)
-        → Walking b setting start h target budget given next seen (guessesFrom seen given) (n + 1)
+        → Walking b setting start h target budget given next seen (guessesFrom setting seen given) (n + 1)
     walkGoesOn next seen room short e =
         let handed = handedOn (bodiesAfter b setting h now) (step b setting h now) next seen e in
         let did = done b setting h now next (handed .on) in
@@ -98,10 +101,14 @@ module _ (b : List ℕ) (setting : Setting) (start : State) (h target budget : �
               ∙ ap (λ (m : ℕ). countedBy n (runTo (step b setting h) target m now)) (omega arith)
               ∙ ap (countedBy n) (runOn (step b setting h) target now short (budget - (n + 1)) next (handed .on))
               ∙ countOne n (runTo (step b setting h) target (budget - (n + 1)) next);
-          seen = handed .at ∙ ap (sights b setting) (sym (did .moment));
+          centred = ap (centreAllowed setting) (did .centre) ∙ w .centred;
+          seen =
+              handed .at
+              ∙ ap (λ (c : ℕ). sights b setting c (now .moment + h)) (sym (did .centre))
+              ∙ ap (sights b setting (next .centre)) (sym (did .moment));
           guess =
-              ap (λ (s : Sights). guessesFrom s given) (handed .at)
-              ∙ guessesSeen b setting (now .moment + h) given (did .clear)
+              ap (λ (s : Sights). guessesFrom setting s given) (handed .at)
+              ∙ guessesSeen b setting (now .centre) (now .moment + h) given (did .clear (w .centred))
               ∙ ap (λ (t : ℕ). guessesAt b setting t given) (sym (did .moment))
               ∙ sym (rw (ne-eqb (n + 1) 0 (λ z. absurd (omega arith))));
           left = k .0;

@@ -6,11 +6,11 @@ use Prim.Native.Nat.{ℕ, _+_, _-_, _*_, _≤_, _<_}
 use Rattle.basis.specs.Choice.{if_then_else_}
 use Rattle.basis.specs.Limits.{endOfTime}
 use Rattle.book.specs.Passes.{passes}
-use Rattle.state.specs.State.{used}
+use lib.Ieee.{Float}
+use Rattle.state.specs.State.{used, centreAllowed}
 use Rattle.state.specs.declared.Setting.{Setting}
 use Rattle.state.specs.declared.State.{State}
 use Rattle.gravity.specs.Sight.{sights}
-use Rattle.gravity.specs.declared.Sight.{Sight}
 use Rattle.gravity.specs.declared.Sights.{Sights}
 use Rattle.gravity.specs.declared.Guesses.{Guesses}
 use Rattle.motion.specs.Step.{Moved, On, Off, step}
@@ -24,19 +24,23 @@ kept bodies (On s) = stepped.On s bodies
 kept bodies (Off k) = stepped.Off k
 
 abbrev pub bodiesAfter : List ℕ → Setting → ℕ → State → Sights
-bodiesAfter b setting h s = sights b setting (s .moment + h)
+bodiesAfter b setting h s = sights b setting (s .centre) (s .moment + h)
 
-abbrev pub guessFrom : Sight → ℕ → ℕ
-guessFrom b given = if used (b .m) then b .entry else given
+-- what a step may lean on
+abbrev pub MayStep : Setting → State → Type 0
+MayStep setting s = (s .moment < endOfTime) × (centreAllowed setting (s .centre) ≡ true)
 
-abbrev pub guessesFrom : Sights → Guesses → Guesses
-guessesFrom s given =
+abbrev pub guessFrom : Float → ℕ → ℕ → ℕ
+guessFrom m entry given = if used m then entry else given
+
+abbrev pub guessesFrom : Setting → Sights → Guesses → Guesses
+guessesFrom setting s given =
     record {
-      moon = guessFrom (s .moon) (given .moon);
-      sun = guessFrom (s .sun) (given .sun);
-      venus = guessFrom (s .venus) (given .venus);
-      mars = guessFrom (s .mars) (given .mars);
-      jupiter = guessFrom (s .jupiter) (given .jupiter);
+      moon = guessFrom (setting .moon) (s .entries .moon) (given .moon);
+      sun = guessFrom (setting .sun) (s .entries .sun) (given .sun);
+      venus = guessFrom (setting .venus) (s .entries .venus) (given .venus);
+      mars = guessFrom (setting .mars) (s .entries .mars) (given .mars);
+      jupiter = guessFrom (setting .jupiter) (s .entries .jupiter) (given .jupiter);
     }
 
 -- a run's outcome after n steps more
@@ -44,8 +48,9 @@ abbrev pub countedBy : ℕ → Reached → Reached
 countedBy n r = record { outcome = r .outcome; steps = n + r .steps; state = r .state }
 
 -- what a run that passed its checks may lean on
-pub record MayWalk (b : List ℕ) (s : State) (h target : ℕ) : Type 0 where
+pub record MayWalk (b : List ℕ) (setting : Setting) (s : State) (h target : ℕ) : Type 0 where
   pub pass : passes b ≡ true
+  pub centred : centreAllowed setting (s .centre) ≡ true
   pub long : 2 ≤ h
   pub reachable : withinSteps (s .moment) h target ≡ true
   pub ends : target < endOfTime
@@ -54,7 +59,8 @@ pub record MayWalk (b : List ℕ) (s : State) (h target : ℕ) : Type 0 where
 pub record Walking (b : List ℕ) (setting : Setting) (start : State) (h target budget : ℕ) (given : Guesses) (now : State) (bodies : Sights) (guesses : Guesses) (n : ℕ) : Type 0 where
   pub within : n ≤ budget
   pub rest : runTo (step b setting h) target budget start ≡ countedBy n (runTo (step b setting h) target (budget - n) now)
-  pub seen : bodies ≡ sights b setting (now .moment)
+  pub centred : centreAllowed setting (now .centre) ≡ true
+  pub seen : bodies ≡ sights b setting (now .centre) (now .moment)
   pub guess : guesses ≡ guessesAfter b setting n (now .moment) given
   pub left : ℕ
   pub reach : now .moment + left * h ≡ target

@@ -50,12 +50,12 @@ abbrev pub andThen : AccelerationAnswer → (Vector → Moved) → Moved
 andThen (Is a) next = next a
 andThen (Refused k) next = Off k
 
-abbrev pub stateAt : ℕ → Vector → Vector → State
-stateAt t p v = record { moment = t; x = p .x; y = p .y; z = p .z; vx = v .x; vy = v .y; vz = v .z }
+abbrev pub stateAt : ℕ → ℕ → Vector → Vector → State
+stateAt t centre p v = record { moment = t; centre = centre; x = p .x; y = p .y; z = p .z; vx = v .x; vy = v .y; vz = v .z }
 
 -- "A new component that is not finite gives 7"
-abbrev pub arrive : ℕ → Vector → Vector → Moved
-arrive t p v = if finiteVector p && finiteVector v then On (stateAt t p v) else Off 7
+abbrev pub arrive : ℕ → ℕ → Vector → Vector → Moved
+arrive t centre p v = if finiteVector p && finiteVector v then On (stateAt t centre p v) else Off 7
 
 -- The velocity of a stage, from the acceleration of the stage before it. The slope of a position is the stage's velocity, that of a
 -- velocity the stage's acceleration.
@@ -68,10 +68,10 @@ velocity3 h s a2 = along (velocity s) (half h) a2
 abbrev pub velocity4 : ℕ → State → Vector → Vector
 velocity4 h s a3 = along (velocity s) (stepH h) a3
 
--- "The new moment is t + h"
+-- "The new moment is t + h"; the centre stays
 abbrev pub lastly : ℕ → State → Vector → Vector → Vector → Vector → Moved
 lastly h s a1 a2 a3 a4 =
-    arrive (s .moment + h)
+    arrive (s .moment + h) (s .centre)
     (along (position s) (sixth h) (weighed (velocity s) (velocity2 h s a1) (velocity3 h s a2) (velocity4 h s a3)))
     (along (velocity s) (sixth h) (weighed a1 a2 a3 a4))
 
@@ -90,4 +90,4 @@ module _ (acc : ℕ → Vector → AccelerationAnswer) (h : ℕ) (s : State) whe
   stage1 = andThen (acc (s .moment) (position s)) stage2
 
 unfoldable pub step : List ℕ → Setting → ℕ → State → Moved
-step b setting h s = stage1 (accelerationAt b setting) h s
+step b setting h s = stage1 (accelerationAt b setting (s .centre)) h s

@@ -9,12 +9,10 @@ use gravity::known::acceleration_under;
 use state::Setting;
 use state::State;
 ghost use mathlib.Core.Path.{_≡_};
-ghost use Prim.Native.Nat.{_<_};
 ghost use Rattle.book.specs.Calm.{Ready};
-ghost use Rattle.basis.specs.Limits.{endOfTime};
 ghost use Rattle.gravity.specs.Sight.{sights};
 ghost use Rattle.motion.specs.Step.{step};
-ghost use Rattle.motion.specs.Kept.{kept, bodiesAfter};
+ghost use Rattle.motion.specs.Kept.{kept, bodiesAfter, MayStep};
 
 // One step from s, whose bodies at its own moment are known. `calm` is told only of a book in which no velocity can overflow.
 pub fn step_under(
@@ -26,11 +24,11 @@ pub fn step_under(
     calm: bool,
     bodies: Sights,
 ) -> Stepped
-    requires { ⌜ (Ready (now book) calm) × (s .moment < endOfTime) ⌝ }
-    requires { ⌜ bodies ≡ sights (now book) setting (s .moment) ⌝ }
+    requires { ⌜ (Ready (now book) calm) × (MayStep setting s) ⌝ }
+    requires { ⌜ bodies ≡ sights (now book) setting (s .centre) (s .moment) ⌝ }
     ensures { λ r. ⌜ r ≡ kept (bodiesAfter (now (book .entry)) setting h s) (step (now (book .entry)) setting h s) ⌝ }
 {
-    let answer = acceleration_under(bodies, setting.earth, state::position_of(s));
+    let answer = acceleration_under(bodies, state::position_of(s));
     match answer {
         AccelerationAnswer::Is(a1) => second_stage(book, setting, s, h, g, calm, a1),
         AccelerationAnswer::Refused(k) => Stepped::Off(k),

@@ -16,7 +16,7 @@ ghost use Rattle.basis.specs.Limits.{endOfTime};
 ghost use Rattle.gravity.specs.Acceleration.{accelerationAt};
 ghost use Rattle.gravity.specs.Sight.{sights};
 ghost use Rattle.motion.specs.Step.{stepH, along, weigh, weighed, half, sixth, velocity2, velocity3, velocity4, lastly, stage2, stage3, stage4};
-ghost use Rattle.motion.specs.Kept.{kept, bodiesAfter};
+ghost use Rattle.motion.specs.Kept.{kept, bodiesAfter, MayStep};
 
 fn seconds(h: u32) -> f64
     ensures { λ r. ⌜ r ≡ stepH h ⌝ }
@@ -87,6 +87,7 @@ fn finish(
         if state::vector_is_finite(w) {
             let next = State {
                 moment: s.moment + h as u64,
+                centre: s.centre,
                 x: p.x,
                 y: p.y,
                 z: p.z,
@@ -111,13 +112,13 @@ fn fourth_stage(
     a2: Vector,
     a3: Vector,
 ) -> Stepped
-    requires { ⌜ (Ready (now book) calm) × (s .moment < endOfTime) ⌝ }
-    ensures { λ r. ⌜ r ≡ kept (bodiesAfter (now (book .entry)) setting h s) (stage4 (accelerationAt (now (book .entry)) setting) h s a1 a2 a3) ⌝ }
+    requires { ⌜ (Ready (now book) calm) × (MayStep setting s) ⌝ }
+    ensures { λ r. ⌜ r ≡ kept (bodiesAfter (now (book .entry)) setting h s) (stage4 (accelerationAt (now (book .entry)) setting (s .centre)) h s a1 a2 a3) ⌝ }
 {
     let v3 = toward(state::velocity_of(s), half_of(h), a2);
     let p4 = toward(state::position_of(s), seconds(h), v3);
-    let bodies = sights_at(book, setting, s.moment + h as u64, g, calm);
-    let answer = acceleration_under(bodies, setting.earth, p4);
+    let bodies = sights_at(book, setting, s.centre, s.moment + h as u64, g, calm);
+    let answer = acceleration_under(bodies, p4);
     match answer {
         AccelerationAnswer::Is(a4) => finish(s, h, bodies, a1, a2, a3, a4),
         AccelerationAnswer::Refused(k) => Stepped::Off(k),
@@ -135,14 +136,14 @@ fn third_stage(
     a1: Vector,
     a2: Vector,
 ) -> Stepped
-    requires { ⌜ (Ready (now book) calm) × (s .moment < endOfTime) ⌝ }
-    requires { ⌜ bodies ≡ sights (now book) setting (s .moment + h / 2) ⌝ }
-    ensures { λ r. ⌜ r ≡ kept (bodiesAfter (now (book .entry)) setting h s) (stage3 (accelerationAt (now (book .entry)) setting) h s a1 a2) ⌝ }
+    requires { ⌜ (Ready (now book) calm) × (MayStep setting s) ⌝ }
+    requires { ⌜ bodies ≡ sights (now book) setting (s .centre) (s .moment + h / 2) ⌝ }
+    ensures { λ r. ⌜ r ≡ kept (bodiesAfter (now (book .entry)) setting h s) (stage3 (accelerationAt (now (book .entry)) setting (s .centre)) h s a1 a2) ⌝ }
 {
     let half = half_of(h);
     let v2 = toward(state::velocity_of(s), half, a1);
     let p3 = toward(state::position_of(s), half, v2);
-    let answer = acceleration_under(bodies, setting.earth, p3);
+    let answer = acceleration_under(bodies, p3);
     match answer {
         AccelerationAnswer::Is(a3) => fourth_stage(book, setting, s, h, g, calm, a1, a2, a3),
         AccelerationAnswer::Refused(k) => Stepped::Off(k),
@@ -159,12 +160,12 @@ pub fn second_stage(
     calm: bool,
     a1: Vector,
 ) -> Stepped
-    requires { ⌜ (Ready (now book) calm) × (s .moment < endOfTime) ⌝ }
-    ensures { λ r. ⌜ r ≡ kept (bodiesAfter (now (book .entry)) setting h s) (stage2 (accelerationAt (now (book .entry)) setting) h s a1) ⌝ }
+    requires { ⌜ (Ready (now book) calm) × (MayStep setting s) ⌝ }
+    ensures { λ r. ⌜ r ≡ kept (bodiesAfter (now (book .entry)) setting h s) (stage2 (accelerationAt (now (book .entry)) setting (s .centre)) h s a1) ⌝ }
 {
     let p2 = toward(state::position_of(s), half_of(h), state::velocity_of(s));
-    let bodies = sights_at(book, setting, s.moment + (h / 2) as u64, g, calm);
-    let answer = acceleration_under(bodies, setting.earth, p2);
+    let bodies = sights_at(book, setting, s.centre, s.moment + (h / 2) as u64, g, calm);
+    let answer = acceleration_under(bodies, p2);
     match answer {
         AccelerationAnswer::Is(a2) => third_stage(book, setting, s, h, g, calm, bodies, a1, a2),
         AccelerationAnswer::Refused(k) => Stepped::Off(k),

@@ -5,7 +5,6 @@ use crate::RunAnswer;
 use crate::Stepped;
 use crate::known::step_under;
 use gravity::Guesses;
-use gravity::Sight;
 use gravity::Sights;
 use gravity::known::sights_at;
 use state::Setting;
@@ -15,26 +14,22 @@ ghost use Rattle.motion.specs.Step.{step};
 ghost use Rattle.motion.specs.Run.{handedBack, runTo, withGuesses};
 ghost use Rattle.motion.specs.Kept.{guessFrom, guessesFrom, MayWalk};
 
-fn guess_from(b: Sight, given: u64) -> u64
-    ensures { λ r. ⌜ r ≡ guessFrom b given ⌝ }
+fn guess_from(m: f64, entry: u64, given: u64) -> u64
+    ensures { λ r. ⌜ r ≡ guessFrom m entry given ⌝ }
 {
-    if 0.0 < b.m { b.entry as u64 } else { given }
+    if 0.0 < m { entry } else { given }
 }
 
-fn guesses_from(bodies: Sights, given: Guesses) -> Guesses
-    ensures { λ r. ⌜ r ≡ guessesFrom bodies given ⌝ }
+fn guesses_from(setting: Setting, bodies: Sights, given: Guesses) -> Guesses
+    ensures { λ r. ⌜ r ≡ guessesFrom setting bodies given ⌝ }
 {
-    let moon = bodies.moon;
-    let sun = bodies.sun;
-    let venus = bodies.venus;
-    let mars = bodies.mars;
-    let jupiter = bodies.jupiter;
+    let entries = bodies.entries;
     Guesses {
-        moon: guess_from(moon, given.moon),
-        sun: guess_from(sun, given.sun),
-        venus: guess_from(venus, given.venus),
-        mars: guess_from(mars, given.mars),
-        jupiter: guess_from(jupiter, given.jupiter),
+        moon: guess_from(setting.moon, entries.moon, given.moon),
+        sun: guess_from(setting.sun, entries.sun, given.sun),
+        venus: guess_from(setting.venus, entries.venus, given.venus),
+        mars: guess_from(setting.mars, entries.mars, given.mars),
+        jupiter: guess_from(setting.jupiter, entries.jupiter, given.jupiter),
     }
 }
 
@@ -59,11 +54,11 @@ pub fn walk_on(
     budget: u32,
     given: Guesses,
 ) -> RunAnswer
-    requires { ⌜ MayWalk (now book) start h target ⌝ }
+    requires { ⌜ MayWalk (now book) setting start h target ⌝ }
     ensures { λ r. ⌜ r ≡ withGuesses (now (book .entry)) setting given (runTo (step (now (book .entry)) setting h) target budget start) ⌝ }
 {
     let calm = book::known::book_calm(book);
-    let mut bodies = sights_at(book, setting, start.moment, given, calm);
+    let mut bodies = sights_at(book, setting, start.centre, start.moment, given, calm);
     let mut now = start;
     let mut guesses = given;
     let mut n: u32 = 0;
@@ -76,7 +71,7 @@ pub fn walk_on(
             Stepped::On(next, seen) => {
                 now = next;
                 bodies = seen;
-                guesses = guesses_from(seen, given);
+                guesses = guesses_from(setting, seen, given);
                 n += 1;
             }
             Stepped::Off(k) => {

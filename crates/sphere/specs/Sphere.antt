@@ -82,8 +82,9 @@ transposed table =
     ∷ (element table 0 2 ∷ element table 1 2 ∷ element table 2 2 ∷ [])
     ∷ []
 
+-- a state about the Earth
 abbrev pub stateOf : ℕ → Vector → Vector → State
-stateOf moment p v = record { moment = moment; x = p .x; y = p .y; z = p .z; vx = v .x; vy = v .y; vz = v .z }
+stateOf moment p v = record { moment = moment; centre = 1; x = p .x; y = p .y; z = p .z; vx = v .x; vy = v .y; vz = v .z }
 
 -- from Earth-fixed position and velocity, by the turn of the moment
 unfoldable pub returned : ℕ → Rotation → Vector → Vector → State

@@ -83,6 +83,7 @@ pub fn returned_state(moment: u64, table: [[f64; 3]; 3], w: f64, p: Vector, v: V
     let velocity = table_times(back, carried_velocity(w, p, v));
     State {
         moment,
+        centre: 1,
         x: place.x,
         y: place.y,
         z: place.z,

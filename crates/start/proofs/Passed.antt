@@ -6,7 +6,7 @@ use Prim.Native.Nat.{ℕ, suc}
 use native.Mathlib.Omega.{arith}
 use Rattle.basis.specs.Choice.{if_then_else_}
 use Rattle.basis.specs.Limits.{isMoment}
-use Rattle.state.specs.State.{finiteState, settingAllowed}
+use Rattle.state.specs.State.{finiteState, settingAllowed, centreAllowed}
 use Rattle.state.specs.declared.State.{State}
 use Rattle.state.specs.declared.Setting.{Setting}
 use Rattle.book.specs.Passes.{passes}
@@ -16,6 +16,7 @@ use Rattle.start.specs.Start.{stepAllowed, withinSteps, startRefusal}
 pub record Passed (b : List ℕ) (setting : Setting) (s : State) (h target : ℕ) : Type 0 where
   pub book : passes b ≡ true
   pub set : settingAllowed setting ≡ true
+  pub centred : centreAllowed setting (s .centre) ≡ true
   pub begins : isMoment (s .moment) ≡ true
   pub ends : isMoment target ≡ true
   pub finite : finiteState s ≡ true
@@ -32,14 +33,15 @@ unfolding startRefusal
 passed b setting s h target e =
     let p1 = next (passes b) 0 _ e in
     let p2 = next (settingAllowed setting) 3 _ (p1 .1) in
-    let p3 = next (isMoment (s .moment)) 2 _ (p2 .1) in
+    let p = next (centreAllowed setting (s .centre)) 13 _ (p2 .1) in
+    let p3 = next (isMoment (s .moment)) 2 _ (p .1) in
     let p4 = next (isMoment target) 2 _ (p3 .1) in
     let p5 = next (finiteState s) 6 _ (p4 .1) in
     let p6 = next (stepAllowed h) 1 _ (p5 .1) in
     let p7 = next (withinSteps (s .moment) h target) 4 _ (p6 .1) in
-    record { book = p1 .0; set = p2 .0; begins = p3 .0; ends = p4 .0; finite = p5 .0; length = p6 .0; reachable = p7 .0 }
+    record { book = p1 .0; set = p2 .0; centred = p .0; begins = p3 .0; ends = p4 .0; finite = p5 .0; length = p6 .0; reachable = p7 .0 }
 
 -- and the other way
 pub passes-all : (b : List ℕ) (setting : Setting) (s : State) (h target : ℕ) → Passed b setting s h target → startRefusal b setting s h target ≡ 0
 unfolding startRefusal
-passes-all b setting s h target p = rw (p .book, p .set, p .begins, p .ends, p .finite, p .length, p .reachable)
+passes-all b setting s h target p = rw (p .book, p .set, p .centred, p .begins, p .ends, p .finite, p .length, p .reachable)

@@ -1,10 +1,10 @@
--- Document 01, "The step and the run" and "Refusal numbers": what a run call is checked for before its first step.
+-- Document 01, "The step and the run" and "Refusal numbers", and document 02, R-6: what a run call is checked for before its first step.
 use mathlib.Core.Bool.{Bool, not, _&&_}
 use mathlib.Core.List.{List}
 use Prim.Native.Nat.{ℕ, _-_, _%_}
 use Rattle.basis.specs.Choice.{if_then_else_, _≤?_, _=?_}
 use Rattle.basis.specs.Limits.{isMoment}
-use Rattle.state.specs.State.{finiteState, settingAllowed}
+use Rattle.state.specs.State.{finiteState, settingAllowed, centreAllowed}
 use Rattle.state.specs.declared.State.{State}
 use Rattle.state.specs.declared.Setting.{Setting}
 use Rattle.book.specs.Passes.{passes}
@@ -17,11 +17,12 @@ stepAllowed h = (2 ≤? h) && (h ≤? 86_400_000) && (h % 2 =? 0)
 abbrev pub withinSteps : ℕ → ℕ → ℕ → Bool
 withinSteps t h target = (t ≤? target) && ((target - t) % h =? 0)
 
--- "Run call order: 1, 4, 3 (state, then target), 7 (state), 2, 5"; 0 where the steps may begin
+-- "Run call order: 1, 4, 3 (state, then target), 7 (state), 2, 5", and R-6: 14 "directly after 4"; 0 where the steps may begin
 unfoldable pub startRefusal : List ℕ → Setting → State → ℕ → ℕ → ℕ
 startRefusal b setting s h target =
     if not (passes b) then 1 else
     if not (settingAllowed setting) then 4 else
+    if not (centreAllowed setting (s .centre)) then 14 else
     if not (isMoment (s .moment)) then 3 else
     if not (isMoment target) then 3 else
     if not (finiteState s) then 7 else

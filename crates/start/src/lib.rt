@@ -43,13 +43,14 @@ fn is_moment(t: u64) -> bool
     t < END_OF_TIME
 }
 
-// The number of the first check that fails, in document 01's order, 0 where none does. The checks are made first and then
+// The number of the first check that fails, in document 01's order, with R-6's 14, 0 where none does. The checks are made first and then
 // put in order, the last one first.
 pub fn start_refusal(book: &[u8], setting: Setting, s: State, h: u32, target: u64) -> u64
     ensures { λ r. ⌜ r ≡ startRefusal (now (book .entry)) setting s h target ⌝ }
 {
     let passes = book::book_passes(book);
     let allowed = state::setting_is_allowed(setting);
+    let centred = state::centre_is_allowed(setting, s.centre);
     let begins = is_moment(s.moment);
     let ends = is_moment(target);
     let finite = state::state_is_finite(s);
@@ -59,7 +60,8 @@ pub fn start_refusal(book: &[u8], setting: Setting, s: State, h: u32, target: u6
     let after_state = unless(length, 2, after_length);
     let after_target = unless(finite, 7, after_state);
     let after_moment = unless(ends, 3, after_target);
-    let after_setting = unless(begins, 3, after_moment);
+    let after_centre = unless(begins, 3, after_moment);
+    let after_setting = unless(centred, 14, after_centre);
     let after_book = unless(allowed, 4, after_setting);
     unless(passes, 1, after_book)
 }

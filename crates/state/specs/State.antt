@@ -1,8 +1,10 @@
--- Document 01, "Setting, state, acceleration", and document 02, R-9: what a state and a setting hold, and which are allowed.
+-- Document 01, "Setting, state, acceleration", and document 02, R-6 and R-9: what a state and a setting hold, and which are allowed.
 use mathlib.Core.Bool.{Bool, not, _&&_}
 use lib.Ieee.{Float}
 use lib.Ieee.Scale.{finite}
-use Rattle.basis.specs.Floats.{_⊕_, _⊗_, above0, below0}
+use Prim.Native.Nat.{ℕ}
+use Rattle.basis.specs.Choice.{if_then_else_, _=?_, _≤?_}
+use Rattle.basis.specs.Floats.{_⊕_, _⊗_, zero64, above0, below0}
 use Rattle.basis.specs.Limits.{isDUT}
 use Rattle.hour.specs.Hour.{isRule}
 use Rattle.state.specs.declared.Vector.{Vector}
@@ -46,3 +48,21 @@ settingAllowed s =
     && coefficientAllowed (s .jupiter)
     && isDUT (s .dut)
     && isRule (s .rule)
+
+-- "centre, 1 to 6"
+abbrev pub isBody : ℕ → Bool
+isBody number = (1 ≤? number) && (number ≤? 6)
+
+-- the coefficient of the body of that number, "1 to 6"; outside there is none, and 0 stands for it
+unfoldable pub coefficientOf : Setting → ℕ → Float
+coefficientOf s number =
+    if number =? 1 then s .earth else
+    if number =? 2 then s .moon else
+    if number =? 3 then s .sun else
+    if number =? 4 then s .venus else
+    if number =? 5 then s .mars else
+    if number =? 6 then s .jupiter else zero64
+
+-- "The centre must be a used body": document 02, R-6, "a centre outside 1 to 6 or unused is 14"
+unfoldable pub centreAllowed : Setting → ℕ → Bool
+centreAllowed s centre = used (coefficientOf s centre)

@@ -1,7 +1,7 @@
 // A spacecraft's state, the setting it moves under, and the tests that both have to pass.
 
 ghost use mathlib.Core.Path.{_≡_};
-ghost use Rattle.state.specs.State.{position, velocity, n, finiteVector, finiteState, coefficientAllowed, earthAllowed, settingAllowed};
+ghost use Rattle.state.specs.State.{position, velocity, n, finiteVector, finiteState, coefficientAllowed, earthAllowed, settingAllowed, isBody, coefficientOf, centreAllowed};
 
 pub struct Vector {
     pub x: f64,
@@ -9,9 +9,10 @@ pub struct Vector {
     pub z: f64,
 }
 
-// A moment, with the position in km and the velocity in km/s.
+// A moment, with the position in km and the velocity in km/s, both from a centre: (02, R-6) the number of a body.
 pub struct State {
     pub moment: u64,
+    pub centre: u64,
     pub x: f64,
     pub y: f64,
     pub z: f64,
@@ -123,4 +124,35 @@ pub fn setting_is_allowed(s: Setting) -> bool
         return s.rule <= hour::LAST_RULE;
     }
     false
+}
+
+// Whether there is a body of that number.
+pub fn is_body(number: u64) -> bool
+    ensures { λ r. ⌜ r ≡ isBody number ⌝ }
+{
+    if number < 1 {
+        return false;
+    }
+    number <= 6
+}
+
+// The coefficient of the body of that number; 0 where there is no such body.
+pub fn coefficient_of(s: Setting, number: u64) -> f64
+    ensures { λ r. ⌜ r ≡ coefficientOf s number ⌝ }
+{
+    match number {
+        1 => s.earth,
+        2 => s.moon,
+        3 => s.sun,
+        4 => s.venus,
+        5 => s.mars,
+        6 => s.jupiter,
+        _ => 0.0,
+    }
+}
+
+pub fn centre_is_allowed(s: Setting, centre: u64) -> bool
+    ensures { λ r. ⌜ r ≡ centreAllowed s centre ⌝ }
+{
+    0.0 < coefficient_of(s, centre)
 }

@@ -40,16 +40,38 @@ extern "C" {
         rule: u64, moment: u64, dut: u32, sizes: &[f64; 2], angles: &[i64; 4],
         coordinates: &mut [f64; 6],
     ) -> u64;
-    fn belfry_turn(
-        rule: u64, dut: u32, moment: u64, coordinates: &[f64; 6], turned: &mut [f64; 6],
-    ) -> u64;
     fn belfry_conic(
         m: f64, moment: u64, coordinates: &[f64; 6], names: &mut [u64; 2], figures: &mut [f64; 5],
+    ) -> u64;
+    fn belfry_pull(
+        book: *const u8, length: usize, coefficients: &[f64; 6], dut: u32, rule: u64, moment: u64,
+        centre: u64, position: &[f64; 3], acceleration: &mut [f64; 3],
+    ) -> u64;
+    fn belfry_move(
+        book: *const u8, length: usize, coefficients: &[f64; 6], dut: u32, rule: u64, moment: u64,
+        centre: u64, coordinates: &[f64; 6], target_centre: u64, moved: &mut [f64; 6],
+    ) -> u64;
+    fn belfry_fly(
+        book: *const u8, length: usize, coefficients: &[f64; 6], dut: u32, rule: u64, moment: u64,
+        centre: u64, coordinates: &[f64; 6], h: u32, target: u64, budget: u32, guesses: &[u64; 5],
+        reached: &mut u64, there: &mut [f64; 6], entries: &mut [u64; 5], steps: &mut u32,
+    ) -> u64;
+    fn belfry_turn(
+        rule: u64, dut: u32, moment: u64, centre: u64, coordinates: &[f64; 6],
+        turned: &mut [f64; 6],
+    ) -> u64;
+    fn belfry_orbit(
+        m: f64, moment: u64, centre: u64, coordinates: &[f64; 6], names: &mut [u64; 2],
+        figures: &mut [f64; 5],
     ) -> u64;
 }
 
 /// What a run returns while it is still going.
 const GOING: u64 = 100;
+
+/// The Earth's number as a centre. The calls that take no centre are about it: `acceleration`, `run`,
+/// `single_step`, `earth_fixed` and `conic`, which do not read a state's centre, nor a setting's rule.
+pub const EARTH: u64 = 1;
 
 /// What a conic's second name says of an ellipse.
 const ELLIPSE: u64 = 1;
@@ -68,17 +90,20 @@ pub struct Repaired {
     pub changed: [bool; 4],
 }
 
-/// The gravitational coefficients of the bodies 1 to 6 in km³/s², and DUT in milliseconds.
+/// The gravitational coefficients of the bodies 1 to 6 in km³/s², DUT in milliseconds, and the rule of
+/// the hour angle.
 #[derive(Clone, Copy, Debug)]
 pub struct Setting {
     pub coefficients: [f64; 6],
     pub dut: u32,
+    pub rule: u64,
 }
 
-/// A moment, with x, y, z in km and then their rates in km/s.
+/// A moment and a centre, with x, y, z from it in km and then their rates in km/s.
 #[derive(Clone, Copy, Debug)]
 pub struct State {
     pub moment: u64,
+    pub centre: u64,
     pub coordinates: [f64; 6],
 }
 
@@ -201,10 +226,13 @@ pub fn acceleration(
     answer(number, acceleration)
 }
 
-fn ran(call: impl FnOnce(&mut u64, &mut [f64; 6], &mut [u64; 5], &mut u32) -> u64) -> Ran {
+fn ran(
+    centre: u64, call: impl FnOnce(&mut u64, &mut [f64; 6], &mut [u64; 5], &mut u32) -> u64,
+) -> Ran {
     let (mut moment, mut coordinates, mut guesses, mut steps) = (0, [0.0; 6], [0; 5], 0);
     let number = call(&mut moment, &mut coordinates, &mut guesses, &mut steps);
-    Ran { outcome: outcome(number), steps, state: State { moment, coordinates }, guesses }
+    let state = State { moment, centre, coordinates };
+    Ran { outcome: outcome(number), steps, state, guesses }
 }
 
 /// Steps of h milliseconds to the target, at most `budget`. The next call goes on from the state and
@@ -213,7 +241,7 @@ pub fn run(
     book: &[u8], setting: &Setting, state: &State, h: u32, target: u64, budget: u32,
     guesses: &[u64; 5],
 ) -> Ran {
-    ran(|reached, there, entries, steps| unsafe {
+    ran(EARTH, |reached, there, entries, steps| unsafe {
         belfry_run(
             book.as_ptr(), book.len(), &setting.coefficients, setting.dut, state.moment,
             &state.coordinates, h, target, budget, guesses, reached, there, entries, steps,
@@ -224,7 +252,7 @@ pub fn run(
 pub fn single_step(
     book: &[u8], setting: &Setting, state: &State, h: u32, guesses: &[u64; 5],
 ) -> Ran {
-    ran(|reached, there, entries, steps| unsafe {
+    ran(EARTH, |reached, there, entries, steps| unsafe {
         belfry_single_step(
             book.as_ptr(), book.len(), &setting.coefficients, setting.dut, state.moment,
             &state.coordinates, h, guesses, reached, there, entries, steps,
@@ -249,7 +277,7 @@ pub fn from_sphere(sphere: &Sphere, rule: u64, moment: u64, dut: u32) -> Result<
     let sizes = [sphere.radius, sphere.speed];
     let angles = [sphere.latitude, sphere.longitude, sphere.path, sphere.azimuth];
     let number = unsafe { belfry_from_sphere(rule, moment, dut, &sizes, &angles, &mut coordinates) };
-    answer(number, State { moment, coordinates })
+    answer(number, State { moment, centre: EARTH, coordinates })
 }
 
 /// The state's coordinates in axes that turn with the Earth.
@@ -259,11 +287,9 @@ pub fn earth_fixed(state: &State, dut: u32) -> Result<[f64; 6], u64> {
     answer(number, turned)
 }
 
-/// The same by a rule of the hour angle.
-pub fn turn(rule: u64, dut: u32, state: &State) -> Result<[f64; 6], u64> {
-    let mut turned = [0.0; 6];
-    let number = unsafe { belfry_turn(rule, dut, state.moment, &state.coordinates, &mut turned) };
-    answer(number, turned)
+fn figured(number: u64, names: [u64; 2], figures: [f64; 5]) -> Result<(u64, Conic), u64> {
+    let kind = if names[1] == ELLIPSE { Conic::Ellipse } else { Conic::Hyperbola };
+    answer(number, (names[0], kind(figures)))
 }
 
 /// The number of the centre, whose coefficient is m, and the conic about it.
@@ -271,6 +297,64 @@ pub fn conic(m: f64, state: &State) -> Result<(u64, Conic), u64> {
     let (mut names, mut figures) = ([0; 2], [0.0; 5]);
     let number =
         unsafe { belfry_conic(m, state.moment, &state.coordinates, &mut names, &mut figures) };
-    let kind = if names[1] == ELLIPSE { Conic::Ellipse } else { Conic::Hyperbola };
-    answer(number, (names[0], kind(figures)))
+    figured(number, names, figures)
+}
+
+/// The acceleration about a centre, in km/s², at a position from it in km.
+pub fn pull(
+    book: &[u8], setting: &Setting, moment: u64, centre: u64, position: &[f64; 3],
+) -> Result<[f64; 3], u64> {
+    let Setting { coefficients, dut, rule } = setting;
+    let mut acceleration = [0.0; 3];
+    let number = unsafe {
+        belfry_pull(
+            book.as_ptr(), book.len(), coefficients, *dut, *rule, moment, centre, position,
+            &mut acceleration,
+        )
+    };
+    answer(number, acceleration)
+}
+
+/// The state about another centre.
+pub fn moved(book: &[u8], setting: &Setting, state: &State, centre: u64) -> Result<State, u64> {
+    let Setting { coefficients, dut, rule } = setting;
+    let mut coordinates = [0.0; 6];
+    let number = unsafe {
+        belfry_move(
+            book.as_ptr(), book.len(), coefficients, *dut, *rule, state.moment, state.centre,
+            &state.coordinates, centre, &mut coordinates,
+        )
+    };
+    answer(number, State { moment: state.moment, centre, coordinates })
+}
+
+/// `run` about the state's centre.
+pub fn fly(
+    book: &[u8], setting: &Setting, state: &State, h: u32, target: u64, budget: u32,
+    guesses: &[u64; 5],
+) -> Ran {
+    let Setting { coefficients, dut, rule } = setting;
+    ran(state.centre, |reached, there, entries, steps| unsafe {
+        belfry_fly(
+            book.as_ptr(), book.len(), coefficients, *dut, *rule, state.moment, state.centre,
+            &state.coordinates, h, target, budget, guesses, reached, there, entries, steps,
+        )
+    })
+}
+
+/// `earth_fixed` by a rule of the hour angle; the state's centre has to be the Earth.
+pub fn turn(rule: u64, dut: u32, state: &State) -> Result<[f64; 6], u64> {
+    let State { moment, centre, coordinates } = state;
+    let mut turned = [0.0; 6];
+    let number = unsafe { belfry_turn(rule, dut, *moment, *centre, coordinates, &mut turned) };
+    answer(number, turned)
+}
+
+/// `conic` about the state's centre, whose coefficient is m.
+pub fn orbit(m: f64, state: &State) -> Result<(u64, Conic), u64> {
+    let State { moment, centre, coordinates } = state;
+    let (mut names, mut figures) = ([0; 2], [0.0; 5]);
+    let number =
+        unsafe { belfry_orbit(m, *moment, *centre, coordinates, &mut names, &mut figures) };
+    figured(number, names, figures)
 }

@@ -1,5 +1,5 @@
-//! Document 01's figures by the exported calls. Numbers that are no whole ones are printed as
-//! their bits.
+//! `belfrywool BOOK`: document 01's figures by the exported calls, and a flight to the Moon of the book.
+//! Numbers that are no whole ones are printed as their bits.
 
 use belfrywool::*;
 
@@ -64,7 +64,7 @@ fn positions() {
 }
 
 fn earth(dut: u32) -> Setting {
-    Setting { coefficients: [8.0, 0.0, 0.0, 0.0, 0.0, 0.0], dut }
+    Setting { coefficients: [8.0, 0.0, 0.0, 0.0, 0.0, 0.0], dut, rule: 0 }
 }
 
 fn repaired(r: &Repaired) -> String {
@@ -96,7 +96,7 @@ fn accelerations() -> Result<(), u64> {
 }
 
 fn at(vx: f64, vy: f64) -> State {
-    State { moment: 0, coordinates: [2.0, 0.0, 0.0, vx, vy, 0.0] }
+    State { moment: 0, centre: EARTH, coordinates: [2.0, 0.0, 0.0, vx, vy, 0.0] }
 }
 
 fn runs() {
@@ -142,7 +142,7 @@ fn launch() -> Result<(), u64> {
     let moment = 411_264_035_000;
     let state = from_sphere(&sphere, 0, moment, 35_000)?;
     println!("launch:{}", bits(&state.coordinates));
-    let setting = Setting { coefficients: [398_600.63, 0.0, 0.0, 0.0, 0.0, 0.0], dut: 35_000 };
+    let setting = Setting { coefficients: [398_600.63, 0.0, 0.0, 0.0, 0.0, 0.0], dut: 35_000, rule: 0 };
     let ran = run(&[8, 0, 0, 0, 0, 0, 0, 0], &setting, &state, 60_000, moment + 3_600_000, 100, &[0; 5]);
     println!("after an hour, steps {}:{}", ran.steps, bits(&ran.state.coordinates));
     sphere.path = -900_000_000_001;
@@ -155,13 +155,58 @@ fn states() -> Result<(), u64> {
         println!("conic:{}", told(conic(8.0, &at(vx, vy)), conic_told));
     }
     println!("Earth-fixed below 0h UT:{}", told(earth_fixed(&at(2.0, 0.0), 1), |t| bits(&t)));
-    let up = State { moment: 0, coordinates: [0.0, 0.0, 3.0, 0.0, 0.0, 0.0] };
+    let up = State { moment: 0, centre: EARTH, coordinates: [0.0, 0.0, 3.0, 0.0, 0.0, 0.0] };
     println!("Earth-fixed, 3 km up the axis:{}", bits(&earth_fixed(&up, 0)?[2..3]));
     println!("the same by the 1982 rule:{}", bits(&turn(1, 0, &up)?[2..3]));
     Ok(())
 }
 
+const MOON: u64 = 2;
+const MINUTE: u64 = 60_000;
+const HOUR: u64 = 60 * MINUTE;
+
+/// The length of a vector.
+fn length(v: &[f64]) -> Result<f64, u64> {
+    root((v[0] * v[0] + v[1] * v[1]) + v[2] * v[2])
+}
+
+/// How far from its centre a state is, in km, and how fast it goes, in km/s.
+fn told_from(what: &str, steps: u32, state: &State) -> Result<(), u64> {
+    let (range, speed) = (length(&state.coordinates[..3])?, length(&state.coordinates[3..])?);
+    println!("{what}, steps {steps}: {range:.3} km from centre {}, {speed:.6} km/s", state.centre);
+    Ok(())
+}
+
+/// JPL's check case 1 under the Moon and the Sun: 58 hours about the Earth, a move to the Moon, four hours about it.
+fn to_the_moon(book: &[u8]) -> Result<(), u64> {
+    let coefficients = [398_600.63, 4902.6293, 132_714_110_000.0, 0.0, 0.0, 0.0];
+    let setting = Setting { coefficients, dut: 35_000, rule: 0 };
+    let injection = State {
+        moment: 411_331_356_297,
+        centre: EARTH,
+        coordinates: [5936.9501, 2718.6042, -728.83219, -4.2284408, 8.5267773, -5.4530145],
+    };
+    let reached = injection.moment + 58 * HOUR;
+    let ran = fly(book, &setting, &injection, MINUTE as u32, reached, u32::MAX, &[0; 5]);
+    told_from("toward the Moon", ran.steps, &ran.state)?;
+    let moon = moved(book, &setting, &ran.state, MOON)?;
+    told_from("moved to the Moon", 0, &moon)?;
+    println!("turned about the Moon:{}", told(turn(0, 35_000, &moon), |t| bits(&t)));
+    println!("moved to Mars, which is not used:{}", told(moved(book, &setting, &moon, 5), |s| bits(&s.coordinates)));
+    let ran = fly(book, &setting, &moon, MINUTE as u32, reached + 4 * HOUR, u32::MAX, &ran.guesses);
+    told_from("four hours on", ran.steps, &ran.state)?;
+    println!("there:{}", bits(&ran.state.coordinates));
+    let [x, y, z, ..] = ran.state.coordinates;
+    println!("its acceleration:{}", bits(&pull(book, &setting, ran.state.moment, MOON, &[x, y, z])?));
+    println!("its orbit:{}", conic_told(orbit(coefficients[1], &ran.state)?));
+    Ok(())
+}
+
 fn main() -> Result<(), u64> {
+    let Some(Ok(book)) = std::env::args().nth(1).map(std::fs::read) else {
+        eprintln!("belfrywool BOOK");
+        std::process::exit(2);
+    };
     calendar()?;
     angles()?;
     positions();
@@ -169,5 +214,6 @@ fn main() -> Result<(), u64> {
     accelerations()?;
     runs();
     states()?;
-    launch()
+    launch()?;
+    to_the_moon(&book)
 }

@@ -163,6 +163,18 @@ pub fn fast(body: u16) -> Vec<Piece> {
     (0..30).map(|i| Piece { body, start: 2 * i, span: 2, coefficients: axes(i) }).collect()
 }
 
+/// The Moon and Venus as far out as floats go, the Sun on the other side: a difference of two may overflow.
+pub fn far_apart() -> Vec<Piece> {
+    let at = |body, x: f64| Piece { body, start: 0, span: 10_000_000, coefficients: vec![x, 0.0, x, 0.0, 4e5, 1.0] };
+    vec![at(2, 1.7e308), at(3, -1.7e308), at(4, 1.7e308)]
+}
+
+/// The Moon and the Sun at the greatest speed, one against the other, by entries of a millisecond.
+pub fn fast_apart() -> Vec<Piece> {
+    let at = |body, i, slope: f64| Piece { body, start: i, span: 1, coefficients: vec![4e5, slope, 2e5, 1.0, 1e5, -slope] };
+    [(2, 8.5e304), (3, -8.5e304)].iter().flat_map(|&(body, slope)| (0..40).map(move |i| at(body, i, slope))).collect()
+}
+
 /// Books that pass and are of a kind of their own.
 pub fn special(c: &mut Chance) -> Vec<(&'static str, Vec<u8>)> {
     let whole = Piece { body: 6, start: 0, span: END, coefficients: coefficients(c, 16, 1000) };
@@ -177,6 +189,8 @@ pub fn special(c: &mut Chance) -> Vec<(&'static str, Vec<u8>)> {
         ("Mars, then beyond the floats", build(&[near, gone])),
         ("Moon too fast", build(&fast(2))),
         ("Jupiter too fast", build(&fast(6))),
+        ("Moon and Sun far apart", build(&far_apart())),
+        ("Moon and Sun fast apart", build(&fast_apart())),
         ("one entry over all time", build(&[whole])),
         ("one entry, the last millisecond", build(&[last])),
         ("zeros of either sign", build(&zeros(c))),

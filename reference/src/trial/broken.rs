@@ -1,7 +1,7 @@
 //! Run calls refused before the first step, or done before it.
 
 use super::chance::Chance;
-use super::trip::{bad_h, break_at, noted, trip, trip_at, Trip, BREAKS, NOMINAL};
+use super::trip::{bad_h, break_at, noted, trip, trip_at, Trip, BREAKS, NOMINAL, OF_AN_ORDER};
 use super::world::World;
 use crate::hour::END;
 
@@ -16,19 +16,19 @@ pub fn broken(c: &mut Chance, w: &World, which: &[usize]) -> Vec<(String, Trip)>
 }
 
 pub fn one_broken(c: &mut Chance, w: &World) -> Vec<(String, Trip)> {
-    let i = c.between(1, 6) as usize;
+    let i = c.pick(&OF_AN_ORDER);
     broken(c, w, &[i])
 }
 
 pub fn two_broken(c: &mut Chance, w: &World) -> Vec<(String, Trip)> {
-    let i = c.between(1, 5) as usize;
-    let j = c.between(i as u64 + 1, 6) as usize;
-    broken(c, w, &[i, j])
+    let i = c.below(5) as usize;
+    let j = c.between(i as u64 + 1, 5) as usize;
+    broken(c, w, &[OF_AN_ORDER[i], OF_AN_ORDER[j]])
 }
 
 pub fn many_broken(c: &mut Chance, w: &World) -> Vec<(String, Trip)> {
     let mask = c.below(64);
-    let which: Vec<usize> = (1..7).filter(|i| mask & (1 << (i - 1)) != 0).collect();
+    let which: Vec<usize> = (0..6).filter(|i| mask & (1 << i) != 0).map(|i| OF_AN_ORDER[i]).collect();
     noted("", broken(c, w, &which).remove(0).1)
 }
 

@@ -1,11 +1,11 @@
-//! Lines for body and accel.
+//! Lines for body, and trips for accel and pull.
 
 use super::chance::Chance;
 use super::cover;
-use super::floats::{hexes, wild};
+use super::floats::wild;
 use super::sizes;
 use super::times::bad_moment;
-use super::trip::{break_setting, trip, MakeRuns, Trip, NOMINAL};
+use super::trip::{break_setting, noted, trip, RunCase, Trip, NOMINAL};
 use super::world::{Case, World};
 use crate::hour::END;
 
@@ -46,28 +46,18 @@ pub const BODY: &[Case] = &[
     ("end of time", |c, _| { let b = c.between(1, 6); body_line(b, END - 2 + c.below(3)) }),
 ];
 
-pub fn accel_line(t: &Trip) -> Vec<String> {
-    let m = hexes(&t.setting.coefficients);
-    vec![format!("accel {m} {} {} {}", t.setting.dut, t.state.moment, hexes(&t.state.position))]
-}
-
-/// The inputs of a run call of some sort, as far as an acceleration takes them.
-pub fn accel_as(c: &mut Chance, w: &World, sort: MakeRuns) -> Vec<String> {
-    accel_line(&sort(c, w).remove(0).1)
-}
-
 /// n overflows, r3 vanishes, or a pull overflows.
-pub fn accel_sizes(c: &mut Chance, w: &World) -> Vec<String> {
+pub fn accel_sizes(c: &mut Chance, w: &World) -> Vec<(String, Trip)> {
     let mut t = trip(c, w);
     let (m, size) = c.pick(&[(1.0, 1e155), (1.0, 1e-110), (1.0, 1e-162), (1e300, 1e-50), (1e300, 1e10), (1.0, 1e103)]);
     let k = c.sized(-3, 3);
     t.state.position = [size * k, c.pick(&[0.0, size]), c.pick(&[0.0, -0.0, -size])];
     t.setting.coefficients[0] = m;
-    accel_line(&t)
+    noted("", t)
 }
 
 /// Some of 4, 3 and 7 (position), or all, with bodies that have cover or have none.
-pub fn accel_broken(c: &mut Chance, w: &World) -> Vec<String> {
+pub fn accel_broken(c: &mut Chance, w: &World) -> Vec<(String, Trip)> {
     let mut t = trip(c, w);
     if c.one_in(2) {
         t.setting.coefficients = NOMINAL;
@@ -84,19 +74,26 @@ pub fn accel_broken(c: &mut Chance, w: &World) -> Vec<String> {
         let i = c.below(3) as usize;
         t.state.position[i] = c.not_finite();
     }
-    accel_line(&t)
+    noted("", t)
 }
 
-pub const ACCEL: &[Case] = &[
-    ("plain", |c, w| accel_line(&trip(c, w))),
-    ("plain", |c, w| accel_line(&trip(c, w))),
-    ("plain", |c, w| accel_line(&trip(c, w))),
-    ("edge", |c, w| accel_as(c, w, cover::edge)),
-    ("no cover", |c, w| accel_as(c, w, cover::no_cover)),
-    ("on a body", |c, w| accel_as(c, w, sizes::on_body)),
-    ("any floats", |c, w| accel_as(c, w, sizes::any_floats)),
+pub fn accel_wild(c: &mut Chance, w: &World) -> Vec<(String, Trip)> {
+    let mut t = trip(c, w);
+    t.set_state(wild(c));
+    noted("", t)
+}
+
+/// The inputs of a run call, as far as an acceleration takes them.
+pub const ACCEL: &[RunCase] = &[
+    ("plain", |c, w| noted("", trip(c, w))),
+    ("plain", |c, w| noted("", trip(c, w))),
+    ("plain", |c, w| noted("", trip(c, w))),
+    ("edge", cover::edge),
+    ("no cover", cover::no_cover),
+    ("on a body", sizes::on_body),
+    ("any floats", sizes::any_floats),
     ("sizes", accel_sizes),
     ("broken", accel_broken),
     ("broken", accel_broken),
-    ("wild position", |c, w| { let mut t = trip(c, w); t.set_state(wild(c)); accel_line(&t) }),
+    ("wild position", accel_wild),
 ];

@@ -3,19 +3,26 @@
 
 // Pieces: chance, books, floats, times, and a trip with all its inputs.
 pub mod books;
+pub mod centres;
 pub mod chance;
 pub mod damage;
 pub mod floats;
+pub mod lines;
+pub mod moonward;
 pub mod times;
 pub mod trip;
 pub mod world;
 
 // Cases: what is asked, sort by sort.
+pub mod about;
 pub mod broken;
 pub mod cover;
+pub mod earth;
+pub mod journeys;
 pub mod leaves;
 pub mod lookups;
 pub mod mends;
+pub mod moving;
 pub mod pairs;
 pub mod runs;
 pub mod sizes;

@@ -1,15 +1,19 @@
 //! Which calls are made, and with which books.
 
+use super::about::ABOUT;
 use super::books::{build, entries, pieces, special, sturdy};
+use super::centres::centred;
 use super::chance::Chance;
 use super::strips::{journey, strip, Strip};
+use super::trip::Trip;
 use super::world::{Case, World};
-use super::{damage, leaves, lookups, runs, spheres, states, unreadable};
+use super::{damage, earth, journeys, leaves, lookups, moving, runs, spheres, states, unreadable};
 
-/// All kinds of call, with their share of 100.
-pub const KINDS: [(&str, usize); 14] = [
+/// All kinds of call, with their share of 140; a journey is lines of fly and move, and `earth` is old lines beside new ones.
+pub const KINDS: [(&str, usize); 20] = [
     ("root", 9), ("sincos", 6), ("hour", 6), ("sidereal", 7), ("date", 4), ("day", 5), ("fixed", 5),
     ("turn", 5), ("sphere", 6), ("conic", 7), ("unreadable", 5), ("body", 8), ("accel", 9), ("run", 18),
+    ("pull", 8), ("move", 10), ("fly", 9), ("journey", 7), ("orbit", 2), ("earth", 4),
 ];
 
 #[derive(Clone, Debug)]
@@ -39,22 +43,57 @@ pub fn cases(kind: &str) -> &'static [Case] {
         "fixed" => states::FIXED,
         "sphere" => spheres::SPHERE,
         "turn" => states::TURN,
-        "conic" => states::CONIC,
-        "body" => lookups::BODY,
-        _ => lookups::ACCEL,
+        "conic" | "orbit" => states::CONIC,
+        "move" => moving::MOVE,
+        "journey" => journeys::JOURNEY,
+        "earth" => earth::EARTH,
+        _ => lookups::BODY,
+    }
+}
+
+/// Trips of the i-th sort for a kind that is made of them, with the sort's name; those of a new line have a centre.
+pub fn trips(c: &mut Chance, w: &World, kind: &str, i: usize) -> Option<(&'static str, Vec<(String, Trip)>)> {
+    let (old, new) = match kind {
+        "run" => (runs::RUN, false),
+        "fly" => (runs::RUN, true),
+        "accel" => (lookups::ACCEL, false),
+        "pull" => (lookups::ACCEL, true),
+        _ => return None,
+    };
+    let i = i % (old.len() + if new { ABOUT.len() } else { 0 });
+    let Some((name, make)) = old.get(i) else {
+        let (name, make) = ABOUT[i - old.len()];
+        return Some((name, make(c, w)));
+    };
+    let mut list = make(c, w);
+    if new {
+        list = list.into_iter().map(|(note, t)| (note, centred(c, t))).collect();
+    }
+    Some((name, list))
+}
+
+pub fn trip_line(kind: &str, t: &Trip) -> String {
+    match kind {
+        "run" => t.run_line(),
+        "fly" => t.fly_line(),
+        "accel" => t.accel_line(),
+        _ => t.pull_line(),
     }
 }
 
 /// Calls of one kind by its i-th case; at least one.
 pub fn made(c: &mut Chance, w: &World, kind: &'static str, i: usize) -> Vec<Call> {
-    if kind == "run" {
-        let (name, make) = runs::RUN[i % runs::RUN.len()];
-        let list = make(c, w).into_iter();
-        return list.map(|(note, t)| call(kind, &format!("{name} {note}"), t.line())).collect();
+    if let Some((name, list)) = trips(c, w, kind, i) {
+        let made = |(note, t): &(String, Trip)| call(kind, &format!("{name} {note}"), trip_line(kind, t));
+        return list.iter().map(made).collect();
     }
     let list = cases(kind);
     let (name, make) = list[i % list.len()];
-    make(c, w).into_iter().map(|line| call(kind, name, line)).collect()
+    let mut lines = make(c, w);
+    if kind == "orbit" {
+        lines = lines.iter().map(|line| states::orbit_of(c, line)).collect();
+    }
+    lines.into_iter().map(|line| call(kind, name, line)).collect()
 }
 
 pub fn call(kind: &'static str, case: &str, line: String) -> Call {
@@ -83,7 +122,7 @@ pub fn counts(calls: usize, kinds: &[&'static str]) -> Vec<(&'static str, usize)
 }
 
 pub fn needs_book(kind: &str) -> bool {
-    matches!(kind, "body" | "accel" | "run")
+    matches!(kind, "body" | "accel" | "run" | "pull" | "move" | "fly" | "journey" | "earth")
 }
 
 /// Books: none, the real ones, special ones, random ones and damaged ones.

@@ -69,7 +69,7 @@ pub fn long(c: &mut Chance, w: &World) -> Vec<(String, Trip)> {
     let t = covered_moment(c, w);
     let mut trip = trip_at(c, w, t);
     let (position, velocity) = ([6600.0 + c.within(50.0), c.within(900.0), c.within(900.0)], [c.within(2.0), 10.9, c.within(2.0)]);
-    trip.state = State { moment: t, position, velocity };
+    trip.state = State { position, velocity, ..trip.state };
     trip.h = c.pick(&[1000, 10_000, 60_000]);
     trip.aim(c.between(50, 200));
     trip.budget = c.pick(&[10, 100, u32::MAX]);

@@ -1,8 +1,9 @@
-//! Lines for fixed, turn and conic.
+//! Lines for fixed, turn, conic and orbit.
 
 use super::chance::Chance;
 use super::floats::{flight, hex, hexes, largest, one_not_finite, signed_zeros, wild};
 use super::times::{bad_dut, bad_moment, bad_rule, hard_ut, moment_dut, some_rule, whole_octants};
+use super::trip::bad_centre;
 use super::world::{Case, World};
 use crate::hour::END;
 
@@ -40,20 +41,40 @@ pub const FIXED: &[Case] = &[
     ("refused", fixed_refused),
 ];
 
-/// A line of fixed as one of turn, by a rule.
-pub fn turn_by(rule: u64, fixed: Vec<String>) -> Vec<String> {
-    fixed.iter().map(|line| line.replacen("fixed", &format!("turn {rule}"), 1)).collect()
+/// Mostly the Earth.
+pub fn turn_centre(c: &mut Chance) -> u64 {
+    match c.below(8) {
+        0 => c.between(2, 6),
+        1 => bad_centre(c),
+        _ => 1,
+    }
+}
+
+/// A line of fixed as one of turn, by a rule and about a centre.
+pub fn turn_by(c: &mut Chance, rule: u64, fixed: Vec<String>) -> Vec<String> {
+    let turn = |line: String| {
+        let fields: Vec<&str> = line.splitn(4, ' ').collect();
+        let centre = turn_centre(c);
+        format!("turn {rule} {} {} {centre} {}", fields[1], fields[2], fields[3])
+    };
+    fixed.into_iter().map(turn).collect()
+}
+
+/// The same by some rule.
+pub fn turn_some(c: &mut Chance, fixed: Vec<String>) -> Vec<String> {
+    let rule = some_rule(c);
+    turn_by(c, rule, fixed)
 }
 
 pub const TURN: &[Case] = &[
-    ("flight", |c, _| { let s = flight(c); let l = fixed_with(c, s); turn_by(some_rule(c), l) }),
-    ("flight", |c, _| { let s = flight(c); let l = fixed_with(c, s); turn_by(some_rule(c), l) }),
-    ("hard", |c, _| { let s = flight(c); let m = hard_ut(c); turn_by(1, fixed_line(0, m, s)) }),
-    ("wild", |c, _| { let s = wild(c); let l = fixed_with(c, s); turn_by(some_rule(c), l) }),
-    ("largest", |c, _| { let s = largest(c); let l = fixed_with(c, s); turn_by(some_rule(c), l) }),
-    ("state not finite", |c, _| { let s = one_not_finite(c); let l = fixed_with(c, s); turn_by(some_rule(c), l) }),
-    ("refused", |c, w| { let l = fixed_refused(c, w); turn_by(some_rule(c), l) }),
-    ("rule", |c, w| { let l = fixed_refused(c, w); turn_by(bad_rule(c), l) }),
+    ("flight", |c, _| { let s = flight(c); let l = fixed_with(c, s); turn_some(c, l) }),
+    ("flight", |c, _| { let s = flight(c); let l = fixed_with(c, s); turn_some(c, l) }),
+    ("hard", |c, _| { let s = flight(c); let m = hard_ut(c); turn_by(c, 1, fixed_line(0, m, s)) }),
+    ("wild", |c, _| { let s = wild(c); let l = fixed_with(c, s); turn_some(c, l) }),
+    ("largest", |c, _| { let s = largest(c); let l = fixed_with(c, s); turn_some(c, l) }),
+    ("state not finite", |c, _| { let s = one_not_finite(c); let l = fixed_with(c, s); turn_some(c, l) }),
+    ("refused", |c, w| { let l = fixed_refused(c, w); turn_some(c, l) }),
+    ("rule", |c, w| { let l = fixed_refused(c, w); let r = bad_rule(c); turn_by(c, r, l) }),
 ];
 
 pub fn conic_line(m: f64, s: [f64; 6]) -> Vec<String> {
@@ -182,3 +203,11 @@ pub const CONIC: &[Case] = &[
     ("m refused", conic_m),
     ("state refused", conic_state),
 ];
+
+/// A line of conic as one of orbit, at any moment and about any centre.
+pub fn orbit_of(c: &mut Chance, conic: &str) -> String {
+    let fields: Vec<&str> = conic.splitn(3, ' ').collect();
+    let moment = if c.one_in(2) { c.below(END) } else { c.any_length(64) };
+    let centre = if c.one_in(4) { bad_centre(c) } else { c.between(1, 6) };
+    format!("orbit {} {moment} {centre} {}", fields[1], fields[2])
+}

@@ -2,7 +2,7 @@
 
 use super::chance::Chance;
 use super::runs::{self, RUN};
-use super::trip::{break_at, trip, Trip};
+use super::trip::{break_at, trip, Trip, OF_AN_ORDER};
 use super::world::World;
 
 /// The most steps of a strip made here.
@@ -33,7 +33,7 @@ pub fn cut(c: &mut Chance, w: &World) -> Strip {
 pub fn longer(c: &mut Chance, w: &World) -> Strip {
     let mut t = trip(c, w);
     if c.one_in(2) {
-        let which = c.between(1, 6) as usize;
+        let which = c.pick(&OF_AN_ORDER);
         break_at(c, &mut t, which);
     }
     let mut bytes = input(w, t);

@@ -1,17 +1,19 @@
-//! One run call with all its inputs, as a line or as an order.
+//! One run call with all its inputs.
 
 use super::chance::Chance;
-use super::floats::{flight, hexes};
+use super::floats::flight;
 use super::times::{bad_dut, bad_moment};
 use super::world::World;
 use crate::book::covers;
 use crate::hour::{DUT_MOST, END};
-use crate::motion::{run, start_checks, Ran, Setting, State};
+use crate::motion::{run, start_checks, Ran, Setting, State, EARTH};
 
 /// Document 003's coefficients.
 pub const NOMINAL: [f64; 6] = [398603.20, 4900.7589, 132715440000.0, 324769.50, 42977.799, 126710600.0];
 /// Names of the run's refusals before any step, in their order.
-pub const BREAKS: [&str; 7] = ["1", "4", "3 state", "3 target", "7", "2", "5"];
+pub const BREAKS: [&str; 8] = ["1", "4", "14", "3 state", "3 target", "7", "2", "5"];
+/// Those of them that an order or an old line can have: its book is the world's, and it has no centre.
+pub const OF_AN_ORDER: [usize; 6] = [1, 3, 4, 5, 6, 7];
 
 #[derive(Clone, Debug)]
 pub struct Trip {
@@ -24,30 +26,6 @@ pub struct Trip {
 }
 
 impl Trip {
-    pub fn line(&self) -> String {
-        let s = &self.state;
-        let guesses = self.guesses.map(|g| g.to_string()).join(" ");
-        format!(
-            "run {} {} {} {} {} {} {} {} {guesses}",
-            hexes(&self.setting.coefficients), self.setting.dut, s.moment,
-            hexes(&s.position), hexes(&s.velocity), self.h, self.target, self.budget,
-        )
-    }
-
-    /// The 120 bytes of an order.
-    pub fn order(&self) -> Vec<u8> {
-        let mut bytes = Vec::new();
-        let floats = |list: &[f64]| list.iter().flat_map(|x| x.to_le_bytes()).collect::<Vec<_>>();
-        bytes.extend(floats(&self.setting.coefficients));
-        bytes.extend(self.state.moment.to_le_bytes());
-        bytes.extend(floats(&self.state.position));
-        bytes.extend(floats(&self.state.velocity));
-        bytes.extend(self.h.to_le_bytes());
-        bytes.extend(self.setting.dut.to_le_bytes());
-        bytes.extend(self.target.to_le_bytes());
-        bytes
-    }
-
     pub fn run(&self, book: &[u8]) -> Ran {
         run(book, &self.setting, &self.state, self.h, self.target, self.budget, self.guesses)
     }
@@ -154,7 +132,7 @@ pub fn trip_at(c: &mut Chance, w: &World, t: u64) -> Trip {
     let h = pick_h(c, w, t);
     let steps = c.pick(&[0, 1, 1, 2, 3, 5, 8, 13, 24]);
     let style = c.below(9);
-    let state = State { moment: t, position: [0.0; 3], velocity: [0.0; 3] };
+    let state = State { moment: t, centre: EARTH, position: [0.0; 3], velocity: [0.0; 3] };
     let setting = setting_at(c, w, t);
     let guesses = guesses(c, w, t, style);
     let mut trip = Trip { setting, state, h, target: t, budget: 0, guesses };
@@ -207,15 +185,22 @@ pub fn break_target(c: &mut Chance, t: &mut Trip) {
     }
 }
 
+/// A number that is no centre's, or wraps to one.
+pub fn bad_centre(c: &mut Chance) -> u64 {
+    let near = c.between(1, 6);
+    c.pick(&[0, 7, 8, 255, near + 256, near + 65_536, near + (1 << 32), near + (1 << 63), 1 << 63, u64::MAX])
+}
+
 /// Break what the names of BREAKS say, 4 to 5; 1 is the book's and left alone.
 pub fn break_at(c: &mut Chance, t: &mut Trip, which: usize) {
     match which {
         1 => break_setting(c, t),
-        2 => t.state.moment = bad_moment(c),
-        3 => t.target = bad_moment(c),
-        4 => break_state(c, t),
-        5 => t.h = bad_h(c),
-        6 => break_target(c, t),
+        2 => t.state.centre = bad_centre(c),
+        3 => t.state.moment = bad_moment(c),
+        4 => t.target = bad_moment(c),
+        5 => break_state(c, t),
+        6 => t.h = bad_h(c),
+        7 => break_target(c, t),
         _ => {}
     }
 }

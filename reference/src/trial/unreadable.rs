@@ -60,6 +60,16 @@ pub fn spaced(c: &mut Chance, line: Vec<u8>, length: usize) -> Vec<u8> {
     long
 }
 
+/// Every decimal of twenty digits, zeros before: the longest form of a line, which is read as it was.
+pub fn twenty_digits(line: &[u8]) -> Vec<u8> {
+    let padded = |field: &[u8]| {
+        let decimal = field.len() < 16 && field.iter().all(u8::is_ascii_digit) && !field.is_empty();
+        let zeros = if decimal { 20 - field.len() } else { 0 };
+        [&[b'0'; 20][..zeros], field].concat()
+    };
+    line.split(|&b| b == b' ').map(padded).collect::<Vec<_>>().join(&b' ')
+}
+
 pub fn any_bytes(c: &mut Chance, most: u64) -> Vec<u8> {
     let bytes = (0..c.below(most)).map(|_| c.next() as u8);
     bytes.map(|b| if b == b'\n' { 0 } else { b }).collect()
@@ -106,5 +116,6 @@ pub const GARBLES: &[Garble] = &[
     ("1,024 bytes and a good line", |_, l| join(&[&[b'x'; 1024], &l])),
     ("5,000 bytes", |c, l| spaced(c, l, 5000)),
     ("70,000 bytes", |c, l| if c.one_in(20) { spaced(c, l, 70_000) } else { spaced(c, l, 2048) }),
+    ("twenty digits", |_, l| twenty_digits(&l)),
     ("as it was", |_, l| l),
 ];

@@ -1,30 +1,9 @@
 -- `link::belfry_earth_fixed` meets its contract. Assumes nothing.
-use mathlib.Core.Path.{refl}
-use borrow.Author.Needs.{needs}
 use Rattle.link.proofs.belfry_earth_fixed.Statement.{statement}
 use Rattle.link.proofs.belfry_earth_fixed.Tie as tie
 
 returns : tie.Need-returns
-returns c =
-    let at-call = c .before .before .before .before in
-    rw (
-      ← at-call .before .state-of .ensures,
-      ← at-call .earth-fixed .ensures,
-      c .before .before .f .given .1,
-    )
-    refl
-
-returns-2 : tie.Need-returns-2
-returns-2 c =
-    let at-call = c .before .before .before in
-    rw (
-      ← at-call .before .state-of .ensures,
-      ← at-call .earth-fixed .ensures,
-      c .before .k .given .1,
-    )
-    refl
+returns c = c .turned .ensures
 
 pub belfry-earth-fixed-spec : {M : Type 1} → statement M
-belfry-earth-fixed-spec =
-    tie.close
-    (tie.spec (λ c κs. tt) (λ c κs. tt) (λ c. search needs) (λ c. search needs) returns returns-2)
+belfry-earth-fixed-spec = tie.close (tie.spec (λ c κs. tt) returns)

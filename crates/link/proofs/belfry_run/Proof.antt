@@ -3,14 +3,7 @@ use Rattle.link.proofs.belfry_run.Statement.{statement}
 use Rattle.link.proofs.belfry_run.Tie as tie
 
 returns : tie.Need-returns
-returns c =
-    let at-run = c .before .before .before .before .before in
-    rw (
-      at-run .run .ensures,
-      at-run .before .guesses-of .ensures,
-      at-run .before .before .before .state-of .ensures,
-      at-run .before .before .before .before .before .setting-of .ensures,
-    ) at (c .hand-back .ensures)
+returns c = c .fly .ensures
 
 pub belfry-run-spec : {M : Type 1} → statement M
-belfry-run-spec = tie.close (tie.spec (λ c κs. tt) (λ c κs. tt) (λ c κs. tt) (λ c κs. tt) (λ c κs. tt) returns)
+belfry-run-spec = tie.close (tie.spec (λ c κs. tt) returns)

@@ -4,21 +4,15 @@ use Rattle.start.proofs.Order.{lastTwo}
 use borrow.Author.Needs.{needs}
 use Rattle.start.proofs.start_refusal.Statement.{statement}
 use Rattle.start.proofs.start_refusal.Tie as tie
-use Rattle.start.proofs.start_refusal.Reads as reads
-use Rattle.start.proofs.start_refusal.Lts as lts
-use Rattle.basis.proofs.unless.Reads as unless-reads
-use Rattle.book.proofs.book_passes.Reads as book-passes-reads
-use Rattle.start.proofs.is_moment.Reads as is-moment-reads
-use Rattle.start.proofs.is_within_steps.Reads as is-within-steps-reads
-use Rattle.start.proofs.step_is_allowed.Reads as step-is-allowed-reads
-use Rattle.state.proofs.setting_is_allowed.Reads as setting-is-allowed-reads
-use Rattle.state.proofs.state_is_finite.Reads as state-is-finite-reads
 
 book-passes-requires : tie.Need-book-passes-requires
 book-passes-requires c κs = search needs
 
 setting-is-allowed-requires : tie.Need-setting-is-allowed-requires
 setting-is-allowed-requires c κs = search needs
+
+centre-is-allowed-requires : tie.Need-centre-is-allowed-requires
+centre-is-allowed-requires c κs = search needs
 
 is-moment-requires : tie.Need-is-moment-requires
 is-moment-requires c κs = search needs
@@ -56,27 +50,12 @@ unless-requires-6 c κs = search needs
 unless-requires-7 : tie.Need-unless-requires-7
 unless-requires-7 c κs = search needs
 
+unless-requires-8 : tie.Need-unless-requires-8
+unless-requires-8 c κs = search needs
+
 returns : tie.Need-returns
 unfolding startRefusal
-returns c =
-    let x = c .before .before .before .before .before .before .before .before .before .before .before .before .before .before .before .args in
-    rw (
-      c .unless7 .ensures,
-      c .before .unless6 .ensures,
-      c .before .before .unless5 .ensures,
-      c .before .before .before .unless4 .ensures,
-      c .before .before .before .before .unless3 .ensures,
-      c .before .before .before .before .before .unless2 .ensures,
-      c .before .before .before .before .before .before .unless .ensures,
-      c .before .before .before .before .before .before .before .is-within-steps .ensures,
-      c .before .before .before .before .before .before .before .before .step-is-allowed .ensures,
-      c .before .before .before .before .before .before .before .before .before .state-is-finite .ensures,
-      c .before .before .before .before .before .before .before .before .before .before .is-moment2 .ensures,
-      c .before .before .before .before .before .before .before .before .before .before .before .is-moment .ensures,
-      c .before .before .before .before .before .before .before .before .before .before .before .before .setting-is-allowed .ensures,
-      c .before .before .before .before .before .before .before .before .before .before .before .before .before .book-passes .ensures,
-      ← lastTwo (x .s .moment) (x .h) (x .target),
-    )
+returns c = let x = c .before .before .before .before .before .before .before .before .before .before .before .before .before .before .before .before .before .args in rw (c .unless8 .ensures, c .before .unless7 .ensures, c .before .before .unless6 .ensures, c .before .before .before .unless5 .ensures, c .before .before .before .before .unless4 .ensures, c .before .before .before .before .before .unless3 .ensures, c .before .before .before .before .before .before .unless2 .ensures, c .before .before .before .before .before .before .before .unless .ensures, c .before .before .before .before .before .before .before .before .is-within-steps .ensures, c .before .before .before .before .before .before .before .before .before .step-is-allowed .ensures, c .before .before .before .before .before .before .before .before .before .before .state-is-finite .ensures, c .before .before .before .before .before .before .before .before .before .before .before .is-moment2 .ensures, c .before .before .before .before .before .before .before .before .before .before .before .before .is-moment .ensures, c .before .before .before .before .before .before .before .before .before .before .before .before .before .centre-is-allowed .ensures, c .before .before .before .before .before .before .before .before .before .before .before .before .before .before .setting-is-allowed .ensures, c .before .before .before .before .before .before .before .before .before .before .before .before .before .before .before .book-passes .ensures, ← lastTwo (x .s .moment) (x .h) (x .target))
 
 pub start-refusal-spec : {M : Type 1} → statement M
 start-refusal-spec =
@@ -84,6 +63,7 @@ start-refusal-spec =
     (tie.spec
     book-passes-requires
     setting-is-allowed-requires
+    centre-is-allowed-requires
     is-moment-requires
     is-moment-requires-2
     state-is-finite-requires
@@ -96,4 +76,5 @@ start-refusal-spec =
     unless-requires-5
     unless-requires-6
     unless-requires-7
+    unless-requires-8
     returns)

@@ -42,36 +42,33 @@ returns c =
     let l = c .before .before .before .loop in
     rw (c .portion-of .ensures) (ends (now (x .book)) (x .setting) (x .h) (x .from) (now (x .out)) (l .out) (l .now) (l .sighted) (l .left) (l .done) (l .at) (l .inv .1) Arrived (text-ends _ _ _ (l .left) (c .before .if1 .taken)) (λ z. let k : _≡_ {A = ℕ} 0 1 = cc in absurd (omega arith)))
 
-guesses-of-requires : tie.Need-guesses-of-requires Inv-loop μ-loop
-guesses-of-requires c κs = tt
-
 step-under-requires : tie.Need-step-under-requires Inv-loop μ-loop
 step-under-requires c κs =
-    let x = c .before .before .before .before .before .before .before .before .before .args in
-    let l = c .before .before .before .loop in
-    ((ready (c .before .before .before .before .before .before), stands (now (x .book)) (x .setting) (x .h) (x .from) (now (x .out)) (l .out) (l .now) (l .sighted) (l .left) (l .done) (l .at) (l .inv .1)), l .inv .1 .on .seen)
+    let x = c .before .before .before .before .before .before .before .before .args in
+    let l = c .before .before .loop in
+    ((ready (c .before .before .before .before .before), stands (now (x .book)) (x .setting) (x .h) (x .from) (now (x .out)) (l .out) (l .now) (l .sighted) (l .left) (l .done) (l .at) (l .inv .1)), l .inv .1 .on .seen)
 
 enum-known-stepped : tie.Need-enum-known-stepped Inv-loop μ-loop
 enum-known-stepped c = c .match .keys1
 
 put-state-requires : tie.Need-put-state-requires Inv-loop μ-loop
-put-state-requires c κs = c .before .before .before .before .before .before .before .loop-test .taken
+put-state-requires c κs = c .before .before .before .before .before .before .loop-test .taken
 
 sub-left : tie.Need-sub-left Inv-loop μ-loop
-sub-left c = let some = c .before .before .before .before .before .before .before .before .before .if1 .left in omega arith
+sub-left c = let some = c .before .before .before .before .before .before .before .before .if1 .left in omega arith
 
 add-done : tie.Need-add-done Inv-loop μ-loop
-add-done c = let few = c .before .before .before .before .before .before .before .before .before .before .before .loop .inv .1 .on .counts in omega arith
+add-done c = let few = c .before .before .before .before .before .before .before .before .before .before .loop .inv .1 .on .counts in omega arith
 
 loop-less : tie.Need-loop-less Inv-loop μ-loop
-loop-less c = let some = c .before .before .before .before .before .before .before .before .before .if1 .left in omega arith
+loop-less c = let some = c .before .before .before .before .before .before .before .before .if1 .left in omega arith
 
 loop-again : tie.Need-loop-again Inv-loop μ-loop
 loop-again c =
-    let x = c .before .before .before .before .before .before .before .before .before .before .before .before .before .before .before .before .before .args in
-    let l = c .before .before .before .before .before .before .before .before .before .before .before .loop in (
+    let x = c .before .before .before .before .before .before .before .before .before .before .before .before .before .before .before .before .args in
+    let l = c .before .before .before .before .before .before .before .before .before .before .loop in (
       c .before .before .put-state .kept .0 ∙ l .inv .0,
-      goes-on (now (x .book)) (x .setting) (x .h) (x .from) (now (x .out)) (l .out) (l .now) (l .sighted) (l .left) (l .done) (l .at) (l .inv .1) (c .before .before .before .before .before .before .before .before .before .if1 .left) _ _ _ _ (sym (c .before .before .before .before .before .stepped .given .1) ∙ c .before .before .before .before .before .before .before .step-under .ensures) (c .before .before .put-state .ensures) (c .before .before .before .before .before .before .before .before .before .before .loop-test .taken) (c .before .before .put-state .kept .0),
+      goes-on (now (x .book)) (x .setting) (x .h) (x .from) (now (x .out)) (l .out) (l .now) (l .sighted) (l .left) (l .done) (l .at) (l .inv .1) (c .before .before .before .before .before .before .before .before .if1 .left) _ _ _ _ (sym (c .before .before .before .before .before .stepped .given .1) ∙ c .before .before .before .before .before .before .before .step-under .ensures) (c .before .before .put-state .ensures) (c .before .before .before .before .before .before .before .before .before .loop-test .taken) (c .before .before .put-state .kept .0),
     )
 
 enum-known-stepped-2 : tie.Need-enum-known-stepped-2 Inv-loop μ-loop
@@ -81,13 +78,13 @@ portion-of-requires-2 : tie.Need-portion-of-requires-2 Inv-loop μ-loop
 portion-of-requires-2 c κs = tt
 
 same-length-2 : tie.Need-same-length-2 Inv-loop μ-loop
-same-length-2 c = c .before .before .before .before .before .before .before .before .loop .inv .0
+same-length-2 c = c .before .before .before .before .before .before .before .loop .inv .0
 
 returns-2 : tie.Need-returns-2 Inv-loop μ-loop
 returns-2 c =
-    let x = c .before .before .before .before .before .before .before .before .before .before .before .before .before .before .args in
-    let l = c .before .before .before .before .before .before .before .before .loop in
-    rw (c .portion-of2 .ensures) (refuses (now (x .book)) (x .setting) (x .h) (x .from) (now (x .out)) (l .out) (l .now) (l .sighted) (l .left) (l .done) (l .at) (l .inv .1) (c .before .before .before .before .before .before .if1 .left) _ (sym (c .before .before .stepped2 .given .1) ∙ c .before .before .before .before .step-under .ensures))
+    let x = c .before .before .before .before .before .before .before .before .before .before .before .before .before .args in
+    let l = c .before .before .before .before .before .before .before .loop in
+    rw (c .portion-of2 .ensures) (refuses (now (x .book)) (x .setting) (x .h) (x .from) (now (x .out)) (l .out) (l .now) (l .sighted) (l .left) (l .done) (l .at) (l .inv .1) (c .before .before .before .before .before .if1 .left) _ (sym (c .before .before .stepped2 .given .1) ∙ c .before .before .before .before .step-under .ensures))
 
 portion-of-requires-3 : tie.Need-portion-of-requires-3 Inv-loop μ-loop
 portion-of-requires-3 c κs = tt
@@ -113,7 +110,6 @@ portion-spec =
     portion-of-requires
     same-length
     returns
-    guesses-of-requires
     step-under-requires
     enum-known-stepped
     put-state-requires

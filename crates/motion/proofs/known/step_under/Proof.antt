@@ -30,14 +30,14 @@ unfolding step
 returns c =
     let x = c .before .before .before .before .before .before .before .args in
     let b = now (x .book) in
-    goesOn (accelerationAt b (x .setting) (x .s .moment) (position (x .s))) _ (stage2 (accelerationAt b (x .setting)) (x .h) (x .s)) (bodiesAfter b (x .setting) (x .h) (x .s)) _ (answered b (x .setting) (x .s .moment) (position (x .s)) _ _ _ _ (c .before .before .before .before .before .position-of .ensures) (c .before .before .before .before .before .before .before .pre .1) (c .before .before .before .before .acceleration-under .ensures) (c .before .before .answer .given .1)) (c .second-stage .ensures)
+    goesOn (accelerationAt b (x .setting) (x .s .centre) (x .s .moment) (position (x .s))) _ (stage2 (accelerationAt b (x .setting) (x .s .centre)) (x .h) (x .s)) (bodiesAfter b (x .setting) (x .h) (x .s)) _ (answered b (x .setting) (x .s .centre) (c .before .before .before .before .before .before .before .pre .0 .1 .1) (x .s .moment) (position (x .s)) _ _ _ _ (c .before .before .before .before .before .position-of .ensures) (c .before .before .before .before .before .before .before .pre .1) (c .before .before .before .before .acceleration-under .ensures) (c .before .before .answer .given .1)) (c .second-stage .ensures)
 
 returns-2 : tie.Need-returns-2
 unfolding step
 returns-2 c =
     let x = c .before .before .before .before .before .before .args in
     let b = now (x .book) in
-    leaves (accelerationAt b (x .setting) (x .s .moment) (position (x .s))) _ (stage2 (accelerationAt b (x .setting)) (x .h) (x .s)) (bodiesAfter b (x .setting) (x .h) (x .s)) (answered b (x .setting) (x .s .moment) (position (x .s)) _ _ _ _ (c .before .before .before .before .position-of .ensures) (c .before .before .before .before .before .before .pre .1) (c .before .before .before .acceleration-under .ensures) (c .before .answer2 .given .1))
+    leaves (accelerationAt b (x .setting) (x .s .centre) (x .s .moment) (position (x .s))) _ (stage2 (accelerationAt b (x .setting) (x .s .centre)) (x .h) (x .s)) (bodiesAfter b (x .setting) (x .h) (x .s)) (answered b (x .setting) (x .s .centre) (c .before .before .before .before .before .before .pre .0 .1 .1) (x .s .moment) (position (x .s)) _ _ _ _ (c .before .before .before .before .position-of .ensures) (c .before .before .before .before .before .before .pre .1) (c .before .before .before .acceleration-under .ensures) (c .before .answer2 .given .1))
 
 pub step-under-spec : {M : Type 1} → statement M
 step-under-spec =

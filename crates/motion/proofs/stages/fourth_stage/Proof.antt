@@ -41,7 +41,7 @@ enum-known-answer : tie.Need-enum-known-answer
 enum-known-answer c = search needs
 
 finish-requires : tie.Need-finish-requires
-finish-requires c κs = c .before .before .before .before .before .before .before .before .before .before .before .before .before .pre .1
+finish-requires c κs = c .before .before .before .before .before .before .before .before .before .before .before .before .before .pre .1 .0
 
 enum-known-answer-2 : tie.Need-enum-known-answer-2
 enum-known-answer-2 c = search needs
@@ -50,13 +50,13 @@ returns : tie.Need-returns
 returns c =
     let x = c .before .before .before .before .before .before .before .before .before .before .before .before .before .before .args in
     let b = now (x .book) in
-    goesOn (accelerationAt b (x .setting) (x .s .moment + x .h) (along (position (x .s)) (stepH (x .h)) (velocity3 (x .h) (x .s) (x .a2)))) _ (lastly (x .h) (x .s) (x .a1) (x .a2) (x .a3)) (bodiesAfter b (x .setting) (x .h) (x .s)) _ (answered b (x .setting) (x .s .moment + x .h) (along (position (x .s)) (stepH (x .h)) (velocity3 (x .h) (x .s) (x .a2))) _ _ _ _ (rw (c .before .before .before .before .before .before .before .toward2 .ensures, c .before .before .before .before .before .before .before .before .seconds .ensures, c .before .before .before .before .before .before .before .before .before .position-of .ensures, c .before .before .before .before .before .before .before .before .before .before .toward .ensures, c .before .before .before .before .before .before .before .before .before .before .before .half-of .ensures, c .before .before .before .before .before .before .before .before .before .before .before .before .velocity-of .ensures)) (c .before .before .before .before .before .sights-at .ensures) (c .before .before .before .before .acceleration-under .ensures) (c .before .before .answer .given .1)) (rw (c .before .before .before .before .before .sights-at .ensures) at (c .finish .ensures))
+    goesOn (accelerationAt b (x .setting) (x .s .centre) (x .s .moment + x .h) (along (position (x .s)) (stepH (x .h)) (velocity3 (x .h) (x .s) (x .a2)))) _ (lastly (x .h) (x .s) (x .a1) (x .a2) (x .a3)) (bodiesAfter b (x .setting) (x .h) (x .s)) _ (answered b (x .setting) (x .s .centre) (c .before .before .before .before .before .before .before .before .before .before .before .before .before .before .pre .1 .1) (x .s .moment + x .h) (along (position (x .s)) (stepH (x .h)) (velocity3 (x .h) (x .s) (x .a2))) _ _ _ _ (rw (c .before .before .before .before .before .before .before .toward2 .ensures, c .before .before .before .before .before .before .before .before .seconds .ensures, c .before .before .before .before .before .before .before .before .before .position-of .ensures, c .before .before .before .before .before .before .before .before .before .before .toward .ensures, c .before .before .before .before .before .before .before .before .before .before .before .half-of .ensures, c .before .before .before .before .before .before .before .before .before .before .before .before .velocity-of .ensures)) (c .before .before .before .before .before .sights-at .ensures) (c .before .before .before .before .acceleration-under .ensures) (c .before .before .answer .given .1)) (rw (c .before .before .before .before .before .sights-at .ensures) at (c .finish .ensures))
 
 returns-2 : tie.Need-returns-2
 returns-2 c =
     let x = c .before .before .before .before .before .before .before .before .before .before .before .before .before .args in
     let b = now (x .book) in
-    leaves (accelerationAt b (x .setting) (x .s .moment + x .h) (along (position (x .s)) (stepH (x .h)) (velocity3 (x .h) (x .s) (x .a2)))) _ (lastly (x .h) (x .s) (x .a1) (x .a2) (x .a3)) (bodiesAfter b (x .setting) (x .h) (x .s)) (answered b (x .setting) (x .s .moment + x .h) (along (position (x .s)) (stepH (x .h)) (velocity3 (x .h) (x .s) (x .a2))) _ _ _ _ (rw (c .before .before .before .before .before .before .toward2 .ensures, c .before .before .before .before .before .before .before .seconds .ensures, c .before .before .before .before .before .before .before .before .position-of .ensures, c .before .before .before .before .before .before .before .before .before .toward .ensures, c .before .before .before .before .before .before .before .before .before .before .half-of .ensures, c .before .before .before .before .before .before .before .before .before .before .before .velocity-of .ensures)) (c .before .before .before .before .sights-at .ensures) (c .before .before .before .acceleration-under .ensures) (c .before .answer2 .given .1))
+    leaves (accelerationAt b (x .setting) (x .s .centre) (x .s .moment + x .h) (along (position (x .s)) (stepH (x .h)) (velocity3 (x .h) (x .s) (x .a2)))) _ (lastly (x .h) (x .s) (x .a1) (x .a2) (x .a3)) (bodiesAfter b (x .setting) (x .h) (x .s)) (answered b (x .setting) (x .s .centre) (c .before .before .before .before .before .before .before .before .before .before .before .before .before .pre .1 .1) (x .s .moment + x .h) (along (position (x .s)) (stepH (x .h)) (velocity3 (x .h) (x .s) (x .a2))) _ _ _ _ (rw (c .before .before .before .before .before .before .toward2 .ensures, c .before .before .before .before .before .before .before .seconds .ensures, c .before .before .before .before .before .before .before .before .position-of .ensures, c .before .before .before .before .before .before .before .before .before .toward .ensures, c .before .before .before .before .before .before .before .before .before .before .half-of .ensures, c .before .before .before .before .before .before .before .before .before .before .before .velocity-of .ensures)) (c .before .before .before .before .sights-at .ensures) (c .before .before .before .acceleration-under .ensures) (c .before .answer2 .given .1))
 
 pub fourth-stage-spec : {M : Type 1} → statement M
 fourth-stage-spec =

@@ -47,13 +47,13 @@ returns : tie.Need-returns
 returns c =
     let x = c .before .before .before .before .before .before .before .before .before .before .before .before .args in
     let b = now (x .book) in
-    goesOn (accelerationAt b (x .setting) (x .s .moment + x .h / 2) (along (position (x .s)) (half (x .h)) (velocity (x .s)))) _ (stage3 (accelerationAt b (x .setting)) (x .h) (x .s) (x .a1)) (bodiesAfter b (x .setting) (x .h) (x .s)) _ (answered b (x .setting) (x .s .moment + x .h / 2) (along (position (x .s)) (half (x .h)) (velocity (x .s))) _ _ _ _ (rw (c .before .before .before .before .before .before .before .toward .ensures, c .before .before .before .before .before .before .before .before .velocity-of .ensures, c .before .before .before .before .before .before .before .before .before .half-of .ensures, c .before .before .before .before .before .before .before .before .before .before .position-of .ensures)) (c .before .before .before .before .before .sights-at .ensures) (c .before .before .before .before .acceleration-under .ensures) (c .before .before .answer .given .1)) (c .third-stage .ensures)
+    goesOn (accelerationAt b (x .setting) (x .s .centre) (x .s .moment + x .h / 2) (along (position (x .s)) (half (x .h)) (velocity (x .s)))) _ (stage3 (accelerationAt b (x .setting) (x .s .centre)) (x .h) (x .s) (x .a1)) (bodiesAfter b (x .setting) (x .h) (x .s)) _ (answered b (x .setting) (x .s .centre) (c .before .before .before .before .before .before .before .before .before .before .before .before .pre .1 .1) (x .s .moment + x .h / 2) (along (position (x .s)) (half (x .h)) (velocity (x .s))) _ _ _ _ (rw (c .before .before .before .before .before .before .before .toward .ensures, c .before .before .before .before .before .before .before .before .velocity-of .ensures, c .before .before .before .before .before .before .before .before .before .half-of .ensures, c .before .before .before .before .before .before .before .before .before .before .position-of .ensures)) (c .before .before .before .before .before .sights-at .ensures) (c .before .before .before .before .acceleration-under .ensures) (c .before .before .answer .given .1)) (c .third-stage .ensures)
 
 returns-2 : tie.Need-returns-2
 returns-2 c =
     let x = c .before .before .before .before .before .before .before .before .before .before .before .args in
     let b = now (x .book) in
-    leaves (accelerationAt b (x .setting) (x .s .moment + x .h / 2) (along (position (x .s)) (half (x .h)) (velocity (x .s)))) _ (stage3 (accelerationAt b (x .setting)) (x .h) (x .s) (x .a1)) (bodiesAfter b (x .setting) (x .h) (x .s)) (answered b (x .setting) (x .s .moment + x .h / 2) (along (position (x .s)) (half (x .h)) (velocity (x .s))) _ _ _ _ (rw (c .before .before .before .before .before .before .toward .ensures, c .before .before .before .before .before .before .before .velocity-of .ensures, c .before .before .before .before .before .before .before .before .half-of .ensures, c .before .before .before .before .before .before .before .before .before .position-of .ensures)) (c .before .before .before .before .sights-at .ensures) (c .before .before .before .acceleration-under .ensures) (c .before .answer2 .given .1))
+    leaves (accelerationAt b (x .setting) (x .s .centre) (x .s .moment + x .h / 2) (along (position (x .s)) (half (x .h)) (velocity (x .s)))) _ (stage3 (accelerationAt b (x .setting) (x .s .centre)) (x .h) (x .s) (x .a1)) (bodiesAfter b (x .setting) (x .h) (x .s)) (answered b (x .setting) (x .s .centre) (c .before .before .before .before .before .before .before .before .before .before .before .pre .1 .1) (x .s .moment + x .h / 2) (along (position (x .s)) (half (x .h)) (velocity (x .s))) _ _ _ _ (rw (c .before .before .before .before .before .before .toward .ensures, c .before .before .before .before .before .before .before .velocity-of .ensures, c .before .before .before .before .before .before .before .before .half-of .ensures, c .before .before .before .before .before .before .before .before .before .position-of .ensures)) (c .before .before .before .before .sights-at .ensures) (c .before .before .before .acceleration-under .ensures) (c .before .answer2 .given .1))
 
 pub second-stage-spec : {M : Type 1} → statement M
 second-stage-spec =

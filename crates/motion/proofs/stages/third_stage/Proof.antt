@@ -41,13 +41,13 @@ returns : tie.Need-returns
 returns c =
     let x = c .before .before .before .before .before .before .before .before .before .before .before .args in
     let b = now (x .book) in
-    goesOn (accelerationAt b (x .setting) (x .s .moment + x .h / 2) (along (position (x .s)) (half (x .h)) (velocity2 (x .h) (x .s) (x .a1)))) _ (stage4 (accelerationAt b (x .setting)) (x .h) (x .s) (x .a1) (x .a2)) (bodiesAfter b (x .setting) (x .h) (x .s)) _ (answered b (x .setting) (x .s .moment + x .h / 2) (along (position (x .s)) (half (x .h)) (velocity2 (x .h) (x .s) (x .a1))) _ _ _ _ (rw (c .before .before .before .before .before .toward2 .ensures, c .before .before .before .before .before .before .position-of .ensures, c .before .before .before .before .before .before .before .toward .ensures, c .before .before .before .before .before .before .before .before .velocity-of .ensures, c .before .before .before .before .before .before .before .before .before .half-of .ensures)) (c .before .before .before .before .before .before .before .before .before .before .before .pre .1) (c .before .before .before .before .acceleration-under .ensures) (c .before .before .answer .given .1)) (c .fourth-stage .ensures)
+    goesOn (accelerationAt b (x .setting) (x .s .centre) (x .s .moment + x .h / 2) (along (position (x .s)) (half (x .h)) (velocity2 (x .h) (x .s) (x .a1)))) _ (stage4 (accelerationAt b (x .setting) (x .s .centre)) (x .h) (x .s) (x .a1) (x .a2)) (bodiesAfter b (x .setting) (x .h) (x .s)) _ (answered b (x .setting) (x .s .centre) (c .before .before .before .before .before .before .before .before .before .before .before .pre .0 .1 .1) (x .s .moment + x .h / 2) (along (position (x .s)) (half (x .h)) (velocity2 (x .h) (x .s) (x .a1))) _ _ _ _ (rw (c .before .before .before .before .before .toward2 .ensures, c .before .before .before .before .before .before .position-of .ensures, c .before .before .before .before .before .before .before .toward .ensures, c .before .before .before .before .before .before .before .before .velocity-of .ensures, c .before .before .before .before .before .before .before .before .before .half-of .ensures)) (c .before .before .before .before .before .before .before .before .before .before .before .pre .1) (c .before .before .before .before .acceleration-under .ensures) (c .before .before .answer .given .1)) (c .fourth-stage .ensures)
 
 returns-2 : tie.Need-returns-2
 returns-2 c =
     let x = c .before .before .before .before .before .before .before .before .before .before .args in
     let b = now (x .book) in
-    leaves (accelerationAt b (x .setting) (x .s .moment + x .h / 2) (along (position (x .s)) (half (x .h)) (velocity2 (x .h) (x .s) (x .a1)))) _ (stage4 (accelerationAt b (x .setting)) (x .h) (x .s) (x .a1) (x .a2)) (bodiesAfter b (x .setting) (x .h) (x .s)) (answered b (x .setting) (x .s .moment + x .h / 2) (along (position (x .s)) (half (x .h)) (velocity2 (x .h) (x .s) (x .a1))) _ _ _ _ (rw (c .before .before .before .before .toward2 .ensures, c .before .before .before .before .before .position-of .ensures, c .before .before .before .before .before .before .toward .ensures, c .before .before .before .before .before .before .before .velocity-of .ensures, c .before .before .before .before .before .before .before .before .half-of .ensures)) (c .before .before .before .before .before .before .before .before .before .before .pre .1) (c .before .before .before .acceleration-under .ensures) (c .before .answer2 .given .1))
+    leaves (accelerationAt b (x .setting) (x .s .centre) (x .s .moment + x .h / 2) (along (position (x .s)) (half (x .h)) (velocity2 (x .h) (x .s) (x .a1)))) _ (stage4 (accelerationAt b (x .setting) (x .s .centre)) (x .h) (x .s) (x .a1) (x .a2)) (bodiesAfter b (x .setting) (x .h) (x .s)) (answered b (x .setting) (x .s .centre) (c .before .before .before .before .before .before .before .before .before .before .pre .0 .1 .1) (x .s .moment + x .h / 2) (along (position (x .s)) (half (x .h)) (velocity2 (x .h) (x .s) (x .a1))) _ _ _ _ (rw (c .before .before .before .before .toward2 .ensures, c .before .before .before .before .before .position-of .ensures, c .before .before .before .before .before .before .toward .ensures, c .before .before .before .before .before .before .before .velocity-of .ensures, c .before .before .before .before .before .before .before .before .half-of .ensures)) (c .before .before .before .before .before .before .before .before .before .before .pre .1) (c .before .before .before .acceleration-under .ensures) (c .before .answer2 .given .1))
 
 pub third-stage-spec : {M : Type 1} → statement M
 third-stage-spec =

@@ -1,0 +1,103 @@
+// The numbers of a call's fields as the values that the crates below take.
+
+use crate::form::Numbers;
+use gravity::Guesses;
+use sphere::Signed;
+use sphere::Sphere;
+use state::Setting;
+use state::State;
+use state::Vector;
+ghost use Prim.Native.Nat.{_+_, _≤_};
+
+// The reader has seen that a number of 32 bits has no more of them.
+pub fn narrowed(number: u64) -> u32 {
+    (number % 4_294_967_296) as u32
+}
+
+pub fn nth_float(v: &Numbers, i: usize) -> f64
+    requires { ⌜ i + 1 ≤ 24 ⌝ }
+{
+    text::float_of_bits(v[i])
+}
+
+pub fn vector_from(v: &Numbers, i: usize) -> Vector
+    requires { ⌜ i + 3 ≤ 24 ⌝ }
+{
+    Vector {
+        x: nth_float(v, i),
+        y: nth_float(v, i + 1),
+        z: nth_float(v, i + 2),
+    }
+}
+
+// Position and velocity from a field on.
+pub fn state_from(v: &Numbers, moment: u64, centre: u64, i: usize) -> State
+    requires { ⌜ i + 6 ≤ 24 ⌝ }
+{
+    let p = vector_from(v, i);
+    let w = vector_from(v, i + 3);
+    State {
+        moment,
+        centre,
+        x: p.x,
+        y: p.y,
+        z: p.z,
+        vx: w.x,
+        vy: w.y,
+        vz: w.z,
+    }
+}
+
+// The first seven numbers are six coefficients and DUT.
+pub fn setting_of(v: &Numbers, rule: u64) -> Setting {
+    Setting {
+        earth: nth_float(v, 0),
+        moon: nth_float(v, 1),
+        sun: nth_float(v, 2),
+        venus: nth_float(v, 3),
+        mars: nth_float(v, 4),
+        jupiter: nth_float(v, 5),
+        dut: narrowed(v[6]),
+        rule,
+    }
+}
+
+pub fn guesses_from(v: &Numbers, i: usize) -> Guesses
+    requires { ⌜ i + 5 ≤ 24 ⌝ }
+{
+    Guesses {
+        moon: v[i],
+        sun: v[i + 1],
+        venus: v[i + 2],
+        mars: v[i + 3],
+        jupiter: v[i + 4],
+    }
+}
+
+// 64 bits with a sign, as an angle of an injection.
+fn signed_of(bits: u64) -> Signed {
+    if bits < 0x8000_0000_0000_0000 {
+        return Signed {
+            below: false,
+            parts: bits,
+        };
+    }
+    Signed {
+        below: true,
+        parts: 0xffff_ffff_ffff_ffff - bits + 1,
+    }
+}
+
+// After the rule, DUT and the moment come radius, latitude, longitude, speed, path angle and azimuth.
+pub fn sphere_of(v: &Numbers) -> Sphere {
+    let latitude = signed_of(v[4]);
+    let path = signed_of(v[7]);
+    Sphere {
+        radius: nth_float(v, 3),
+        latitude,
+        longitude: v[5],
+        speed: nth_float(v, 6),
+        path,
+        azimuth: v[8],
+    }
+}

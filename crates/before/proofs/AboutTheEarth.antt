@@ -1,0 +1,174 @@
+-- Document 02, R-6: "About the Earth all bits stay as they were", and all refusals. Assumes nothing.
+use mathlib.Core.Bool.{Bool, true, false, not, _&&_}
+use mathlib.Core.List.{List, [], _∷_}
+use mathlib.Core.Path.{_≡_, refl, sym, ap, _∙_}
+use Prim.Native.Nat.{ℕ}
+use lib.Dec.{T}
+use lib.Ieee.{Float, fits, binary64}
+use lib.Ieee.Scale.{finite}
+use lib.Ieee.Fits.{add-fits}
+use lib.Ieee.Bits.{ofBits-fits}
+use Rattle.basis.specs.Choice.{if_then_else_, _=?_}
+use Rattle.basis.specs.Floats.{zero64}
+use Rattle.basis.specs.Limits.{isMoment, isDUT}
+use Rattle.hour.specs.Hour.{isRule}
+use Rattle.state.specs.State.{used, finiteVector, finiteState, coefficientAllowed, earthAllowed, settingAllowed, coefficientOf, centreAllowed}
+use Rattle.state.specs.declared.Vector.{Vector}
+use Rattle.state.specs.declared.State.{State}
+use Rattle.state.specs.declared.Setting.{Setting}
+use Rattle.book.specs.Passes.{passes}
+use Rattle.book.specs.Series.{series, place}
+use Rattle.book.specs.Lookup.{lookup}
+use Rattle.book.specs.Position.{bodyAt, placeOr6, finiteOr7, finitePlace, finiteVelocity}
+use Rattle.book.specs.declared.Lookup.{Lookup}
+use Rattle.book.specs.declared.Lookup.the-variants.{Entry, Nothing}
+use Rattle.series.specs.declared.Place.{Place}
+use Rattle.book.specs.declared.Motion.{Motion}
+use Rattle.book.specs.declared.PositionAnswer.{PositionAnswer}
+use Rattle.book.specs.declared.PositionAnswer.the-variants as position
+use Rattle.gravity.specs.Pull.{minus}
+use Rattle.gravity.specs.Acceleration.{Body, Sky, Bodies, Hidden, Listed, standing, nowhere, atRest, stands, seen, skyOf, sky, others, fromCentre, skyAbout, finished, accelerationAt, accelerationAnswer}
+use Rattle.gravity.specs.declared.AccelerationAnswer.{AccelerationAnswer}
+use Rattle.gravity.specs.declared.AccelerationAnswer.the-variants.{Refused}
+use Rattle.start.specs.Start.{stepAllowed, withinSteps, startRefusal}
+use Rattle.motion.specs.Step.{Moved, stage1, step}
+use Rattle.book.proofs.Below.{left, right}
+use Rattle.before.specs.Acceleration.{bodiesBefore, accelerationBefore, answerBefore, startBefore}
+use Rattle.before.proofs.LessZero.{less-zero}
+
+-- ---- what a book says of a position is a float of 64 bits, and less zero it is itself
+
+series-fits : (w : Float) (cs : List Float) → T (fits binary64 (series w cs))
+unfolding series
+series-fits w [] = ofBits-fits binary64 0
+series-fits w (c ∷ cs) = add-fits binary64 _ _
+
+abbrev Fits : Place → Type 0
+Fits p = T (fits binary64 (p .x)) × T (fits binary64 (p .y)) × T (fits binary64 (p .z))
+
+place-fits : (b : List ℕ) (i t : ℕ) → Fits (place b i t)
+unfolding place
+place-fits b i t = (series-fits _ _, series-fits _ _, series-fits _ _)
+
+itself : (p : Place) → Fits p → minus (standing p) nowhere ≡ standing p
+itself p f = λ i. record { x = less-zero (p .x) (f .0) i; y = less-zero (p .y) (f .1) i; z = less-zero (p .z) (f .2) i }
+
+abbrev FitsAt : PositionAnswer → Type 0
+FitsAt (position.At M) = Fits (M .place)
+FitsAt (position.Refused k) = Unit {0}
+
+answer-fits : (b : List ℕ) (number t : ℕ) → FitsAt (bodyAt b number t)
+unfolding bodyAt
+answer-fits b number t = by (lookup b number t)
+  where
+    by : (l : Lookup) → FitsAt (placeOr6 b t l)
+    by Nothing = tt
+    by (Entry i) = go (finitePlace (place b i t)) (finiteVelocity (Rattle.book.specs.Series.velocity b i t))
+      where
+        go : (a c : Bool)
+            → FitsAt (if a then (if c then position.At (record { place = place b i t; velocity = Rattle.book.specs.Series.velocity b i t }) else position.Refused 7) else position.Refused 7)
+        go true true = place-fits b i t
+        go true false = tt
+        go false c = tt
+
+-- ---- seen from the Earth every body stands where it stood
+
+one-more : (body : Listed) (p : PositionAnswer) (later : Sky) → (body .number =? 1) ≡ false → FitsAt p → fromCentre 1 nowhere later ≡ later
+    → fromCentre 1 nowhere (seen body p later) ≡ seen body p later
+one-more body (position.Refused k) later far f e = refl
+one-more body (position.At M) (Hidden k) far f e = refl
+one-more body (position.At M) (Bodies bs) far f e =
+    let rest : others 1 nowhere bs ≡ bs = cc in
+    rw far
+    (λ i. Bodies (record { number = body .number; m = body .m; R = itself (M .place) f i } ∷ rest i))
+
+by-list : (b : List ℕ) (t : ℕ) (body : Listed) (rest : List Listed) → (body .number =? 1) ≡ false
+    → fromCentre 1 nowhere (skyOf b t rest) ≡ skyOf b t rest → fromCentre 1 nowhere (skyOf b t (body ∷ rest)) ≡ skyOf b t (body ∷ rest)
+by-list b t body rest far e = go (used (body .m))
+  where
+    go : (u : Bool)
+        → fromCentre 1 nowhere (if u then seen body (stands b (body .number) t) (skyOf b t rest) else skyOf b t rest)
+        ≡ (if u then seen body (stands b (body .number) t) (skyOf b t rest) else skyOf b t rest)
+    go true = rw far (one-more body (bodyAt b (body .number) t) (skyOf b t rest) far (answer-fits b (body .number) t) e)
+    go false = e
+
+abbrev AllFar : List Listed → Type 0
+AllFar [] = Unit {0}
+AllFar (body ∷ rest) = ((body .number =? 1) ≡ false) × AllFar rest
+
+by-all : (b : List ℕ) (t : ℕ) (bodies : List Listed) → AllFar bodies → fromCentre 1 nowhere (skyOf b t bodies) ≡ skyOf b t bodies
+by-all b t [] far = refl
+by-all b t (body ∷ rest) far = by-list b t body rest (far .0) (by-all b t rest (far .1))
+
+-- the Earth itself is left out
+left-out : (body : Listed) (M : Motion) (later : Sky) → (body .number =? 1) ≡ true → fromCentre 1 nowhere (seen body (position.At M) later) ≡ fromCentre 1 nowhere later
+left-out body M (Bodies bs) near = rw near
+left-out body M (Hidden k) near = refl
+
+module _ (b : List ℕ) (s : Setting) (t : ℕ) where
+  as-before : fromCentre 1 nowhere (skyOf b t (bodiesBefore s)) ≡ skyOf b t (bodiesBefore s)
+  as-before = by-all b t (bodiesBefore s) (refl, (refl, (refl, (refl, (refl, tt)))))
+
+  sky-before : skyAbout b s 1 t ≡ skyOf b t (bodiesBefore s)
+  unfolding sky
+  sky-before = go (used (s .earth))
+    where
+      go : (u : Bool)
+          → fromCentre 1 nowhere (if u then seen (record { number = 1; m = s .earth }) (stands b 1 t) (skyOf b t (bodiesBefore s)) else skyOf b t (bodiesBefore s))
+          ≡ skyOf b t (bodiesBefore s)
+      go true = left-out (record { number = 1; m = s .earth }) atRest (skyOf b t (bodiesBefore s)) refl ∙ as-before
+      go false = as-before
+
+  -- the rule
+  pub about-the-earth : (P : Vector) → accelerationAt b s 1 t P ≡ accelerationBefore b s t P
+  unfolding accelerationAt accelerationBefore coefficientOf
+  about-the-earth P = ap (finished P _ _) sky-before
+
+-- ---- the calls
+
+-- a setting that is allowed has the Earth as a centre
+earth-used : (s : Setting) → settingAllowed s ≡ true → centreAllowed s 1 ≡ true
+unfolding settingAllowed centreAllowed coefficientOf
+earth-used s e =
+    let A = earthAllowed (s .earth) in
+    let B = A && coefficientAllowed (s .moon) in
+    let C = B && coefficientAllowed (s .sun) in
+    let D = C && coefficientAllowed (s .venus) in
+    let E = D && coefficientAllowed (s .mars) in
+    let F = E && coefficientAllowed (s .jupiter) in
+    let G = F && isDUT (s .dut) in
+    right (finite (s .earth)) (used (s .earth))
+    (left A (coefficientAllowed (s .moon))
+    (left B (coefficientAllowed (s .sun))
+    (left C (coefficientAllowed (s .venus))
+    (left D (coefficientAllowed (s .mars)) (left E (coefficientAllowed (s .jupiter)) (left F (isDUT (s .dut)) (left G (isRule (s .rule)) e)))))))
+
+-- so 14 never comes about the Earth
+module _ {A : Type 0} (s : Setting) (four fourteen rest : A) where
+  no-fourteen : (if not (settingAllowed s) then four else if not (centreAllowed s 1) then fourteen else rest) ≡ (if not (settingAllowed s) then four else rest)
+  no-fourteen = go (settingAllowed s) refl
+    where
+      go : (ok : Bool) → settingAllowed s ≡ ok
+          → (if not ok then four else if not (centreAllowed s 1) then fourteen else rest) ≡ (if not ok then four else rest)
+      go true e = rw (earth-used s e)
+      go false e = refl
+
+pub answer-as-before : (b : List ℕ) (s : Setting) (t : ℕ) (P : Vector) → accelerationAnswer b s 1 t P ≡ answerBefore b s t P
+unfolding accelerationAnswer answerBefore
+answer-as-before b s t P =
+    ap (λ (x : AccelerationAnswer). if not (passes b) then Refused 1 else x)
+    (no-fourteen s (Refused 4) (Refused 14) _
+    ∙ ap (λ (x : AccelerationAnswer). if not (settingAllowed s) then Refused 4 else if not (isMoment t) then Refused 3 else if not (finiteVector P) then Refused 7 else x)
+    (about-the-earth b s t P))
+
+module _ (b : List ℕ) (setting : Setting) (s : State) (h : ℕ) (earth : s .centre ≡ 1) where
+  pub start-as-before : (target : ℕ) → startRefusal b setting s h target ≡ startBefore b setting s h target
+  unfolding startRefusal startBefore
+  start-as-before target = rw earth (ap (λ (k : ℕ). if not (passes b) then 1 else k) (no-fourteen setting 4 14 _))
+
+  -- and so every step
+  pub step-as-before : step b setting h s ≡ stage1 (accelerationBefore b setting) h s
+  unfolding step
+  step-as-before =
+      ap (λ (c : ℕ). stage1 (accelerationAt b setting c) h s) earth
+      ∙ ap (λ (acc : ℕ → Vector → AccelerationAnswer). stage1 acc h s) (λ i t P. about-the-earth b setting t P i)

@@ -1,0 +1,2 @@
+pub mod LessZero
+pub mod AboutTheEarth

@@ -1,0 +1,79 @@
+-- Document 02, R-6: "A separate call moves a state to another centre".
+use mathlib.Core.Bool.{not}
+use mathlib.Core.List.{List}
+use Prim.Native.Nat.{ℕ}
+use Rattle.basis.specs.Choice.{if_then_else_, _=?_}
+use Rattle.basis.specs.Floats.{_⊖_}
+use Rattle.basis.specs.Limits.{isMoment}
+use Rattle.state.specs.State.{position, velocity, finiteState, settingAllowed, centreAllowed}
+use Rattle.state.specs.declared.Vector.{Vector}
+use Rattle.state.specs.declared.State.{State}
+use Rattle.state.specs.declared.Setting.{Setting}
+use Rattle.book.specs.Passes.{passes}
+use Rattle.book.specs.Lookup.{lookup}
+use Rattle.book.specs.Series as series
+use Rattle.series.specs.declared.Place.{Place}
+use Rattle.series.specs.declared.Velocity.{Velocity}
+use Rattle.book.specs.declared.Motion.{Motion}
+use Rattle.book.specs.declared.Lookup.{Lookup}
+use Rattle.book.specs.declared.Lookup.the-variants.{Entry, Nothing}
+use Rattle.gravity.specs.Pull.{minus}
+use Rattle.gravity.specs.Acceleration.{atRest}
+use Rattle.centre.specs.declared.Seen.{Seen}
+use Rattle.centre.specs.declared.Seen.the-variants.{Covered, Uncovered}
+use Rattle.centre.specs.declared.MoveAnswer.{MoveAnswer}
+use Rattle.centre.specs.declared.MoveAnswer.the-variants.{Moved, Refused}
+
+-- position and velocity of a body, seen from the Earth; "the Earth apart", it "needs cover"
+abbrev pub motionBy : List ℕ → ℕ → Lookup → Seen
+motionBy b t (Entry i) = Covered (record { place = series.place b i t; velocity = series.velocity b i t })
+motionBy b t Nothing = Uncovered
+
+unfoldable pub motionOf : List ℕ → ℕ → ℕ → Seen
+motionOf b number t = if number =? 1 then Covered atRest else motionBy b t (lookup b number t)
+
+-- "the new centre's position and velocity relative to the old"
+abbrev pub apart : Place → Place → Vector
+apart old new = record { x = new .x ⊖ old .x; y = new .y ⊖ old .y; z = new .z ⊖ old .z }
+
+abbrev pub velocityApart : Velocity → Velocity → Vector
+velocityApart old new = record { x = new .x ⊖ old .x; y = new .y ⊖ old .y; z = new .z ⊖ old .z }
+
+-- "by subtracting" them
+unfoldable pub shifted : State → ℕ → Motion → Motion → State
+shifted s centre old new =
+    let p = minus (position s) (apart (old .place) (new .place)) in
+    let v = minus (velocity s) (velocityApart (old .velocity) (new .velocity)) in
+    record { moment = s .moment; centre = centre; x = p .x; y = p .y; z = p .z; vx = v .x; vy = v .y; vz = v .z }
+
+-- "7 (result)"
+abbrev pub finiteOr7 : State → MoveAnswer
+finiteOr7 s = if finiteState s then Moved s else Refused 7
+
+-- 6: both covers come before the result
+abbrev pub moveBy : State → ℕ → Seen → Seen → MoveAnswer
+moveBy s centre (Covered old) (Covered new) = finiteOr7 (shifted s centre old new)
+moveBy s centre (Covered old) Uncovered = Refused 6
+moveBy s centre Uncovered to = Refused 6
+
+-- "moving to the centre it has changes nothing and looks nothing up"
+unfoldable pub moveOf : List ℕ → State → ℕ → MoveAnswer
+moveOf b s centre =
+    if s .centre =? centre then Moved s else
+    moveBy s centre (motionOf b (s .centre) (s .moment)) (motionOf b centre (s .moment))
+
+-- 1, 4, "14, directly after 4", of the centre that it has and of the new one; "a move then gives 3, 7 (state)"; 0 where none of these comes
+unfoldable pub moveRefusal : List ℕ → Setting → State → ℕ → ℕ
+moveRefusal b setting s centre =
+    if not (passes b) then 1 else
+    if not (settingAllowed setting) then 4 else
+    if not (centreAllowed setting (s .centre)) then 14 else
+    if not (centreAllowed setting centre) then 14 else
+    if not (isMoment (s .moment)) then 3 else
+    if not (finiteState s) then 7 else 0
+
+-- "then .. 6, 7 (result), the number alone"
+unfoldable pub moveAnswer : List ℕ → Setting → State → ℕ → MoveAnswer
+moveAnswer b setting s centre =
+    let k = moveRefusal b setting s centre in
+    if k =? 0 then moveOf b s centre else Refused k

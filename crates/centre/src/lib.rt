@@ -1,0 +1,166 @@
+// (02, R-6) A state moved to another centre.
+
+use basis::END_OF_TIME;
+use basis::unless;
+use book::Lookup;
+use book::Motion;
+use book::Place;
+use book::Velocity;
+use gravity::known::difference;
+use state::Setting;
+use state::State;
+use state::Vector;
+ghost use mathlib.Core.Bool.{true};
+ghost use mathlib.Core.Path.{_≡_};
+ghost use Rattle.book.specs.Passes.{passes};
+ghost use Rattle.gravity.specs.Acceleration.{atRest};
+ghost use Rattle.centre.specs.Move.{motionOf, apart, velocityApart, shifted, finiteOr7, moveBy, moveOf, moveRefusal, moveAnswer};
+
+pub enum MoveAnswer {
+    Moved(State),
+    Refused(u64),
+}
+
+// A body where an entry covers the moment: where it stands and how fast it goes, seen from the Earth.
+enum Seen {
+    Covered(Motion),
+    Uncovered,
+}
+
+// The Earth is at rest and needs no cover.
+fn at_rest() -> Motion
+    ensures { λ r. ⌜ r ≡ atRest ⌝ }
+{
+    let place = Place {
+        x: 0.0,
+        y: 0.0,
+        z: 0.0,
+    };
+    let velocity = Velocity {
+        x: 0.0,
+        y: 0.0,
+        z: 0.0,
+    };
+    Motion { place, velocity }
+}
+
+fn motion_of(book: &[u8], number: u64, moment: u64) -> Seen
+    requires { ⌜ passes (now book) ≡ true ⌝ }
+    ensures { λ r. ⌜ r ≡ motionOf (now (book .entry)) number moment ⌝ }
+{
+    if number == 1 {
+        return Seen::Covered(at_rest());
+    }
+    let Lookup::Entry(entry) = book::known::lookup_guessed(book, number, moment, 0) else {
+        return Seen::Uncovered;
+    };
+    let place = book::known::place_at(book, entry, moment);
+    let velocity = book::known::velocity_at(book, entry, moment);
+    Seen::Covered(Motion { place, velocity })
+}
+
+// How far the new centre is from the old.
+fn apart_by(old: Place, new: Place) -> Vector
+    ensures { λ r. ⌜ r ≡ apart old new ⌝ }
+{
+    Vector {
+        x: new.x - old.x,
+        y: new.y - old.y,
+        z: new.z - old.z,
+    }
+}
+
+// How fast the new centre goes, against the old.
+fn velocity_apart(old: Velocity, new: Velocity) -> Vector
+    ensures { λ r. ⌜ r ≡ velocityApart old new ⌝ }
+{
+    Vector {
+        x: new.x - old.x,
+        y: new.y - old.y,
+        z: new.z - old.z,
+    }
+}
+
+fn shifted_state(s: State, centre: u64, old: Motion, new: Motion) -> State
+    ensures { λ r. ⌜ r ≡ shifted s centre old new ⌝ }
+{
+    let p = difference(state::position_of(s), apart_by(old.place, new.place));
+    let v = difference(
+        state::velocity_of(s),
+        velocity_apart(old.velocity, new.velocity),
+    );
+    State {
+        moment: s.moment,
+        centre,
+        x: p.x,
+        y: p.y,
+        z: p.z,
+        vx: v.x,
+        vy: v.y,
+        vz: v.z,
+    }
+}
+
+fn finite_or_7(s: State) -> MoveAnswer
+    ensures { λ r. ⌜ r ≡ finiteOr7 s ⌝ }
+{
+    if state::state_is_finite(s) {
+        return MoveAnswer::Moved(s);
+    }
+    MoveAnswer::Refused(7)
+}
+
+// Both centres have to be covered before anything is worked out.
+fn move_by(s: State, centre: u64, from: Seen, to: Seen) -> MoveAnswer
+    ensures { λ r. ⌜ r ≡ moveBy s centre from to ⌝ }
+{
+    let Seen::Covered(old) = from else {
+        return MoveAnswer::Refused(6);
+    };
+    let Seen::Covered(new) = to else {
+        return MoveAnswer::Refused(6);
+    };
+    finite_or_7(shifted_state(s, centre, old, new))
+}
+
+// The move itself, in a book that is known to pass: where the centre stays, nothing is looked up.
+fn moved(book: &[u8], s: State, centre: u64) -> MoveAnswer
+    requires { ⌜ passes (now book) ≡ true ⌝ }
+    ensures { λ r. ⌜ r ≡ moveOf (now (book .entry)) s centre ⌝ }
+{
+    if s.centre == centre {
+        return MoveAnswer::Moved(s);
+    }
+    let from = motion_of(book, s.centre, s.moment);
+    let to = motion_of(book, centre, s.moment);
+    move_by(s, centre, from, to)
+}
+
+// The number of the first check that fails, 0 where none does: made first and then put in order, the last one first.
+fn move_refusal(book: &[u8], setting: Setting, s: State, centre: u64) -> u64
+    ensures { λ r. ⌜ r ≡ moveRefusal (now (book .entry)) setting s centre ⌝ }
+{
+    let passes = book::book_passes(book);
+    let allowed = state::setting_is_allowed(setting);
+    let from = state::centre_is_allowed(setting, s.centre);
+    let to = state::centre_is_allowed(setting, centre);
+    let begins = s.moment < END_OF_TIME;
+    let finite = state::state_is_finite(s);
+    let after_moment = unless(finite, 7, 0);
+    let after_to = unless(begins, 3, after_moment);
+    let after_from = unless(to, 14, after_to);
+    let after_setting = unless(from, 14, after_from);
+    let after_book = unless(allowed, 4, after_setting);
+    unless(passes, 1, after_book)
+}
+
+// The state about another centre: its position and velocity less those of the new centre, seen from the old.
+pub fn move_to(book: &[u8], setting: Setting, state: State, centre: u64) -> MoveAnswer
+    ensures { λ r. ⌜ r ≡ moveAnswer (now (book .entry)) setting state centre ⌝ }
+{
+    let refusal = move_refusal(book, setting, state, centre);
+    if refusal == 0 {
+        return moved(book, state, centre);
+    }
+    MoveAnswer::Refused(refusal)
+}

@@ -1,0 +1,9 @@
+-- `centrelink::belfry_move` meets its contract. Assumes nothing.
+use Rattle.centrelink.proofs.belfry_move.Statement.{statement}
+use Rattle.centrelink.proofs.belfry_move.Tie as tie
+
+returns : tie.Need-returns
+returns c = c .moved .ensures
+
+pub belfry-move-spec : {M : Type 1} → statement M
+belfry-move-spec = tie.close (tie.spec (λ c κs. tt) returns)

@@ -1,0 +1,9 @@
+-- `centrelink::belfry_orbit` meets its contract. Assumes nothing.
+use Rattle.centrelink.proofs.belfry_orbit.Statement.{statement}
+use Rattle.centrelink.proofs.belfry_orbit.Tie as tie
+
+returns : tie.Need-returns
+returns c = c .orbit .ensures
+
+pub belfry-orbit-spec : {M : Type 1} → statement M
+belfry-orbit-spec = tie.close (tie.spec (λ c κs. tt) returns)

@@ -1,0 +1,9 @@
+-- `centrelink::belfry_pull` meets its contract. Assumes nothing.
+use Rattle.centrelink.proofs.belfry_pull.Statement.{statement}
+use Rattle.centrelink.proofs.belfry_pull.Tie as tie
+
+returns : tie.Need-returns
+returns c = c .pull .ensures
+
+pub belfry-pull-spec : {M : Type 1} → statement M
+belfry-pull-spec = tie.close (tie.spec (λ c κs. tt) returns)

@@ -1,0 +1,141 @@
+// The calls of document 02 for C and Rust that take the whole setting and a state about any centre, over numbers and memory that
+// the caller lends. Each returns 0 where it is accepted, else the number of the refusal. A run that is still going returns 100.
+
+ghost use mathlib.Core.Path.{_≡_};
+ghost use Rattle.gravity.specs.Acceleration.{accelerationAnswer};
+ghost use Rattle.motion.specs.Run.{runAnswer};
+ghost use Rattle.centre.specs.Move.{moveAnswer};
+ghost use Rattle.fixed.specs.Fixed.{fixedAnswer};
+ghost use Rattle.conic.specs.Conic.{conicAnswer};
+ghost use Rattle.handed.specs.Handed.{handed, answered};
+ghost use Rattle.lent.specs.Lent.{settingOf, vectorOf, stateOf, guessesOf, bothIn};
+ghost use Rattle.lent.specs.Answers.{ofAcceleration, ofMove, ofFixed, ofConic, handedBack, ofRun};
+
+#[no_mangle]
+pub extern "C" fn belfry_pull(
+    book: &[u8],
+    coefficients: &[f64; 6],
+    dut: u32,
+    rule: u64,
+    moment: u64,
+    centre: u64,
+    position: &[f64; 3],
+    acceleration: &mut [f64; 3],
+) -> u64
+    ensures { λ r. ⌜ handed r (now (acceleration .exit)) ≡ answered (now (acceleration .entry))
+        (ofAcceleration (accelerationAnswer (now (book .entry)) (settingOf (now (coefficients .entry)) dut rule) centre moment
+        (vectorOf (now (position .entry))))) ⌝ }
+{
+    lent::calls::pull(
+        book,
+        coefficients,
+        dut,
+        rule,
+        moment,
+        centre,
+        position,
+        acceleration,
+    )
+}
+
+// What is read and what is written stand apart: the next call reads what this one wrote. The centre is the one given.
+#[no_mangle]
+pub extern "C" fn belfry_fly(
+    book: &[u8],
+    coefficients: &[f64; 6],
+    dut: u32,
+    rule: u64,
+    moment: u64,
+    centre: u64,
+    coordinates: &[f64; 6],
+    h: u32,
+    target: u64,
+    budget: u32,
+    guesses: &[u64; 5],
+    reached: &mut u64,
+    there: &mut [f64; 6],
+    entries: &mut [u64; 5],
+    steps: &mut u32,
+) -> u64
+    ensures { λ r. ⌜ handedBack r (now (reached .exit)) (now (there .exit)) (now (entries .exit)) (now (steps .exit)) ≡ ofRun
+        (runAnswer (now (book .entry)) (settingOf (now (coefficients .entry)) dut rule)
+        (stateOf moment centre (now (coordinates .entry))) h target budget (guessesOf (now (guesses .entry)))) ⌝ }
+{
+    lent::calls::fly(
+        book,
+        coefficients,
+        dut,
+        rule,
+        moment,
+        centre,
+        coordinates,
+        h,
+        target,
+        budget,
+        guesses,
+        reached,
+        there,
+        entries,
+        steps,
+    )
+}
+
+#[no_mangle]
+pub extern "C" fn belfry_move(
+    book: &[u8],
+    coefficients: &[f64; 6],
+    dut: u32,
+    rule: u64,
+    moment: u64,
+    centre: u64,
+    coordinates: &[f64; 6],
+    new: u64,
+    moved: &mut [f64; 6],
+) -> u64
+    ensures { λ r. ⌜ handed r (now (moved .exit)) ≡ answered (now (moved .entry))
+        (ofMove (moveAnswer (now (book .entry)) (settingOf (now (coefficients .entry)) dut rule)
+        (stateOf moment centre (now (coordinates .entry))) new)) ⌝ }
+{
+    lent::calls::moved(
+        book,
+        coefficients,
+        dut,
+        rule,
+        moment,
+        centre,
+        coordinates,
+        new,
+        moved,
+    )
+}
+
+// Earth-fixed coordinates by a rule of the hour angle.
+#[no_mangle]
+pub extern "C" fn belfry_turn(
+    rule: u64,
+    dut: u32,
+    moment: u64,
+    centre: u64,
+    coordinates: &[f64; 6],
+    turned: &mut [f64; 6],
+) -> u64
+    ensures { λ r. ⌜ handed r (now (turned .exit)) ≡ answered (now (turned .entry))
+        (ofFixed (fixedAnswer rule dut (stateOf moment centre (now (coordinates .entry))))) ⌝ }
+{
+    lent::calls::turned(rule, dut, moment, centre, coordinates, turned)
+}
+
+#[no_mangle]
+pub extern "C" fn belfry_orbit(
+    m: f64,
+    moment: u64,
+    centre: u64,
+    coordinates: &[f64; 6],
+    names: &mut [u64; 2],
+    figures: &mut [f64; 5],
+) -> u64
+    ensures { λ r. ⌜ handed r (bothIn (now (names .exit)) (now (figures .exit))) ≡ answered (bothIn (now (names .entry)) (now (figures .entry)))
+        (ofConic (conicAnswer m (stateOf moment centre (now (coordinates .entry))))) ⌝ }
+{
+    lent::calls::orbit(m, moment, centre, coordinates, names, figures)
+}

@@ -1,0 +1,144 @@
+// The calls about a state, over numbers and memory that a caller lends: what the exported calls of the crates above stand on.
+
+use crate::figures_of;
+use crate::guesses_of;
+use crate::hand_back;
+use crate::kind_of;
+use crate::setting_of;
+use crate::state_of;
+use crate::vector_of;
+use centre::MoveAnswer;
+use conic::ConicAnswer;
+use fixed::FixedAnswer;
+use gravity::AccelerationAnswer;
+ghost use mathlib.Core.Path.{_≡_};
+ghost use Rattle.gravity.specs.Acceleration.{accelerationAnswer};
+ghost use Rattle.motion.specs.Run.{runAnswer};
+ghost use Rattle.centre.specs.Move.{moveAnswer};
+ghost use Rattle.fixed.specs.Fixed.{fixedAnswer};
+ghost use Rattle.conic.specs.Conic.{conicAnswer};
+ghost use Rattle.handed.specs.Handed.{handed, answered};
+ghost use Rattle.lent.specs.Lent.{settingOf, vectorOf, stateOf, guessesOf, bothIn};
+ghost use Rattle.lent.specs.Answers.{ofAcceleration, ofMove, ofFixed, ofConic, handedBack, ofRun};
+
+pub fn pull(
+    book: &[u8],
+    coefficients: &[f64; 6],
+    dut: u32,
+    rule: u64,
+    moment: u64,
+    centre: u64,
+    position: &[f64; 3],
+    acceleration: &mut [f64; 3],
+) -> u64
+    ensures { λ r. ⌜ handed r (now (acceleration .exit)) ≡ answered (now (acceleration .entry))
+        (ofAcceleration (accelerationAnswer (now (book .entry)) (settingOf (now (coefficients .entry)) dut rule) centre moment
+        (vectorOf (now (position .entry))))) ⌝ }
+{
+    let setting = setting_of(*coefficients, dut, rule);
+    match gravity::acceleration(book, setting, centre, moment, vector_of(*position)) {
+        AccelerationAnswer::Is(a) => {
+            *acceleration = [a.x, a.y, a.z];
+            0
+        }
+        AccelerationAnswer::Refused(k) => k,
+    }
+}
+
+// What is read and what is written stand apart: the next call reads what this one wrote. The centre is the one given.
+pub fn fly(
+    book: &[u8],
+    coefficients: &[f64; 6],
+    dut: u32,
+    rule: u64,
+    moment: u64,
+    centre: u64,
+    coordinates: &[f64; 6],
+    h: u32,
+    target: u64,
+    budget: u32,
+    guesses: &[u64; 5],
+    reached: &mut u64,
+    there: &mut [f64; 6],
+    entries: &mut [u64; 5],
+    steps: &mut u32,
+) -> u64
+    ensures { λ r. ⌜ handedBack r (now (reached .exit)) (now (there .exit)) (now (entries .exit)) (now (steps .exit)) ≡ ofRun
+        (runAnswer (now (book .entry)) (settingOf (now (coefficients .entry)) dut rule)
+        (stateOf moment centre (now (coordinates .entry))) h target budget (guessesOf (now (guesses .entry)))) ⌝ }
+{
+    let setting = setting_of(*coefficients, dut, rule);
+    let state = state_of(moment, centre, *coordinates);
+    let given = guesses_of(*guesses);
+    let answer = motion::run(book, setting, state, h, target, budget, given);
+    hand_back(answer, reached, there, entries, steps)
+}
+
+pub fn moved(
+    book: &[u8],
+    coefficients: &[f64; 6],
+    dut: u32,
+    rule: u64,
+    moment: u64,
+    centre: u64,
+    coordinates: &[f64; 6],
+    new: u64,
+    moved: &mut [f64; 6],
+) -> u64
+    ensures { λ r. ⌜ handed r (now (moved .exit)) ≡ answered (now (moved .entry))
+        (ofMove (moveAnswer (now (book .entry)) (settingOf (now (coefficients .entry)) dut rule)
+        (stateOf moment centre (now (coordinates .entry))) new)) ⌝ }
+{
+    let setting = setting_of(*coefficients, dut, rule);
+    let state = state_of(moment, centre, *coordinates);
+    match centre::move_to(book, setting, state, new) {
+        MoveAnswer::Moved(s) => {
+            *moved = [s.x, s.y, s.z, s.vx, s.vy, s.vz];
+            0
+        }
+        MoveAnswer::Refused(k) => k,
+    }
+}
+
+// Earth-fixed coordinates by a rule of the hour angle.
+pub fn turned(
+    rule: u64,
+    dut: u32,
+    moment: u64,
+    centre: u64,
+    coordinates: &[f64; 6],
+    turned: &mut [f64; 6],
+) -> u64
+    ensures { λ r. ⌜ handed r (now (turned .exit)) ≡ answered (now (turned .entry))
+        (ofFixed (fixedAnswer rule dut (stateOf moment centre (now (coordinates .entry))))) ⌝ }
+{
+    match fixed::earth_fixed(rule, dut, state_of(moment, centre, *coordinates)) {
+        FixedAnswer::Fixed(t) => {
+            *turned = [t.x, t.y, t.z, t.vx, t.vy, t.vz];
+            0
+        }
+        FixedAnswer::Refused(k) => k,
+    }
+}
+
+pub fn orbit(
+    m: f64,
+    moment: u64,
+    centre: u64,
+    coordinates: &[f64; 6],
+    names: &mut [u64; 2],
+    figures: &mut [f64; 5],
+) -> u64
+    ensures { λ r. ⌜ handed r (bothIn (now (names .exit)) (now (figures .exit))) ≡ answered (bothIn (now (names .entry)) (now (figures .entry)))
+        (ofConic (conicAnswer m (stateOf moment centre (now (coordinates .entry))))) ⌝ }
+{
+    match conic::conic_figures(m, state_of(moment, centre, *coordinates)) {
+        ConicAnswer::Figures(c) => {
+            let conic = c.conic;
+            *names = [c.centre, kind_of(conic)];
+            *figures = figures_of(conic);
+            0
+        }
+        ConicAnswer::Refused(k) => k,
+    }
+}

@@ -1,0 +1,38 @@
+//! Centres for a trip: used ones, unused ones, and numbers that are none.
+
+use super::chance::Chance;
+use super::times::some_rule;
+use super::trip::{bad_centre, Trip};
+use crate::motion::{looked_up, used, Setting, EARTH};
+
+/// The Earth or another body that is used.
+pub fn used_centre(c: &mut Chance, setting: &Setting) -> u64 {
+    let list: Vec<u64> = used(setting).map(|(body, _)| body as u64).collect();
+    if list.is_empty() { EARTH } else { c.pick(&list) }
+}
+
+/// A used body that is not the Earth, where there is one.
+pub fn other_centre(c: &mut Chance, setting: &Setting) -> u64 {
+    let list: Vec<u64> = looked_up(setting).map(|body| body as u64).collect();
+    if list.is_empty() { EARTH } else { c.pick(&list) }
+}
+
+/// Mostly a used body other than the Earth; now and then the Earth, an unused body, or a number that is none.
+pub fn some_centre(c: &mut Chance, setting: &Setting) -> u64 {
+    match c.below(12) {
+        0 | 1 => EARTH,
+        2 => c.between(1, 6),
+        3 => bad_centre(c),
+        _ => other_centre(c, setting),
+    }
+}
+
+/// The trip about some centre, by one of the rules.
+pub fn centred(c: &mut Chance, mut t: Trip) -> Trip {
+    t.state.centre = some_centre(c, &t.setting);
+    t.setting.rule = match c.below(3) {
+        0 => some_rule(c),
+        _ => c.below(2),
+    };
+    t
+}

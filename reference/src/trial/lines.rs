@@ -1,0 +1,64 @@
+//! A trip as a question line or as an order.
+
+use super::floats::hexes;
+use super::trip::Trip;
+
+impl Trip {
+    /// Coefficients and DUT.
+    fn old_setting(&self) -> String {
+        format!("{} {}", hexes(&self.setting.coefficients), self.setting.dut)
+    }
+
+    fn setting_fields(&self) -> String {
+        format!("{} {}", self.old_setting(), self.setting.rule)
+    }
+
+    fn six(&self) -> String {
+        format!("{} {}", hexes(&self.state.position), hexes(&self.state.velocity))
+    }
+
+    fn state_fields(&self) -> String {
+        format!("{} {} {}", self.state.moment, self.state.centre, self.six())
+    }
+
+    /// h, target, budget and guesses.
+    fn way(&self) -> String {
+        let guesses = self.guesses.map(|g| g.to_string()).join(" ");
+        format!("{} {} {} {guesses}", self.h, self.target, self.budget)
+    }
+
+    pub fn run_line(&self) -> String {
+        format!("run {} {} {} {}", self.old_setting(), self.state.moment, self.six(), self.way())
+    }
+
+    pub fn fly_line(&self) -> String {
+        format!("fly {} {} {}", self.setting_fields(), self.state_fields(), self.way())
+    }
+
+    pub fn accel_line(&self) -> String {
+        format!("accel {} {} {}", self.old_setting(), self.state.moment, hexes(&self.state.position))
+    }
+
+    pub fn pull_line(&self) -> String {
+        let (moment, centre) = (self.state.moment, self.state.centre);
+        format!("pull {} {moment} {centre} {}", self.setting_fields(), hexes(&self.state.position))
+    }
+
+    pub fn move_line(&self, new: u64) -> String {
+        format!("move {} {} {new}", self.setting_fields(), self.state_fields())
+    }
+
+    /// The 120 bytes of an order.
+    pub fn order(&self) -> Vec<u8> {
+        let mut bytes = Vec::new();
+        let floats = |list: &[f64]| list.iter().flat_map(|x| x.to_le_bytes()).collect::<Vec<_>>();
+        bytes.extend(floats(&self.setting.coefficients));
+        bytes.extend(self.state.moment.to_le_bytes());
+        bytes.extend(floats(&self.state.position));
+        bytes.extend(floats(&self.state.velocity));
+        bytes.extend(self.h.to_le_bytes());
+        bytes.extend(self.setting.dut.to_le_bytes());
+        bytes.extend(self.target.to_le_bytes());
+        bytes
+    }
+}
