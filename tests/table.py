@@ -1,6 +1,7 @@
 #!/usr/bin/env python3
-"""table.py [--spoil] COMMAND..: the program `table`, started by COMMAND, beside exact fractions and python's csv module.
-With --spoil one expected digit is changed, which has to be seen. Ends with 1 where something differs."""
+"""table.py [--spoil] LISTING COMMAND..: the program `table`, started by COMMAND, beside exact fractions and python's csv module, on
+made listings and on the file LISTING. With --spoil one expected digit is changed, which has to be seen. Ends with 1 where something
+differs."""
 import csv
 import datetime
 import io
@@ -14,7 +15,7 @@ HEADING = 'time,x,y,z,vx,vy,vz\r\n'
 END = 3155760000000
 words = sys.argv[1:]
 spoil = words[0] == '--spoil'
-command = words[1:] if spoil else words
+flight, *command = words[1:] if spoil else words
 compared = differ = 0
 
 
@@ -82,27 +83,35 @@ def component():
     return bits(random.uniform(-1, 1) * random.choice([20, 1e6, 1e12]))
 
 
+def rows_of(name, states, text):
+    """A whole listing: every byte, and what a reader that nobody here wrote makes of it: seven fields a row, each number within half
+    a unit of the exact value."""
+    global compared, differ
+    rows = ''.join(map(row, states))
+    if spoil:
+        rows = rows.replace('1', '2', 1)
+    back = list(csv.reader(io.StringIO(told(name, text, rows, ''), newline='')))[1:]
+    for (moment, c), fields in zip(states, back):
+        compared += 1
+        near = len(fields) == 7 and fields[0] == stamp(moment) and all(
+            2 * abs(Fraction(f) - Fraction(number(x))) * 10 ** p <= 1 for f, x, p in zip(fields[1:], c, [3] * 3 + [6] * 3))
+        if not near:
+            differ += 1
+            print('DIFFERS: %s: row read back: %r' % (name, fields))
+    if len(back) != len(states):
+        differ += 1
+        print('DIFFERS: %s: %d rows read back' % (name, len(back)))
+
+
 random.seed(7)
 edges = {0, 86399999, 86400000, END - 1, 1582934399999, 1582934400000, 1583020799999, 1583020800000}
 moments = sorted(set(random.sample(range(END), 4000)) | edges)
 states = [(t, [component() for _ in range(6)]) for t in moments]
-rows = ''.join(map(row, states))
-if spoil:
-    rows = rows.replace('1', '2', 1)
-said = told('a long listing', 'STRIP 60000\n' + ''.join(map(line, states)) + 'ARRIVED 7\n', rows, '')
-
-# a reader that nobody here wrote: seven fields a row, each number within half a unit of the exact value
-back = list(csv.reader(io.StringIO(said, newline='')))[1:]
-for (moment, c), fields in zip(states, back):
-    compared += 1
-    near = len(fields) == 7 and fields[0] == stamp(moment) and all(
-        2 * abs(Fraction(f) - Fraction(number(x))) * 10 ** p <= 1 for f, x, p in zip(fields[1:], c, [3] * 3 + [6] * 3))
-    if not near:
-        differ += 1
-        print('DIFFERS: row read back: %r' % fields)
-if len(back) != len(states):
-    differ += 1
-    print('DIFFERS: %d rows read back' % len(back))
+rows_of('a long listing', states, 'STRIP 60000\n' + ''.join(map(line, states)) + 'ARRIVED 7\n')
+with open(flight) as file:
+    listed = file.read()
+words = [l.split() for l in listed.splitlines()[1:-1]]
+rows_of(flight, [(int(w[0]), [int(x, 16) for x in w[1:]]) for w in words], listed)
 
 first, second, third, fourth = states[:4]
 L, W = [line(s) for s in states[:4]], [row(s) for s in states[:4]]

@@ -1,9 +1,9 @@
 #!/usr/bin/env bash
-# What strip, ask, repair and compare say where something cannot be done: files that cannot be read, words that they do not take, a full disk.
+# What strip, ask, repair, compare and table say where something cannot be done: files that cannot be read, words that they do not take, a full disk.
 # One line for each check; ends with 1 if one failed.
 cd "$(dirname "$0")/.." || exit 2
 . tests/programs.sh
-[ -x target/bin/ask ] && [ -x target/bin/strip ] && [ -x target/bin/repair ] && [ -x target/bin/compare ] || rt check ask strip repair compare >/dev/null || exit 2
+[ -x target/bin/ask ] && [ -x target/bin/strip ] && [ -x target/bin/repair ] && [ -x target/bin/compare ] && [ -x target/bin/table ] || rt check ask strip repair compare table >/dev/null || exit 2
 work=$PWD/target/told
 rm -rf "$work"
 mkdir -p "$work"
@@ -104,4 +104,16 @@ check "compare with a pipe" '' "^compare: cannot read $work/pipe twice: Illegal 
 : >"$work/out"
 $start target/bin/compare "$listing" crates/compare/data/second >/dev/full 2>"$work/err"
 check "compare on a full disk" '' '^compare: cannot write the report: No space left on device$'
+heading=$'time,x,y,z,vx,vy,vz\r'
+says '' table more
+check "table with a word" '' '^use: table < LISTING$'
+says '' table
+check "table without input" "$heading" '^REFUSED 13 1$'
+says 'REFUSED 6' table
+check "table of a lone refusal" "$heading" ''
+$start target/bin/table <"$work" >"$work/out" 2>"$work/err"
+check "table with a directory" "$heading" '^table: cannot read standard input: Is a directory$'
+: >"$work/out"
+$start target/bin/table <"$listing" >/dev/full 2>"$work/err"
+check "table on a full disk" '' '^table: cannot write the table: No space left on device$'
 exit $failed

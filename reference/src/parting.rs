@@ -3,7 +3,7 @@
 
 use std::collections::BTreeMap;
 
-use crate::hour::END;
+use crate::listing::{lines, Form, Kind};
 
 /// A moment and the bits of its six components.
 type States = BTreeMap<u64, [u64; 6]>;
@@ -17,86 +17,21 @@ struct Listing {
     outcome: Vec<u8>,
 }
 
-enum Kind {
-    Header,
-    State(u64, [u64; 6]),
-    Outcome,
-    Lone,
-    Other,
-}
-
-/// The lines of a text; the last may lack its line feed.
-fn lines(text: &[u8]) -> Vec<&[u8]> {
-    let mut all: Vec<&[u8]> = text.split(|&b| b == b'\n').collect();
-    if all.last().is_some_and(|line| line.is_empty()) {
-        all.pop();
-    }
-    all
-}
-
-/// A decimal of any length without a zero in front.
-fn is_number(word: &[u8]) -> bool {
-    !word.is_empty() && word.iter().all(u8::is_ascii_digit) && (word == b"0" || word[0] != b'0')
-}
-
-fn moment(word: &[u8]) -> Option<u64> {
-    let text = std::str::from_utf8(word).ok().filter(|_| is_number(word))?;
-    text.parse().ok().filter(|&t| t < END)
-}
-
-fn component(word: &[u8]) -> Option<u64> {
-    let lower = |b: &u8| b.is_ascii_digit() || (b'a'..=b'f').contains(b);
-    let text = std::str::from_utf8(word).ok().filter(|_| word.len() == 16 && word.iter().all(lower))?;
-    let bits = u64::from_str_radix(text, 16).ok()?;
-    f64::from_bits(bits).is_finite().then_some(bits)
-}
-
-fn state(words: &[&[u8]]) -> Option<Kind> {
-    let (first, rest) = words.split_first().filter(|_| words.len() == 7)?;
-    let mut bits = [0; 6];
-    for (place, word) in bits.iter_mut().zip(rest) {
-        *place = component(word)?;
-    }
-    Some(Kind::State(moment(first)?, bits))
-}
-
-fn kind(line: &[u8]) -> Kind {
-    let words: Vec<&[u8]> = line.split(|&b| b == b' ').collect();
-    match words[..] {
-        [b"STRIP", n] if is_number(n) => Kind::Header,
-        [b"ARRIVED", n] if is_number(n) => Kind::Outcome,
-        [b"REFUSED", n] if is_number(n) => Kind::Lone,
-        [b"REFUSED", k, n] if is_number(k) && is_number(n) => Kind::Outcome,
-        _ => state(&words).unwrap_or(Kind::Other),
-    }
-}
-
 /// The listing, or the number of the line that is not of the form.
 fn listing(text: &[u8]) -> Result<Listing, usize> {
-    let lines = lines(text);
-    let line = |i: usize| lines.get(i).copied().ok_or(i + 1);
-    let top = line(0)?;
-    let ended = |i: usize| if lines.len() > i { Err(i + 1) } else { Ok(()) };
-    let header = match kind(top) {
-        Kind::Lone => {
-            ended(1)?;
-            return Ok(Listing { header: None, states: States::new(), outcome: top.to_vec() });
-        }
-        Kind::Header => top.to_vec(),
-        _ => return Err(1),
-    };
-    let mut states = States::new();
-    for i in 1.. {
-        match kind(line(i)?) {
-            Kind::State(t, bits) if states.last_key_value().is_none_or(|(&last, _)| last < t) => states.insert(t, bits),
-            Kind::Outcome if !states.is_empty() => {
-                ended(i + 1)?;
-                return Ok(Listing { header: Some(header), states, outcome: lines[i].to_vec() });
+    let mut listing = Listing { header: None, states: States::new(), outcome: Vec::new() };
+    let mut form = Form::default();
+    for line in lines(text) {
+        match form.line(line)? {
+            Kind::Header => listing.header = Some(line.to_vec()),
+            Kind::State(t, bits) => {
+                listing.states.insert(t, bits);
             }
-            _ => return Err(i + 1),
-        };
+            _ => listing.outcome = line.to_vec(),
+        }
     }
-    Err(lines.len() + 1)
+    form.end()?;
+    Ok(listing)
 }
 
 /// Float steps: -0.0 is one below +0.0.

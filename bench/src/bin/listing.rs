@@ -4,14 +4,11 @@
 //! other in turn, and the least time of each is printed, with the first over the second.
 
 use std::io::{self, Read, Write};
-use std::process::{Command, ExitCode, Stdio};
-use std::time::Instant;
+use std::process::ExitCode;
 
+use bench::{race, thirty_days};
 use reference::motion::{start_checks, step, State};
 use reference::strip::{read_order, ORDER};
-
-const H: u32 = 60_000;
-const STEPS: u64 = 30 * 24 * 60;
 
 /// Lines of a listing, gathered in a buffer as large as a pipe.
 struct Lines {
@@ -74,53 +71,16 @@ fn walk() -> io::Result<()> {
     lines.flush()
 }
 
-/// The order with the Moon and the Sun alone, thirty days and one minute, and the book behind it.
-fn input(order: &[u8], book: &[u8]) -> Option<Vec<u8>> {
-    let moment = read_order(order)?.state.moment;
-    let mut input = order.get(..ORDER)?.to_vec();
-    input[24..48].fill(0);
-    input[104..108].copy_from_slice(&H.to_le_bytes());
-    input[112..120].copy_from_slice(&(moment + u64::from(H) * STEPS).to_le_bytes());
-    input.extend(book);
-    Some(input)
-}
-
-fn started(words: &[String], file: &std::path::Path, out: Stdio) -> io::Result<Command> {
-    let mut command = Command::new(&words[0]);
-    command.args(&words[1..]).stdin(std::fs::File::open(file)?).stdout(out);
-    Ok(command)
-}
-
-/// Milliseconds of one start, its output thrown away.
-fn once(words: &[String], file: &std::path::Path) -> io::Result<f64> {
-    let mut command = started(words, file, Stdio::null())?;
-    let start = Instant::now();
-    let status = command.status()?;
-    assert!(status.success());
-    Ok(start.elapsed().as_secs_f64() * 1000.0)
-}
-
 fn bench(words: &[String]) -> io::Result<bool> {
     let [book, order, times, program @ ..] = words else { return Ok(false) };
     let (Some(input), Ok(times), false) =
-        (input(&std::fs::read(order)?, &std::fs::read(book)?), times.parse::<u32>(), program.is_empty())
+        (thirty_days(&std::fs::read(order)?, &std::fs::read(book)?), times.parse::<u32>(), program.is_empty())
     else {
         return Ok(false);
     };
-    let file = std::env::temp_dir().join(format!("listing-{}.input", std::process::id()));
-    std::fs::write(&file, input)?;
-    let own = [std::env::current_exe()?.to_string_lossy().into_owned(), "walk".to_string()];
-    let first = started(program, &file, Stdio::piped())?.output()?.stdout;
-    let second = started(&own, &file, Stdio::piped())?.output()?.stdout;
-    assert!(first == second, "the two listings differ");
-    println!("{} bytes, the same; its last line: {}", first.len(), String::from_utf8_lossy(&first).lines().last().unwrap_or(""));
-    let mut best = [f64::INFINITY; 2];
-    for _ in 0..times {
-        best[0] = best[0].min(once(program, &file)?);
-        best[1] = best[1].min(once(&own, &file)?);
-    }
-    std::fs::remove_file(&file)?;
-    println!("strip {:.1} ms, a Rust walk that prints the same {:.1} ms, ratio {:.2}", best[0], best[1], best[0] / best[1]);
+    let (listing, [strip, walk]) = race(program, "walk", &input, times)?;
+    println!("{} bytes, the same; its last line: {}", listing.len(), String::from_utf8_lossy(&listing).lines().last().unwrap_or(""));
+    println!("strip {strip:.1} ms, a Rust walk that prints the same {walk:.1} ms, ratio {:.2}", strip / walk);
     Ok(true)
 }
 

@@ -2,8 +2,8 @@
 // on standard error behind the rows before it, and so is what cannot be read or written.
 //
 // No contract can say what a program reads or writes. What it should write is tabling's definition `tableOf` of the text that it
-// reads: the contracts of tabling say what each text is that is written here, and its laws (proofs/Whole.antt) that these texts,
-// in this order, make up the whole.
+// reads: the contracts of tabling say what each text is that is written here, and the laws of tabled that these texts, in this
+// order, make up the whole.
 
 use libc::STDERR_FILENO;
 use libc::STDIN_FILENO;

@@ -96,11 +96,11 @@ held-on Off n l h z = absurd h
 
 -- ---- one line more
 
-line-told : (p : Place) (n : ℕ) (l : Line) (ls : List Line) → refusalAt (placed p l) (rowOf l) ≡ 0 → tableFrom p n (l ∷ ls) ≡ behind (foundText (rowOf l)) (tableFrom (placed p l) (n + 1) ls)
+pub line-told : (p : Place) (n : ℕ) (l : Line) (ls : List Line) → refusalAt (placed p l) (rowOf l) ≡ 0 → tableFrom p n (l ∷ ls) ≡ behind (foundText (rowOf l)) (tableFrom (placed p l) (n + 1) ls)
 unfolding tableFrom
 line-told p n l ls e = rw (eq-eqb (refusalAt (placed p l) (rowOf l)) 0 e)
 
-line-refused : (p : Place) (n : ℕ) (l : Line) (ls : List Line) → (refusalAt (placed p l) (rowOf l) ≡ 0 → ⊥) → tableFrom p n (l ∷ ls) ≡ refusedBy (refusalAt (placed p l) (rowOf l)) n
+pub line-refused : (p : Place) (n : ℕ) (l : Line) (ls : List Line) → (refusalAt (placed p l) (rowOf l) ≡ 0 → ⊥) → tableFrom p n (l ∷ ls) ≡ refusedBy (refusalAt (placed p l) (rowOf l)) n
 unfolding tableFrom
 line-refused p n l ls e = rw (ne-eqb (refusalAt (placed p l) (rowOf l)) 0 e)
 

@@ -7,38 +7,13 @@ use std::process::{Command, ExitCode, Stdio};
 
 use reference::parting::report;
 use reference::trial::chance::Chance;
+use reference::trial::drive::{count, end, sorts, Options};
 use reference::trial::pairs::{edges, long, made, Pair};
 
-#[derive(Default)]
-struct Wish {
-    seed: u64,
-    pairs: usize,
-    folder: String,
-    compare: Vec<String>,
-    spoil: usize,
-}
-
-fn read_wish(mut args: impl Iterator<Item = String>) -> Result<Wish, String> {
-    let mut w = Wish { seed: 1, pairs: 2000, ..Wish::default() };
-    let number = |word: &str| word.parse::<u64>().map_err(|_| format!("{word}: not a number"));
-    while let Some(name) = args.next() {
-        let value = args.next().ok_or(format!("{name}: nothing behind it"))?;
-        match name.as_str() {
-            "--seed" => w.seed = number(&value)?,
-            "--pairs" => w.pairs = number(&value)? as usize,
-            "--folder" => w.folder = value,
-            "--compare" => w.compare = value.split_whitespace().map(str::to_string).collect(),
-            "--spoil" => w.spoil = number(&value)? as usize,
-            _ => return Err(format!("{name}: not known")),
-        }
-    }
-    Ok(w)
-}
-
 /// What differs, in words.
-fn differs(w: &Wish, p: &Pair, spoiled: bool) -> Result<Option<&'static str>, String> {
-    let (program, words) = w.compare.split_first().ok_or("no program given")?;
-    let names = ["first", "second"].map(|name| Path::new(&w.folder).join(name));
+fn differs(command: &[String], folder: &Path, p: &Pair, spoiled: bool) -> Result<Option<&'static str>, String> {
+    let (program, words) = command.split_first().ok_or("no program given")?;
+    let names = ["first", "second"].map(|name| folder.join(name));
     for (name, text) in names.iter().zip([&p.first, &p.second]) {
         std::fs::write(name, text).map_err(|error| format!("{}: {error}", name.display()))?;
     }
@@ -62,41 +37,18 @@ fn sort(p: &Pair) -> String {
     words[..if words[0] == "REFUSED" { 3 } else { 1 }].join(" ")
 }
 
-fn compare(w: &Wish) -> Result<bool, String> {
-    std::fs::create_dir_all(&w.folder).map_err(|error| format!("{}: {error}", w.folder))?;
-    let mut c = Chance::new(w.seed);
+fn compare() -> Result<bool, String> {
+    let options = Options::read(&["seed", "pairs", "folder", "compare", "spoil"], std::env::args().skip(1))?;
+    let (folder, command, spoil) = (Path::new(options.text("folder")), options.words("compare"), options.number("spoil", 0)?);
+    std::fs::create_dir_all(folder).map_err(|error| format!("{}: {error}", folder.display()))?;
+    let mut c = Chance::new(options.number("seed", 1)?);
     let mut list = edges(&mut c);
     list.extend(long(&mut c));
-    list.extend(made(&mut c, w.pairs));
-    // A spoiled report is the last that is looked at.
-    if w.spoil > 0 {
-        list.truncate(w.spoil);
-    }
-    let mut sorts = std::collections::BTreeMap::<String, usize>::new();
-    let (mut compared, mut differ) = (0, 0);
-    for p in &list {
-        compared += 1;
-        *sorts.entry(sort(p)).or_default() += 1;
-        if let Some(what) = differs(w, p, compared == w.spoil)? {
-            differ += 1;
-            if differ <= 10 {
-                println!("{}: {what}", p.case);
-            }
-        }
-    }
-    let told: Vec<String> = sorts.iter().map(|(sort, n)| format!("{n} {sort}")).collect();
-    println!("{}", told.join(", "));
-    println!("{compared} compared, {differ} differ");
-    Ok(compared > 0 && differ == 0)
+    list.extend(made(&mut c, options.number("pairs", 2000)? as usize));
+    println!("{}", sorts(&list, sort));
+    count(list, spoil, |p, spoiled| Ok(differs(&command, folder, p, spoiled)?.map(|what| format!("{}: {what}", p.case))))
 }
 
 fn main() -> ExitCode {
-    match read_wish(std::env::args().skip(1)).and_then(|w| compare(&w)) {
-        Ok(true) => ExitCode::SUCCESS,
-        Ok(false) => ExitCode::from(1),
-        Err(error) => {
-            eprintln!("pairing: {error}");
-            ExitCode::from(2)
-        }
-    }
+    end("pairing", compare())
 }

@@ -1,10 +1,10 @@
-//! The reference as a program: `reference ask [BOOK]`, `reference strip`, `reference repair`, `reference compare FIRST SECOND`
-//! and `reference precession`, a line for each year from 1950 on: its day and the nine elements.
+//! The reference as a program: `reference ask [BOOK]`, `reference strip`, `reference repair`, `reference compare FIRST SECOND`,
+//! `reference table` and `reference precession`, a line for each year from 1950 on: its day and the nine elements.
 
 use std::io::{self, BufWriter, Read, Write};
 use std::process::ExitCode;
 
-use reference::{ask, book, calendar, fixed, hour, parting, repair, strip};
+use reference::{ask, book, calendar, fixed, hour, parting, repair, strip, table};
 
 fn standard_input() -> io::Result<Vec<u8>> {
     let mut input = Vec::new();
@@ -37,6 +37,11 @@ fn answer(words: &[String]) -> io::Result<bool> {
             }
         }
         ["compare", first, second] => out.write_all(&parting::report(&std::fs::read(first)?, &std::fs::read(second)?))?,
+        ["table"] => {
+            let (rows, refused) = table::table(&standard_input()?);
+            out.write_all(&rows)?;
+            io::stderr().write_all(&refused)?;
+        }
         _ => return Ok(false),
     }
     out.flush()?;
@@ -48,7 +53,7 @@ fn main() -> ExitCode {
     match answer(&words) {
         Ok(true) => ExitCode::SUCCESS,
         Ok(false) => {
-            eprintln!("reference ask [BOOK] | reference strip | reference repair | reference compare FIRST SECOND | reference precession");
+            eprintln!("reference ask [BOOK] | reference strip | reference repair | reference compare FIRST SECOND | reference table | reference precession");
             ExitCode::from(2)
         }
         Err(error) => {

@@ -62,3 +62,30 @@ pub fn talk(
         Said { output, ended }
     }))
 }
+
+/// Standard output and standard error of a program started with a word behind and an input.
+pub fn talk_both(command: &[String], word: Option<&str>, input: &[u8]) -> Result<(Vec<u8>, Vec<u8>), String> {
+    let (program, words) = command.split_first().ok_or("no program given")?;
+    let told = |error| format!("{program}: {error}");
+    let mut child = Command::new(program)
+        .args(words)
+        .args(word)
+        .stdin(Stdio::piped())
+        .stdout(Stdio::piped())
+        .stderr(Stdio::piped())
+        .spawn()
+        .map_err(told)?;
+    let (mut stdin, mut stderr) = (child.stdin.take().ok_or("no input")?, child.stderr.take().ok_or("no errors")?);
+    let input = input.to_vec();
+    let writer = std::thread::spawn(move || {
+        let _ = stdin.write_all(&input);
+    });
+    let reader = std::thread::spawn(move || {
+        let mut text = Vec::new();
+        let _ = stderr.read_to_end(&mut text);
+        text
+    });
+    let output = child.wait_with_output().map_err(told)?.stdout;
+    writer.join().map_err(|_| "the input was not written")?;
+    Ok((output, reader.join().map_err(|_| "the report was not read")?))
+}

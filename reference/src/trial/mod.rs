@@ -8,6 +8,7 @@ pub mod chance;
 pub mod damage;
 pub mod floats;
 pub mod lines;
+pub mod listings;
 pub mod moonward;
 pub mod times;
 pub mod trip;
@@ -29,6 +30,7 @@ pub mod sizes;
 pub mod spheres;
 pub mod states;
 pub mod strips;
+pub mod tables;
 pub mod unreadable;
 
 // Plan: how many of each, and with which books.
@@ -37,4 +39,5 @@ pub mod plan;
 // Report: programs started, answers compared and counted.
 pub mod child;
 pub mod compare;
+pub mod drive;
 pub mod report;
