@@ -48,7 +48,7 @@ pub fn state_from(v: &Numbers, moment: u64, centre: u64, i: usize) -> State
     }
 }
 
-// The first seven numbers are six coefficients and DUT.
+// The first seven numbers are six coefficients and DUT; J, A and K are zero.
 pub fn setting_of(v: &Numbers, rule: u64) -> Setting {
     Setting {
         earth: nth_float(v, 0),
@@ -58,6 +58,9 @@ pub fn setting_of(v: &Numbers, rule: u64) -> Setting {
         mars: nth_float(v, 4),
         jupiter: nth_float(v, 5),
         dut: narrowed(v[6]),
+        j: 0.0,
+        a: 0.0,
+        k: 0.0,
         rule,
     }
 }

@@ -1,5 +1,6 @@
--- Document 02, R-6: "About the Earth all bits stay as they were", and all refusals. Assumes nothing.
-use mathlib.Core.Bool.{Bool, true, false, not, _&&_}
+-- Document 02, R-7: with J and K zero all bits and refusals are what they were; and R-6: "About the Earth all bits stay as they were". Assumes
+-- nothing.
+use mathlib.Core.Bool.{Bool, true, false, not, _&&_, _||_}
 use mathlib.Core.List.{List, [], _∷_}
 use mathlib.Core.Path.{_≡_, refl, sym, ap, _∙_}
 use Prim.Native.Nat.{ℕ}
@@ -12,7 +13,7 @@ use Rattle.basis.specs.Choice.{if_then_else_, _=?_}
 use Rattle.basis.specs.Floats.{zero64}
 use Rattle.basis.specs.Limits.{isMoment, isDUT}
 use Rattle.hour.specs.Hour.{isRule}
-use Rattle.state.specs.State.{used, finiteVector, finiteState, coefficientAllowed, earthAllowed, settingAllowed, coefficientOf, centreAllowed}
+use Rattle.state.specs.State.{used, lookedUp, coefficientsAllowed, termsAllowed, finiteVector, finiteState, coefficientAllowed, earthAllowed, settingAllowed, coefficientOf, centreAllowed}
 use Rattle.state.specs.declared.Vector.{Vector}
 use Rattle.state.specs.declared.State.{State}
 use Rattle.state.specs.declared.Setting.{Setting}
@@ -26,14 +27,14 @@ use Rattle.series.specs.declared.Place.{Place}
 use Rattle.book.specs.declared.Motion.{Motion}
 use Rattle.book.specs.declared.PositionAnswer.{PositionAnswer}
 use Rattle.book.specs.declared.PositionAnswer.the-variants as position
-use Rattle.gravity.specs.Pull.{minus}
-use Rattle.gravity.specs.Acceleration.{Body, Sky, Bodies, Hidden, Listed, standing, nowhere, atRest, stands, seen, skyOf, sky, others, fromCentre, skyAbout, finished, accelerationAt, accelerationAnswer}
+use Rattle.gravity.specs.Pull.{minus, negated, g, sound}
+use Rattle.gravity.specs.Acceleration.{Body, Sky, Bodies, Hidden, Listed, standing, nowhere, atRest, stands, seen, skyOf, sky, others, fromCentre, skyAbout, placeOf, lastTerms, lastSound, finished, accelerationAt, accelerationAnswer}
 use Rattle.gravity.specs.declared.AccelerationAnswer.{AccelerationAnswer}
 use Rattle.gravity.specs.declared.AccelerationAnswer.the-variants.{Refused}
 use Rattle.start.specs.Start.{stepAllowed, withinSteps, startRefusal}
 use Rattle.motion.specs.Step.{Moved, stage1, step}
 use Rattle.book.proofs.Below.{left, right}
-use Rattle.before.specs.Acceleration.{bodiesBefore, accelerationBefore, answerBefore, startBefore}
+use Rattle.before.specs.Acceleration.{finishedBefore, withoutTerms, bodiesBefore, accelerationBefore, answerBefore, startBefore}
 use Rattle.before.proofs.LessZero.{less-zero}
 
 -- ---- what a book says of a position is a float of 64 bits, and less zero it is itself
@@ -73,32 +74,38 @@ answer-fits b number t = by (lookup b number t)
 
 -- ---- seen from the Earth every body stands where it stood
 
-one-more : (body : Listed) (p : PositionAnswer) (later : Sky) → (body .number =? 1) ≡ false → FitsAt p → fromCentre 1 nowhere later ≡ later
-    → fromCentre 1 nowhere (seen body p later) ≡ seen body p later
-one-more body (position.Refused k) later far f e = refl
-one-more body (position.At M) (Hidden k) far f e = refl
-one-more body (position.At M) (Bodies bs) far f e =
+one-more : (body : Listed) (p : PositionAnswer) (later : Sky) → (body .number =? 1) ≡ false → used (body .m) ≡ true → FitsAt p
+    → fromCentre 1 nowhere later ≡ later → fromCentre 1 nowhere (seen body p later) ≡ seen body p later
+one-more body (position.Refused k) later far u f e = refl
+one-more body (position.At M) (Hidden k) far u f e = refl
+one-more body (position.At M) (Bodies bs) far u f e =
     let rest : others 1 nowhere bs ≡ bs = cc in
-    rw far
+    rw (far, u)
     (λ i. Bodies (record { number = body .number; m = body .m; R = itself (M .place) f i } ∷ rest i))
 
-by-list : (b : List ℕ) (t : ℕ) (body : Listed) (rest : List Listed) → (body .number =? 1) ≡ false
+-- what is looked up and not lit pulls
+pulls : (u lit : Bool) → lit ≡ false → (u || lit) ≡ true → u ≡ true
+pulls true lit dark e = refl
+pulls false lit dark e = sym dark ∙ e
+
+by-list : (b : List ℕ) (t : ℕ) (body : Listed) (rest : List Listed) → (body .number =? 1) ≡ false → body .lit ≡ false
     → fromCentre 1 nowhere (skyOf b t rest) ≡ skyOf b t rest → fromCentre 1 nowhere (skyOf b t (body ∷ rest)) ≡ skyOf b t (body ∷ rest)
-by-list b t body rest far e = go (used (body .m))
+by-list b t body rest far dark e = go (lookedUp (body .m) (body .lit)) refl
   where
-    go : (u : Bool)
+    go : (u : Bool) → lookedUp (body .m) (body .lit) ≡ u
         → fromCentre 1 nowhere (if u then seen body (stands b (body .number) t) (skyOf b t rest) else skyOf b t rest)
         ≡ (if u then seen body (stands b (body .number) t) (skyOf b t rest) else skyOf b t rest)
-    go true = rw far (one-more body (bodyAt b (body .number) t) (skyOf b t rest) far (answer-fits b (body .number) t) e)
-    go false = e
+    go true u =
+        rw far (one-more body (bodyAt b (body .number) t) (skyOf b t rest) far (pulls (used (body .m)) (body .lit) dark u) (answer-fits b (body .number) t) e)
+    go false u = e
 
 abbrev AllFar : List Listed → Type 0
 AllFar [] = Unit {0}
-AllFar (body ∷ rest) = ((body .number =? 1) ≡ false) × AllFar rest
+AllFar (body ∷ rest) = ((body .number =? 1) ≡ false) × (body .lit ≡ false) × AllFar rest
 
 by-all : (b : List ℕ) (t : ℕ) (bodies : List Listed) → AllFar bodies → fromCentre 1 nowhere (skyOf b t bodies) ≡ skyOf b t bodies
 by-all b t [] far = refl
-by-all b t (body ∷ rest) far = by-list b t body rest (far .0) (by-all b t rest (far .1))
+by-all b t (body ∷ rest) far = by-list b t body rest (far .0) (far .1) (by-all b t rest (far .2))
 
 -- the Earth itself is left out
 left-out : (body : Listed) (M : Motion) (later : Sky) → (body .number =? 1) ≡ true → fromCentre 1 nowhere (seen body (position.At M) later) ≡ fromCentre 1 nowhere later
@@ -107,41 +114,55 @@ left-out body M (Hidden k) near = refl
 
 module _ (b : List ℕ) (s : Setting) (t : ℕ) where
   as-before : fromCentre 1 nowhere (skyOf b t (bodiesBefore s)) ≡ skyOf b t (bodiesBefore s)
-  as-before = by-all b t (bodiesBefore s) (refl, (refl, (refl, (refl, (refl, tt)))))
+  as-before = by-all b t (bodiesBefore s) (refl, refl, (refl, refl, (refl, refl, (refl, refl, (refl, refl, tt)))))
 
-  sky-before : skyAbout b s 1 t ≡ skyOf b t (bodiesBefore s)
+  sky-before : used (s .k) ≡ false → skyAbout b s 1 t ≡ skyOf b t (bodiesBefore s)
   unfolding sky
-  sky-before = go (used (s .earth))
+  sky-before dark = rw dark (go (used (s .earth)))
     where
       go : (u : Bool)
-          → fromCentre 1 nowhere (if u then seen (record { number = 1; m = s .earth }) (stands b 1 t) (skyOf b t (bodiesBefore s)) else skyOf b t (bodiesBefore s))
+          → fromCentre 1 nowhere
+          (if u || false then seen (record { number = 1; m = s .earth; lit = false }) (stands b 1 t) (skyOf b t (bodiesBefore s)) else skyOf b t (bodiesBefore s))
           ≡ skyOf b t (bodiesBefore s)
-      go true = left-out (record { number = 1; m = s .earth }) atRest (skyOf b t (bodiesBefore s)) refl ∙ as-before
+      go true = left-out (record { number = 1; m = s .earth; lit = false }) atRest (skyOf b t (bodiesBefore s)) refl ∙ as-before
       go false = as-before
 
-  -- the rule
-  pub about-the-earth : (P : Vector) → accelerationAt b s 1 t P ≡ accelerationBefore b s t P
-  unfolding accelerationAt accelerationBefore coefficientOf
-  about-the-earth P = ap (finished P _ _) sky-before
+-- ---- J and K zero: an old setting
+
+module _ (s : Setting) (flat : used (s .j) ≡ false) (dark : used (s .k) ≡ false) where
+  no-terms : (Q S P : Vector) (ok : Bool) (a : Vector) (bodies : Sky) → finished s Q S P ok a bodies ≡ finishedBefore P ok a bodies
+  no-terms Q S P ok a (Bodies bodies) = rw (flat, dark)
+  no-terms Q S P ok a (Hidden k) = refl
+
+  -- about any centre the rule is what it was before R-7
+  pub switched-off : (b : List ℕ) (c t : ℕ) (P : Vector) → accelerationAt b s c t P ≡ withoutTerms b s c t P
+  unfolding accelerationAt withoutTerms
+  switched-off b c t P = no-terms _ _ P (sound P) (negated (g P (coefficientOf s c))) (skyAbout b s c t)
+
+  -- and about the Earth what it was before R-6
+  pub about-the-earth : (b : List ℕ) (t : ℕ) (P : Vector) → accelerationAt b s 1 t P ≡ accelerationBefore b s t P
+  unfolding withoutTerms accelerationBefore coefficientOf
+  about-the-earth b t P = switched-off b 1 t P ∙ ap (finishedBefore P _ _) (sky-before b s t dark)
 
 -- ---- the calls
 
 -- a setting that is allowed has the Earth as a centre
 earth-used : (s : Setting) → settingAllowed s ≡ true → centreAllowed s 1 ≡ true
-unfolding settingAllowed centreAllowed coefficientOf
+unfolding settingAllowed coefficientsAllowed centreAllowed coefficientOf
 earth-used s e =
     let A = earthAllowed (s .earth) in
     let B = A && coefficientAllowed (s .moon) in
     let C = B && coefficientAllowed (s .sun) in
     let D = C && coefficientAllowed (s .venus) in
     let E = D && coefficientAllowed (s .mars) in
-    let F = E && coefficientAllowed (s .jupiter) in
-    let G = F && isDUT (s .dut) in
+    let F = coefficientsAllowed s in
+    let G = F && termsAllowed s in
     right (finite (s .earth)) (used (s .earth))
     (left A (coefficientAllowed (s .moon))
     (left B (coefficientAllowed (s .sun))
     (left C (coefficientAllowed (s .venus))
-    (left D (coefficientAllowed (s .mars)) (left E (coefficientAllowed (s .jupiter)) (left F (isDUT (s .dut)) (left G (isRule (s .rule)) e)))))))
+    (left D (coefficientAllowed (s .mars))
+    (left E (coefficientAllowed (s .jupiter)) (left F (termsAllowed s) (left G (isDUT (s .dut)) (left (G && isDUT (s .dut)) (isRule (s .rule)) e))))))))
 
 -- so 14 never comes about the Earth
 module _ {A : Type 0} (s : Setting) (four fourteen rest : A) where
@@ -153,13 +174,14 @@ module _ {A : Type 0} (s : Setting) (four fourteen rest : A) where
       go true e = rw (earth-used s e)
       go false e = refl
 
-pub answer-as-before : (b : List ℕ) (s : Setting) (t : ℕ) (P : Vector) → accelerationAnswer b s 1 t P ≡ answerBefore b s t P
+pub answer-as-before : (b : List ℕ) (s : Setting) (t : ℕ) (P : Vector) → used (s .j) ≡ false → used (s .k) ≡ false
+    → accelerationAnswer b s 1 t P ≡ answerBefore b s t P
 unfolding accelerationAnswer answerBefore
-answer-as-before b s t P =
+answer-as-before b s t P flat dark =
     ap (λ (x : AccelerationAnswer). if not (passes b) then Refused 1 else x)
     (no-fourteen s (Refused 4) (Refused 14) _
     ∙ ap (λ (x : AccelerationAnswer). if not (settingAllowed s) then Refused 4 else if not (isMoment t) then Refused 3 else if not (finiteVector P) then Refused 7 else x)
-    (about-the-earth b s t P))
+    (about-the-earth s flat dark b t P))
 
 module _ (b : List ℕ) (setting : Setting) (s : State) (h : ℕ) (earth : s .centre ≡ 1) where
   pub start-as-before : (target : ℕ) → startRefusal b setting s h target ≡ startBefore b setting s h target
@@ -167,8 +189,8 @@ module _ (b : List ℕ) (setting : Setting) (s : State) (h : ℕ) (earth : s .ce
   start-as-before target = rw earth (ap (λ (k : ℕ). if not (passes b) then 1 else k) (no-fourteen setting 4 14 _))
 
   -- and so every step
-  pub step-as-before : step b setting h s ≡ stage1 (accelerationBefore b setting) h s
+  pub step-as-before : used (setting .j) ≡ false → used (setting .k) ≡ false → step b setting h s ≡ stage1 (accelerationBefore b setting) h s
   unfolding step
-  step-as-before =
+  step-as-before flat dark =
       ap (λ (c : ℕ). stage1 (accelerationAt b setting c) h s) earth
-      ∙ ap (λ (acc : ℕ → Vector → AccelerationAnswer). stage1 acc h s) (λ i t P. about-the-earth b setting t P i)
+      ∙ ap (λ (acc : ℕ → Vector → AccelerationAnswer). stage1 acc h s) (λ i t P. about-the-earth setting flat dark b t P i)

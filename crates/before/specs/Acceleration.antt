@@ -1,33 +1,43 @@
--- Document 01's acceleration and start checks as they stood before document 02's R-6: about the Earth, over the bodies from 2 on.
-use mathlib.Core.Bool.{not}
+-- The acceleration as it stood before document 02's R-7, about any centre and without the last terms; and document 01's acceleration and
+-- start checks as they stood before R-6: about the Earth, over the bodies from 2 on.
+use mathlib.Core.Bool.{Bool, false, not, _&&_}
 use mathlib.Core.List.{List, [], _∷_}
 use Prim.Native.Nat.{ℕ}
 use Rattle.basis.specs.Choice.{if_then_else_}
 use Rattle.basis.specs.Limits.{isMoment}
-use Rattle.state.specs.State.{finiteVector, finiteState, settingAllowed}
+use Rattle.state.specs.State.{finiteVector, finiteState, settingAllowed, coefficientOf}
 use Rattle.state.specs.declared.Vector.{Vector}
 use Rattle.state.specs.declared.State.{State}
 use Rattle.state.specs.declared.Setting.{Setting}
 use Rattle.book.specs.Passes.{passes}
 use Rattle.gravity.specs.Pull.{negated, g, sound}
-use Rattle.gravity.specs.Acceleration.{Listed, skyOf, finished}
+use Rattle.gravity.specs.Acceleration.{Sky, Bodies, Hidden, Listed, skyOf, skyAbout, less, allSound, settled}
 use Rattle.gravity.specs.declared.AccelerationAnswer.{AccelerationAnswer}
 use Rattle.gravity.specs.declared.AccelerationAnswer.the-variants.{Refused}
 use Rattle.start.specs.Start.{stepAllowed, withinSteps}
 
+-- the sum a, found sound so far, with these bodies still to come, and nothing after them
+abbrev pub finishedBefore : Vector → Bool → Vector → Sky → AccelerationAnswer
+finishedBefore P ok a (Bodies bodies) = settled (ok && allSound P bodies) (less P a bodies)
+finishedBefore P ok a (Hidden k) = Refused k
+
+-- R-6: "the centre's own pull, then every other used body .. at its position less the centre's"
+unfoldable pub withoutTerms : List ℕ → Setting → ℕ → ℕ → Vector → AccelerationAnswer
+withoutTerms b s centre t P = finishedBefore P (sound P) (negated (g P (coefficientOf s centre))) (skyAbout b s centre t)
+
 -- "2 Moon, 3 Sun, 4 Venus, 5 Mars, 6 Jupiter"
 abbrev pub bodiesBefore : Setting → List Listed
 bodiesBefore s =
-    record { number = 2; m = s .moon }
-    ∷ record { number = 3; m = s .sun }
-    ∷ record { number = 4; m = s .venus }
-    ∷ record { number = 5; m = s .mars }
-    ∷ record { number = 6; m = s .jupiter }
+    record { number = 2; m = s .moon; lit = false }
+    ∷ record { number = 3; m = s .sun; lit = false }
+    ∷ record { number = 4; m = s .venus; lit = false }
+    ∷ record { number = 5; m = s .mars; lit = false }
+    ∷ record { number = 6; m = s .jupiter; lit = false }
     ∷ []
 
 -- "Acceleration at position P: start with -g(P, Earth)"; "For each used body from 2 on in rising number, at R: subtract .."
 unfoldable pub accelerationBefore : List ℕ → Setting → ℕ → Vector → AccelerationAnswer
-accelerationBefore b s t P = finished P (sound P) (negated (g P (s .earth))) (skyOf b t (bodiesBefore s))
+accelerationBefore b s t P = finishedBefore P (sound P) (negated (g P (s .earth))) (skyOf b t (bodiesBefore s))
 
 -- "Acceleration: 1, 4, 3, 7 (position), then its own rule"
 unfoldable pub answerBefore : List ℕ → Setting → ℕ → Vector → AccelerationAnswer

@@ -11,6 +11,7 @@ use Rattle.calendar.specs.declared.DateAnswer.the-variants as dated
 use Rattle.hour.specs.Hour.{hourAngle}
 use Rattle.root.specs.Root.{rootOf}
 use Rattle.state.specs.declared.Vector.{Vector}
+use Rattle.state.specs.declared.Setting.{Setting}
 use Rattle.state.specs.declared.State.{State}
 use Rattle.book.specs.Series.{argument, series}
 use Rattle.gravity.specs.Pull.{g, sound, negated}
@@ -38,6 +39,23 @@ pub data Case : Type 0 where
 abbrev pub at200 : Vector
 at200 = record { x = whole 2; y = whole 0; z = whole 0 }
 
+-- the Earth's coefficient 8, and all else 0
+abbrev pub earth8 : Setting
+earth8 =
+    record {
+      earth = whole 8;
+      moon = whole 0;
+      sun = whole 0;
+      venus = whole 0;
+      mars = whole 0;
+      jupiter = whole 0;
+      dut = 0;
+      j = whole 0;
+      a = whole 0;
+      k = whole 0;
+      rule = 0;
+    }
+
 abbrev pub firstOf : AccelerationAnswer → Float
 firstOf (acceleration.Is a) = a .x
 firstOf (acceleration.Refused k) = nan
@@ -49,7 +67,7 @@ abbrev pub Right : Case → Type 0
 Right (day d answer) = dateAnswer d ≡ answer
 Right (angle d t parts) = hourAngle d t ≡ parts
 Right (value t x) = series (argument 5000 1000 t) (whole 1 ∷ whole 2 ∷ whole 3 ∷ []) ≡ x
-Right (first bodies x) = firstOf (finished at200 (sound at200) (negated (g at200 (whole 8))) (Bodies bodies)) ≡ x
+Right (first bodies x) = firstOf (finished earth8 at200 at200 at200 (sound at200) (negated (g at200 (whole 8))) (Bodies bodies)) ≡ x
 Right (orbit vx vy answer) = conicAnswer (whole 8) (moving vx vy) ≡ answer
 
 abbrev pub about1 : Conic → ConicAnswer

@@ -6,7 +6,7 @@ use Prim.Native.Nat.{ℕ}
 use Rattle.basis.specs.Choice.{if_then_else_, _=?_}
 use Rattle.basis.specs.Limits.{isMoment}
 use Rattle.basis.proofs.Cases.{by-if}
-use Rattle.state.specs.State.{finiteVector, used, settingAllowed, coefficientOf, centreAllowed}
+use Rattle.state.specs.State.{finiteVector, used, settingAllowed, coefficientOf, centreAllowed, lookedUp}
 use Rattle.state.specs.declared.Vector.{Vector}
 use Rattle.state.specs.declared.Setting.{Setting}
 use Rattle.book.specs.Passes.{passes}
@@ -15,7 +15,7 @@ use Rattle.book.specs.declared.PositionAnswer.{PositionAnswer}
 use Rattle.book.specs.declared.PositionAnswer.the-variants as position
 use Rattle.book.proofs.Refused as book
 use Rattle.gravity.specs.Pull.{negated, g, sound}
-use Rattle.gravity.specs.Acceleration.{Sky, Bodies, Hidden, Listed, bodiesOf, atRest, stands, placeOf, seen, skyOf, sky, fromCentre, less, allSound, finished, accelerationAt, accelerationAnswer}
+use Rattle.gravity.specs.Acceleration.{Sky, Bodies, Hidden, Listed, bodiesOf, atRest, stands, placeOf, seen, skyOf, sky, fromCentre, less, allSound, lastTerms, lastSound, finished, accelerationAt, accelerationAnswer}
 use Rattle.gravity.specs.declared.AccelerationAnswer.{AccelerationAnswer}
 use Rattle.gravity.specs.declared.AccelerationAnswer.the-variants.{Is, Refused}
 
@@ -40,7 +40,7 @@ module _ (ok : ℕ → Bool) (six : ok 6 ≡ true) (seven : ok 7 ≡ true) where
   sky-hidden : (b : List ℕ) (t : ℕ) (bodies : List Listed) → hiddenBy ok (skyOf b t bodies) ≡ true
   sky-hidden b t [] = refl
   sky-hidden b t (body ∷ rest) =
-      by-if (hiddenBy ok) (used (body .m))
+      by-if (hiddenBy ok) (lookedUp (body .m) (body .lit))
       (seen-hidden body (stands b (body .number) t) (skyOf b t rest) (stands-refused b (body .number) t) (sky-hidden b t rest))
       (sky-hidden b t rest)
 
@@ -48,16 +48,17 @@ module _ (ok : ℕ → Bool) (six : ok 6 ≡ true) (seven : ok 7 ≡ true) where
   about-hidden centre C (Bodies bodies) hidden = refl
   about-hidden centre C (Hidden k) hidden = hidden
 
-  finished-refused : (P : Vector) (sofar : Bool) (a : Vector) (bodies : Sky) → hiddenBy ok bodies ≡ true → refusedBy ok (finished P sofar a bodies) ≡ true
-  finished-refused P sofar a (Bodies bodies) hidden =
-      by-if (refusedBy ok) ((sofar && allSound P bodies) && finiteVector (less P a bodies)) refl seven
-  finished-refused P sofar a (Hidden k) hidden = hidden
+  finished-refused : (s : Setting) (Q S P : Vector) (sofar : Bool) (a : Vector) (bodies : Sky) → hiddenBy ok bodies ≡ true
+      → refusedBy ok (finished s Q S P sofar a bodies) ≡ true
+  finished-refused s Q S P sofar a (Bodies bodies) hidden =
+      by-if (refusedBy ok) (lastSound s Q S (sofar && allSound P bodies) && finiteVector (lastTerms s Q S (less P a bodies))) refl seven
+  finished-refused s Q S P sofar a (Hidden k) hidden = hidden
 
   -- the rule refuses by 6 or 7 alone
   pub rule-refused : (b : List ℕ) (s : Setting) (c t : ℕ) (P : Vector) → refusedBy ok (accelerationAt b s c t P) ≡ true
   unfolding accelerationAt sky
   rule-refused b s c t P =
-      finished-refused P (sound P) (negated (g P (coefficientOf s c))) (fromCentre c (placeOf (stands b c t)) (sky b s t)) (about-hidden c (placeOf (stands b c t)) (sky b s t) (sky-hidden b t (bodiesOf s)))
+      finished-refused s _ _ P (sound P) (negated (g P (coefficientOf s c))) (fromCentre c (placeOf (stands b c t)) (sky b s t)) (about-hidden c (placeOf (stands b c t)) (sky b s t) (sky-hidden b t (bodiesOf s)))
 
   -- the call by 1, 4, 14, 3, 6 or 7 alone
   pub acceleration-refused : ok 1 ≡ true → ok 4 ≡ true → ok 14 ≡ true → ok 3 ≡ true → (b : List ℕ) (s : Setting) (c t : ℕ) (P : Vector)

@@ -1,12 +1,12 @@
--- Document 01, "Setting, state, acceleration", and document 02, R-6: the bodies looked up, and the acceleration that they give about a centre.
-use mathlib.Core.Bool.{Bool, true, not, _&&_}
+-- Document 01, "Setting, state, acceleration", and document 02, R-6 and R-7: the bodies looked up, and the acceleration that they give about a centre, with an oblate Earth and sunlight.
+use mathlib.Core.Bool.{Bool, true, false, not, _&&_}
 use mathlib.Core.List.{List, [], _∷_}
 use Prim.Native.Nat.{ℕ}
 use lib.Ieee.{Float}
 use Rattle.basis.specs.Choice.{if_then_else_, _=?_}
-use Rattle.basis.specs.Floats.{zero64}
+use Rattle.basis.specs.Floats.{_⊖_, _⊗_, _⊘_, zero64, whole}
 use Rattle.basis.specs.Limits.{isMoment}
-use Rattle.state.specs.State.{finiteVector, used, settingAllowed, coefficientOf, centreAllowed}
+use Rattle.state.specs.State.{finiteVector, n, used, settingAllowed, coefficientOf, centreAllowed, lookedUp}
 use Rattle.state.specs.declared.Vector.{Vector}
 use Rattle.state.specs.declared.Setting.{Setting}
 use Rattle.book.specs.Passes.{passes}
@@ -26,7 +26,7 @@ pub record Body : Type 0 where
   pub m : Float
   pub R : Vector
 
--- the used bodies, or the number with which one of them is refused
+-- the bodies looked up, or the number with which one of them is refused
 pub data Sky : Type 0 where
   Bodies : List Body → Sky
   Hidden : ℕ → Sky
@@ -44,10 +44,11 @@ atRest = record { place = record { x = zero64; y = zero64; z = zero64 }; velocit
 abbrev pub stands : List ℕ → ℕ → ℕ → PositionAnswer
 stands b number t = if number =? 1 then At atRest else bodyAt b number t
 
--- a body of the setting: its number and its coefficient
+-- a body of the setting: its number, its coefficient, and (R-7) whether it is looked up even where it does not pull
 pub record Listed : Type 0 where
   pub number : ℕ
   pub m : Float
+  pub lit : Bool
 
 -- one body's answer before the bodies after it: the first refusal counts
 abbrev pub seen : Listed → PositionAnswer → Sky → Sky
@@ -58,17 +59,17 @@ seen body (Refused k) later = Hidden k
 -- "looked up in rising number first, each for cover (6), then for a finite position (7)"; and, document 02, R-5, for a finite velocity (7)
 abbrev pub skyOf : List ℕ → ℕ → List Listed → Sky
 skyOf b t [] = Bodies []
-skyOf b t (body ∷ rest) = if used (body .m) then seen body (stands b (body .number) t) (skyOf b t rest) else skyOf b t rest
+skyOf b t (body ∷ rest) = if lookedUp (body .m) (body .lit) then seen body (stands b (body .number) t) (skyOf b t rest) else skyOf b t rest
 
 -- "1 Earth, 2 Moon, 3 Sun, 4 Venus, 5 Mars, 6 Jupiter"
 abbrev pub bodiesOf : Setting → List Listed
 bodiesOf s =
-    record { number = 1; m = s .earth }
-    ∷ record { number = 2; m = s .moon }
-    ∷ record { number = 3; m = s .sun }
-    ∷ record { number = 4; m = s .venus }
-    ∷ record { number = 5; m = s .mars }
-    ∷ record { number = 6; m = s .jupiter }
+    record { number = 1; m = s .earth; lit = false }
+    ∷ record { number = 2; m = s .moon; lit = false }
+    ∷ record { number = 3; m = s .sun; lit = used (s .k) }
+    ∷ record { number = 4; m = s .venus; lit = false }
+    ∷ record { number = 5; m = s .mars; lit = false }
+    ∷ record { number = 6; m = s .jupiter; lit = false }
     ∷ []
 
 unfoldable pub sky : List ℕ → Setting → ℕ → Sky
@@ -79,6 +80,7 @@ abbrev pub others : ℕ → Vector → List Body → List Body
 others centre C [] = []
 others centre C (body ∷ rest) =
     if body .number =? centre then others centre C rest else
+    if not (used (body .m)) then others centre C rest else
     record { number = body .number; m = body .m; R = minus (body .R) C } ∷ others centre C rest
 
 abbrev pub fromCentre : ℕ → Vector → Sky → Sky
@@ -108,14 +110,50 @@ allSound P (body ∷ rest) = sound (minus P (body .R)) && sound (body .R) && all
 abbrev pub settled : Bool → Vector → AccelerationAnswer
 settled ok a = if ok && finiteVector a then answer.Is a else answer.Refused 7
 
--- the sum a, found sound so far, with these bodies still to come
-abbrev pub finished : Vector → Bool → Vector → Sky → AccelerationAnswer
-finished P ok a (Bodies bodies) = settled (ok && allSound P bodies) (less P a bodies)
-finished P ok a (Hidden k) = answer.Refused k
+-- R-7: "Earth oblateness, with setting J and radius A .., on the position from the Earth", Q: "with u = (z·z)/n, x and y lose ((J·g
+-- component)·((A·A)/n))·(1 - 5·u), z the same with (3 - 5·u), g being the Earth's pull"
+abbrev pub flattened : Setting → Vector → Vector → Vector
+flattened s Q acc =
+    let pull = g Q (s .earth) in
+    let u = (Q .z ⊗ Q .z) ⊘ n Q in
+    let part = (s .a ⊗ s .a) ⊘ n Q in
+    let side = whole 1 ⊖ whole 5 ⊗ u in
+    record {
+      x = acc .x ⊖ ((s .j ⊗ pull .x) ⊗ part) ⊗ side;
+      y = acc .y ⊖ ((s .j ⊗ pull .y) ⊗ part) ⊗ side;
+      z = acc .z ⊖ ((s .j ⊗ pull .z) ⊗ part) ⊗ (whole 3 ⊖ whole 5 ⊗ u);
+    }
 
--- "Acceleration at position P: start with -g(P, Earth)", and document 02, R-6: "the centre's own pull", then every other used body
+-- "A term whose J or K is zero is left out"
+abbrev pub oblate : Setting → Vector → Vector → Vector
+oblate s Q acc = if used (s .j) then flattened s Q acc else acc
+
+-- "Sunlight, with setting K ..: plus g of the position from the Sun with K"; S is that position
+abbrev pub sunlit : Setting → Vector → Vector → Vector
+sunlit s S acc = if used (s .k) then plus acc (g S (s .k)) else acc
+
+-- "two accelerations, after all others and in this order"; their n and r3 are as every pull's must be
+abbrev pub lastTerms : Setting → Vector → Vector → Vector → Vector
+lastTerms s Q S acc = sunlit s S (oblate s Q acc)
+
+abbrev pub soundIf : Bool → Vector → Bool → Bool
+soundIf on v ok = if on then ok && sound v else ok
+
+abbrev pub lastSound : Setting → Vector → Vector → Bool → Bool
+lastSound s Q S ok = soundIf (used (s .k)) S (soundIf (used (s .j)) Q ok)
+
+-- the sum a, found sound so far, with these bodies still to come, and then the last terms at Q from the Earth and S from the Sun
+abbrev pub finished : Setting → Vector → Vector → Vector → Bool → Vector → Sky → AccelerationAnswer
+finished s Q S P ok a (Bodies bodies) = settled (lastSound s Q S (ok && allSound P bodies)) (lastTerms s Q S (less P a bodies))
+finished s Q S P ok a (Hidden k) = answer.Refused k
+
+-- "Acceleration at position P: start with -g(P, Earth)", and document 02, R-6: "the centre's own pull", then every other used body; R-7: the
+-- Earth stands at 0 - C from the centre, and the Sun at its position less C
 unfoldable pub accelerationAt : List ℕ → Setting → ℕ → ℕ → Vector → AccelerationAnswer
-accelerationAt b s centre t P = finished P (sound P) (negated (g P (coefficientOf s centre))) (skyAbout b s centre t)
+accelerationAt b s centre t P =
+    let C = placeOf (stands b centre t) in
+    finished s (minus P (minus nowhere C)) (minus P (minus (placeOf (stands b 3 t)) C)) P (sound P) (negated (g P (coefficientOf s centre)))
+    (skyAbout b s centre t)
 
 -- "Acceleration: 1, 4, 3, 7 (position), then its own rule"; R-6: 14 "directly after 4"
 unfoldable pub accelerationAnswer : List ℕ → Setting → ℕ → ℕ → Vector → AccelerationAnswer

@@ -1,11 +1,11 @@
 -- What the code keeps of a moment about a centre: the bodies as they were looked up, and those beside the centre, each with its pull on the centre worked out once.
-use mathlib.Core.Bool.{Bool, true, _&&_}
+use mathlib.Core.Bool.{Bool, true, false, _&&_}
 use mathlib.Core.List.{List, [], _∷_}
 use Prim.Native.Nat.{ℕ}
 use lib.Ieee.{Float, neg}
 use Rattle.basis.specs.Choice.{if_then_else_, _=?_, _≤?_}
-use Rattle.basis.specs.Floats.{_⊕_, _⊖_, _⊗_, _⊘_, zero64}
-use Rattle.state.specs.State.{finiteVector, used, coefficientOf}
+use Rattle.basis.specs.Floats.{_⊕_, _⊖_, _⊗_, _⊘_, zero64, whole}
+use Rattle.state.specs.State.{finiteVector, n, used, coefficientOf, lookedUp}
 use Rattle.state.specs.declared.Vector.{Vector}
 use Rattle.state.specs.declared.Setting.{Setting}
 use Rattle.book.specs.Lookup.{lookup}
@@ -15,7 +15,7 @@ use Rattle.series.specs.declared.Place.{Place}
 use Rattle.book.specs.declared.Lookup.{Lookup}
 use Rattle.book.specs.declared.Lookup.the-variants.{Entry, Nothing}
 use Rattle.gravity.specs.Pull.{g, sound, divisible, minus}
-use Rattle.gravity.specs.Acceleration.{standing, nowhere, settled}
+use Rattle.gravity.specs.Acceleration.{standing, nowhere, settled, oblate, sunlit, soundIf}
 use Rattle.gravity.specs.declared.AccelerationAnswer.{AccelerationAnswer}
 use Rattle.gravity.specs.declared.AccelerationAnswer.the-variants.{Refused}
 use Rattle.gravity.specs.declared.Pull.{Pull}
@@ -56,17 +56,17 @@ abbrev pub foundBy : List ℕ → Float → ℕ → Lookup → Sight
 foundBy b m t Nothing = blank m 6
 foundBy b m t (Entry i) = foundAt (place b i t) (finiteVelocity (velocity b i t)) i m
 
-unfoldable pub foundOf : List ℕ → ℕ → Float → ℕ → Sight
-foundOf b number m t = if used m then foundBy b m t (lookup b number t) else blank m 0
+unfoldable pub foundOf : List ℕ → ℕ → Float → Bool → ℕ → Sight
+foundOf b number m lit t = if lookedUp m lit then foundBy b m t (lookup b number t) else blank m 0
 
 unfoldable pub foundIn : List ℕ → Setting → ℕ → Found
 foundIn b s t =
     record {
-      moon = foundOf b 2 (s .moon) t;
-      sun = foundOf b 3 (s .sun) t;
-      venus = foundOf b 4 (s .venus) t;
-      mars = foundOf b 5 (s .mars) t;
-      jupiter = foundOf b 6 (s .jupiter) t;
+      moon = foundOf b 2 (s .moon) false t;
+      sun = foundOf b 3 (s .sun) (used (s .k)) t;
+      venus = foundOf b 4 (s .venus) false t;
+      mars = foundOf b 5 (s .mars) false t;
+      jupiter = foundOf b 6 (s .jupiter) false t;
     }
 
 -- where the centre stands, seen from the Earth
@@ -127,6 +127,8 @@ sights b s centre t =
       refusal = refusalIn f;
       entries = entriesOf f;
       own = coefficientOf s centre;
+      home = minus nowhere (placeIn f centre);
+      sun = minus (f .sun .place) (placeIn f centre);
       others = othersOf (placeIn f centre) (besides centre (blank (s .earth) 0) f);
     }
 
@@ -173,11 +175,37 @@ listed o = o .first ∷ o .second ∷ o .third ∷ o .fourth ∷ o .fifth ∷ []
 abbrev pub settledBy : Pull → AccelerationAnswer
 settledBy p = settled (p .sound) (vectorOf p)
 
-abbrev pub finishedBy : Vector → Pull → ℕ → List Other → AccelerationAnswer
-finishedBy P sum k os = if k =? 0 then settledBy (lessAll P sum os) else Refused k
+-- a sum with the oblate Earth, whose pull is known
+abbrev pub flattenedBy : Setting → Vector → Pull → Pull → Pull
+flattenedBy s Q by sum =
+    let u = (Q .z ⊗ Q .z) ⊘ n Q in
+    let part = (s .a ⊗ s .a) ⊘ n Q in
+    let side = whole 1 ⊖ whole 5 ⊗ u in
+    record {
+      x = sum .x ⊖ ((s .j ⊗ by .x) ⊗ part) ⊗ side;
+      y = sum .y ⊖ ((s .j ⊗ by .y) ⊗ part) ⊗ side;
+      z = sum .z ⊖ ((s .j ⊗ by .z) ⊗ part) ⊗ (whole 3 ⊖ whole 5 ⊗ u);
+      sound = sum .sound && by .sound;
+    }
 
-unfoldable pub accelerationBy : Sights → Vector → AccelerationAnswer
-accelerationBy s P = finishedBy P (startBy P (s .own)) (s .refusal) (listed (s .others))
+-- the last terms, with the Earth and the Sun where they stand from the centre
+unfoldable pub oblateBy : Setting → Vector → Vector → Pull → Pull
+oblateBy s home P sum =
+    let Q = minus P home in
+    let a = oblate s Q (vectorOf sum) in
+    record { x = a .x; y = a .y; z = a .z; sound = soundIf (used (s .j)) Q (sum .sound) }
+
+unfoldable pub sunlitBy : Setting → Vector → Vector → Pull → Pull
+sunlitBy s sun P sum =
+    let S = minus P sun in
+    let a = sunlit s S (vectorOf sum) in
+    record { x = a .x; y = a .y; z = a .z; sound = soundIf (used (s .k)) S (sum .sound) }
+
+abbrev pub finishedBy : Setting → Vector → Vector → Vector → Pull → ℕ → List Other → AccelerationAnswer
+finishedBy s home sun P sum k os = if k =? 0 then settledBy (sunlitBy s sun P (oblateBy s home P (lessAll P sum os))) else Refused k
+
+unfoldable pub accelerationBy : Sights → Setting → Vector → AccelerationAnswer
+accelerationBy s setting P = finishedBy setting (s .home) (s .sun) P (startBy P (s .own)) (s .refusal) (listed (s .others))
 
 -- the entry found, or what was given
 abbrev pub entryOr : ℕ → Lookup → ℕ

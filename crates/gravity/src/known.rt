@@ -18,6 +18,8 @@ use crate::pulls::less;
 use crate::pulls::near_sum;
 use crate::pulls::pull;
 use crate::pulls::two_pulls;
+use crate::terms::oblate_sum;
+use crate::terms::sunlit_sum;
 use state::Setting;
 use state::Vector;
 ghost use mathlib.Core.Path.{_≡_};
@@ -167,10 +169,13 @@ pub fn sights_at(
     let earth = blank_sight(setting.earth, 0);
     let c = centre_place(centre, bodies);
     let others = seen_from(c, beside(centre, earth, bodies));
+    let sun = bodies.sun;
     Sights {
         refusal: refusal_of(bodies),
         entries: entries_of(bodies),
         own: state::coefficient_of(setting, centre),
+        home: difference(earth.place, c),
+        sun: difference(sun.place, c),
         others,
     }
 }
@@ -191,8 +196,8 @@ fn settle(sum: Pull) -> AccelerationAnswer
     AccelerationAnswer::Refused(7)
 }
 
-pub fn acceleration_under(bodies: Sights, p: Vector) -> AccelerationAnswer
-    ensures { λ r. ⌜ r ≡ accelerationBy bodies p ⌝ }
+pub fn acceleration_under(bodies: Sights, setting: Setting, p: Vector) -> AccelerationAnswer
+    ensures { λ r. ⌜ r ≡ accelerationBy bodies setting p ⌝ }
 {
     if bodies.refusal == 0 {
         let others = bodies.others;
@@ -202,7 +207,9 @@ pub fn acceleration_under(bodies: Sights, p: Vector) -> AccelerationAnswer
         let fourth = others.fourth;
         let fifth = others.fifth;
         let sum = near_sum(p, bodies.own, first, second);
-        return settle(less(p, less(p, less(p, sum, third), fourth), fifth));
+        let all = less(p, less(p, less(p, sum, third), fourth), fifth);
+        let with_earth = oblate_sum(setting, bodies.home, p, all);
+        return settle(sunlit_sum(setting, bodies.sun, p, with_earth));
     }
     AccelerationAnswer::Refused(bodies.refusal)
 }

@@ -3,6 +3,7 @@
 pub mod known;
 mod looked;
 mod pulls;
+mod terms;
 
 use basis::END_OF_TIME;
 use basis::unless;
@@ -88,11 +89,13 @@ pub struct Guesses {
 }
 
 // What is kept of a moment about a centre: the number of the first body refused, 0 where there is none, the entries found, the
-// centre's own coefficient, and the other bodies.
+// centre's own coefficient, where the Earth and the Sun stand, seen from the centre (02, R-7), and the other bodies.
 pub struct Sights {
     pub refusal: u64,
     pub entries: Guesses,
     pub own: f64,
+    pub home: Vector,
+    pub sun: Vector,
     pub others: Others,
 }
 
@@ -140,5 +143,5 @@ fn rule(
         jupiter: 0,
     };
     let bodies = known::sights_at(book, setting, centre, moment, g, false);
-    known::acceleration_under(bodies, position)
+    known::acceleration_under(bodies, setting, position)
 }

@@ -52,11 +52,11 @@ fn found_at(p: Place, slow: bool, entry: usize, m: f64) -> Sight
 }
 
 // A body as it is looked up. `calm` is told only of a book in which no velocity can overflow.
-fn found(book: &[u8], number: u64, m: f64, moment: u64, guess: u64, calm: bool) -> Sight
+fn found(book: &[u8], number: u64, m: f64, lit: bool, moment: u64, guess: u64, calm: bool) -> Sight
     requires { ⌜ Ready (now book) calm ⌝ }
-    ensures { λ r. ⌜ r ≡ foundOf (now (book .entry)) number m moment ⌝ }
+    ensures { λ r. ⌜ r ≡ foundOf (now (book .entry)) number m lit moment ⌝ }
 {
-    if 0.0 < m {
+    if state::is_looked_up(m, lit) {
         let Lookup::Entry(entry) = book::known::lookup_guessed(book, number, moment, guess as usize)
         else {
             return blank_sight(m, 6);
@@ -72,11 +72,20 @@ pub fn found_in(book: &[u8], setting: Setting, moment: u64, guesses: Guesses, ca
     requires { ⌜ Ready (now book) calm ⌝ }
     ensures { λ r. ⌜ r ≡ foundIn (now (book .entry)) setting moment ⌝ }
 {
-    let moon = found(book, 2, setting.moon, moment, guesses.moon, calm);
-    let sun = found(book, 3, setting.sun, moment, guesses.sun, calm);
-    let venus = found(book, 4, setting.venus, moment, guesses.venus, calm);
-    let mars = found(book, 5, setting.mars, moment, guesses.mars, calm);
-    let jupiter = found(book, 6, setting.jupiter, moment, guesses.jupiter, calm);
+    let moon = found(book, 2, setting.moon, false, moment, guesses.moon, calm);
+    let shines = state::sun_shines(setting);
+    let sun = found(book, 3, setting.sun, shines, moment, guesses.sun, calm);
+    let venus = found(book, 4, setting.venus, false, moment, guesses.venus, calm);
+    let mars = found(book, 5, setting.mars, false, moment, guesses.mars, calm);
+    let jupiter = found(
+        book,
+        6,
+        setting.jupiter,
+        false,
+        moment,
+        guesses.jupiter,
+        calm,
+    );
     Found {
         moon,
         sun,

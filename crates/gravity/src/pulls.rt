@@ -12,7 +12,7 @@ ghost use Rattle.basis.specs.Floats.{zero64};
 ghost use Rattle.gravity.specs.Pull.{divisible, minus};
 ghost use Rattle.gravity.specs.Sight.{pullBy, pullOf, twoPullsOf, pullsOf, opposite, takenOff, lessNear, lessBy, startBy};
 
-fn both(a: bool, b: bool) -> bool
+pub fn both(a: bool, b: bool) -> bool
     ensures { λ r. ⌜ r ≡ (a && b) ⌝ }
 {
     if a { b } else { false }

@@ -6,7 +6,7 @@ use Prim.Native.Nat.{ℕ, zero, suc, _≤_}
 use native.Mathlib.Omega.{arith}
 use lib.Ieee.{Float}
 use borrow.Author.Tests.{ne-eqb, eq-eqb}
-use Rattle.state.specs.State.{used}
+use Rattle.state.specs.State.{used, lookedUp}
 use Rattle.state.specs.declared.State.{State}
 use Rattle.state.specs.declared.Setting.{Setting}
 use Rattle.book.specs.Lookup.{lookup}
@@ -25,12 +25,13 @@ use Rattle.journey.proofs.Ran.{Ran}
 use Rattle.journey.proofs.Answers.{Left, answerIs, refusedIs, runFrom, checksStay}
 
 -- a body that was seen
-one : (b : List ℕ) (number : ℕ) (m : Float) (t given : ℕ) → foundOf b number m t .refusal ≡ 0 → Guess b t number m given (guessAt b t number m given)
+one : (b : List ℕ) (number : ℕ) (m : Float) (lit : Bool) (t given : ℕ) → foundOf b number m lit t .refusal ≡ 0
+    → Guess b t number m lit given (guessAt b t number m lit given)
 unfolding foundOf
-one b number m t given clear =
+one b number m lit t given clear =
     record { covering = λ u. by u (lookup b number t) refl; other = λ u. rw u }
   where
-    by : used m ≡ true → (l : Lookup) → lookup b number t ≡ l → lookup b number t ≡ Entry (guessAt b t number m given)
+    by : lookedUp m lit ≡ true → (l : Lookup) → lookup b number t ≡ l → lookup b number t ≡ Entry (guessAt b t number m lit given)
     by u (Entry i) e = rw (u, e)
     by u Nothing e = let six : _≡_ {A = ℕ} 6 0 = rw (u, e) at clear in absurd (omega arith)
 
@@ -39,11 +40,11 @@ unfolding sights foundIn refusalIn guessesAt
 all b s c t given clear =
     let seen = allClear _ clear in
     record {
-      moon = one b 2 (s .moon) t (given .moon) (seen .0);
-      sun = one b 3 (s .sun) t (given .sun) (seen .1 .0);
-      venus = one b 4 (s .venus) t (given .venus) (seen .1 .1 .0);
-      mars = one b 5 (s .mars) t (given .mars) (seen .1 .1 .1 .0);
-      jupiter = one b 6 (s .jupiter) t (given .jupiter) (seen .1 .1 .1 .1 .0);
+      moon = one b 2 (s .moon) false t (given .moon) (seen .0);
+      sun = one b 3 (s .sun) (used (s .k)) t (given .sun) (seen .1 .0);
+      venus = one b 4 (s .venus) false t (given .venus) (seen .1 .1 .0);
+      mars = one b 5 (s .mars) false t (given .mars) (seen .1 .1 .1 .0);
+      jupiter = one b 6 (s .jupiter) false t (given .jupiter) (seen .1 .1 .1 .1 .0);
     }
 
 module _ (b : List ℕ) (setting : Setting) (s : State) (h target budget : ℕ) (given : Guesses) where

@@ -6,7 +6,7 @@ use Prim.Native.Nat.{ℕ, zero, suc, _+_, _*_, _≤_}
 use native.Mathlib.Omega.{arith}
 use lib.Ieee.{Float, neg, add, sub, mul, div, lt, eq, ofBits, ofInt, ofFields, odd, size}
 use Rattle.basis.specs.Floats.{whole}
-use Rattle.state.specs.State.{position, velocity, settingAllowed, coefficientOf, centreAllowed, n}
+use Rattle.state.specs.State.{position, velocity, settingAllowed, coefficientsAllowed, termsAllowed, coefficientOf, centreAllowed, n}
 use Rattle.state.specs.declared.Vector.{Vector}
 use Rattle.state.specs.declared.State.{State}
 use Rattle.state.specs.declared.Setting.{Setting}
@@ -31,11 +31,11 @@ use Rattle.journey.proofs.Portions.{clockAlways}
 
 -- the example passes the checks, with a target at hand, one step on and two steps on
 passesHere : startRefusal exampleBook exampleSetting exampleState exampleH 0 ≡ 0
-unfolding startRefusal passes settingAllowed centreAllowed coefficientOf u16At u32At u64At lt ofBits ofInt
+unfolding startRefusal passes settingAllowed coefficientsAllowed termsAllowed centreAllowed coefficientOf u16At u32At u64At lt ofBits ofInt
 passesHere = refl
 
 passesThere : startRefusal exampleBook exampleSetting exampleState exampleH 2000 ≡ 0
-unfolding startRefusal passes settingAllowed centreAllowed coefficientOf u16At u32At u64At lt ofBits ofInt
+unfolding startRefusal passes settingAllowed coefficientsAllowed termsAllowed centreAllowed coefficientOf u16At u32At u64At lt ofBits ofInt
 passesThere = refl
 
 abbrev f : State → Moved

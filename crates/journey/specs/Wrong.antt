@@ -74,7 +74,7 @@ exampleBook = 8 ∷ 0 ∷ 0 ∷ 0 ∷ 0 ∷ 0 ∷ 0 ∷ 0 ∷ []
 
 abbrev pub exampleSetting : Setting
 exampleSetting =
-    record { earth = whole 8; moon = whole 0; sun = whole 0; venus = whole 0; mars = whole 0; jupiter = whole 0; dut = 0; rule = 0 }
+    record { earth = whole 8; moon = whole 0; sun = whole 0; venus = whole 0; mars = whole 0; jupiter = whole 0; dut = 0; j = whole 0; a = whole 0; k = whole 0; rule = 0 }
 
 abbrev pub exampleState : State
 exampleState = record { moment = 0; centre = 1; x = whole 2; y = whole 0; z = whole 0; vx = whole 0; vy = whole 4; vz = whole 0 }

@@ -6,6 +6,7 @@ use mathlib.Core.List.{List, [], _∷_}
 use lib.ListN.{getD}
 use lib.Ieee.{Float, nan}
 use Rattle.basis.specs.Choice.{if_then_else_, _<?_}
+use Rattle.basis.specs.Floats.{zero64}
 use Rattle.state.specs.declared.Vector.{Vector}
 use Rattle.state.specs.declared.State.{State}
 use Rattle.state.specs.declared.Setting.{Setting}
@@ -17,7 +18,7 @@ use Rattle.conic.specs.declared.Conic.{Conic}
 use Rattle.conic.specs.declared.Conic.the-variants.{Ellipse, Hyperbola}
 use Rattle.conic.specs.declared.CentredConic.{CentredConic}
 
--- read: six coefficients "by body number from 1", beside DUT and (02, R-9) the rule
+-- read: six coefficients "by body number from 1", beside DUT and (02, R-9) the rule; (02, R-7) J, A and K are zero
 abbrev pub settingOf : List Float → ℕ → ℕ → Setting
 settingOf m dut rule =
     record {
@@ -28,6 +29,9 @@ settingOf m dut rule =
       mars = getD m 4 nan;
       jupiter = getD m 5 nan;
       dut = dut;
+      j = zero64;
+      a = zero64;
+      k = zero64;
       rule = rule;
     }
 

@@ -28,6 +28,9 @@ pub fn setting_of(m: [f64; 6], dut: u32, rule: u64) -> Setting
         mars: m[4],
         jupiter: m[5],
         dut,
+        j: 0.0,
+        a: 0.0,
+        k: 0.0,
         rule,
     }
 }

@@ -5,7 +5,7 @@ use mathlib.Core.Path.{_≡_, refl}
 use lib.Ieee.{ofBits, ofFields, odd, toBits, size, lt}
 use Rattle.book.specs.Bytes.{u16At, u32At, u64At}
 use Rattle.book.specs.Passes.{passes}
-use Rattle.state.specs.State.{settingAllowed, centreAllowed, coefficientOf}
+use Rattle.state.specs.State.{settingAllowed, coefficientsAllowed, termsAllowed, centreAllowed, coefficientOf}
 use Rattle.start.specs.Start.{startRefusal}
 use Rattle.motion.specs.Run.{runTo}
 use Rattle.text.specs.Numerals.{digits, shortest, decimalOf, floatText}
@@ -34,5 +34,5 @@ printed =
     ∷ 69 ∷ 68 ∷ 32 ∷ 48 ∷ 10 ∷ []
 
 pub example : stripText given ≡ printed
-unfolding stripText readOrder orderText startRefusal passes settingAllowed centreAllowed coefficientOf runTo statesAfter stateLines headerLine stateLine vectorText arrivedLine decimalOf shortest digits floatText u16At u32At u64At ofBits ofFields odd toBits size lt given printed
+unfolding stripText readOrder orderText startRefusal passes settingAllowed coefficientsAllowed termsAllowed centreAllowed coefficientOf runTo statesAfter stateLines headerLine stateLine vectorText arrivedLine decimalOf shortest digits floatText u16At u32At u64At ofBits ofFields odd toBits size lt given printed
 example = refl

@@ -4,6 +4,7 @@ use Prim.Native.Nat.{ℕ}
 use mathlib.Core.List.{List}
 use lib.ListN.{length}
 use Rattle.basis.specs.Choice.{if_then_else_, _<?_}
+use Rattle.basis.specs.Floats.{zero64}
 use Rattle.state.specs.declared.State.{State}
 use Rattle.state.specs.declared.Setting.{Setting}
 use Rattle.book.specs.Bytes.{u32At, u64At, floatAt}
@@ -21,6 +22,9 @@ settingOf b =
       mars = floatAt b 32;
       jupiter = floatAt b 40;
       dut = u32At b 108;
+      j = zero64;
+      a = zero64;
+      k = zero64;
       rule = 0;
     }
 

@@ -57,6 +57,9 @@ fn setting_of(order: &[u8]) -> Setting
         mars: float_at(order, 32),
         jupiter: float_at(order, 40),
         dut: u32_at(order, 108),
+        j: 0.0,
+        a: 0.0,
+        k: 0.0,
         rule: 0,
     }
 }

@@ -19,11 +19,11 @@ use Rattle.motion.specs.declared.Stepped.the-variants as stepped
 
 -- p is the stage's position P, bodies the bodies at its moment, r what the acceleration under them answered
 pub answered : (b : List ℕ) (s : Setting) (c : ℕ) → centreAllowed s c ≡ true → (t : ℕ) (P p : Vector) (bodies : Sights) (r x : AccelerationAnswer)
-    → p ≡ P → bodies ≡ sights b s c t → r ≡ accelerationBy bodies p → r ≡ x → accelerationAt b s c t P ≡ x
+    → p ≡ P → bodies ≡ sights b s c t → r ≡ accelerationBy bodies s p → r ≡ x → accelerationAt b s c t P ≡ x
 answered b s c ok t P p bodies r x place seen by is =
     sym (underIs b s t P c ok)
-    ∙ ap (λ (k : Sights). accelerationBy k P) (sym seen)
-    ∙ ap (accelerationBy bodies) (sym place)
+    ∙ ap (λ (k : Sights). accelerationBy k s P) (sym seen)
+    ∙ ap (accelerationBy bodies s) (sym place)
     ∙ sym by
     ∙ is
 

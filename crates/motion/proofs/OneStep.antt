@@ -58,5 +58,5 @@ done b setting h s next e =
       moment = ap (λ (x : State). x .moment) (last .0);
       centre = ap (λ (x : State). x .centre) (last .0);
       finite = last .1;
-      clear = λ ok. isClear (sights b setting (s .centre) (s .moment + h)) P4 (four .a) (underIs b setting (s .moment + h) P4 (s .centre) ok ∙ four .is);
+      clear = λ ok. isClear (sights b setting (s .centre) (s .moment + h)) setting P4 (four .a) (underIs b setting (s .moment + h) P4 (s .centre) ok ∙ four .is);
     }

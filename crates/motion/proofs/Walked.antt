@@ -1,5 +1,5 @@
 -- The loop over the steps: how it starts, goes on and ends, in terms of `Walking`. Assumes nothing.
-use mathlib.Core.Bool.{true}
+use mathlib.Core.Bool.{true, false}
 use mathlib.Core.List.{List}
 use mathlib.Core.Path.{_≡_, refl, sym, ap, _∙_}
 use Prim.Native.Nat.{ℕ, zero, suc, _+_, _-_, _*_, _/_, _%_, _≤_, _<_}
@@ -7,7 +7,7 @@ use native.Mathlib.Nat.{suc-mul, zero-mul}
 use native.Mathlib.Omega.{arith}
 use borrow.Author.Tests.{ne-eqb}
 use Rattle.basis.specs.Limits.{endOfTime}
-use Rattle.state.specs.State.{centreAllowed}
+use Rattle.state.specs.State.{used, centreAllowed}
 use Rattle.state.specs.declared.State.{State}
 use Rattle.state.specs.declared.Setting.{Setting}
 use Rattle.gravity.specs.Sight.{sights, foundIn, refusalIn}
@@ -41,11 +41,11 @@ guessesSeen b s c t given clear =
     let all = allClear _ clear in
     λ i.
     record {
-      moon = seenEntry b 2 (s .moon) t (given .moon) (all .0) i;
-      sun = seenEntry b 3 (s .sun) t (given .sun) (all .1 .0) i;
-      venus = seenEntry b 4 (s .venus) t (given .venus) (all .1 .1 .0) i;
-      mars = seenEntry b 5 (s .mars) t (given .mars) (all .1 .1 .1 .0) i;
-      jupiter = seenEntry b 6 (s .jupiter) t (given .jupiter) (all .1 .1 .1 .1 .0) i;
+      moon = seenEntry b 2 (s .moon) false t (given .moon) (all .0) i;
+      sun = seenEntry b 3 (s .sun) (used (s .k)) t (given .sun) (all .1 .0) i;
+      venus = seenEntry b 4 (s .venus) false t (given .venus) (all .1 .1 .0) i;
+      mars = seenEntry b 5 (s .mars) false t (given .mars) (all .1 .1 .1 .0) i;
+      jupiter = seenEntry b 6 (s .jupiter) false t (given .jupiter) (all .1 .1 .1 .1 .0) i;
     }
 
 -- ---- what a step handed back

@@ -1,5 +1,5 @@
 -- What the code hands from one step to the next beside the state: the bodies at the new moment, which are the next step's first.
-use mathlib.Core.Bool.{true}
+use mathlib.Core.Bool.{Bool, true, false}
 use mathlib.Core.List.{List}
 use mathlib.Core.Path.{_≡_}
 use Prim.Native.Nat.{ℕ, _+_, _-_, _*_, _≤_, _<_}
@@ -7,7 +7,7 @@ use Rattle.basis.specs.Choice.{if_then_else_}
 use Rattle.basis.specs.Limits.{endOfTime}
 use Rattle.book.specs.Passes.{passes}
 use lib.Ieee.{Float}
-use Rattle.state.specs.State.{used, centreAllowed}
+use Rattle.state.specs.State.{used, centreAllowed, lookedUp}
 use Rattle.state.specs.declared.Setting.{Setting}
 use Rattle.state.specs.declared.State.{State}
 use Rattle.gravity.specs.Sight.{sights}
@@ -30,17 +30,17 @@ bodiesAfter b setting h s = sights b setting (s .centre) (s .moment + h)
 abbrev pub MayStep : Setting → State → Type 0
 MayStep setting s = (s .moment < endOfTime) × (centreAllowed setting (s .centre) ≡ true)
 
-abbrev pub guessFrom : Float → ℕ → ℕ → ℕ
-guessFrom m entry given = if used m then entry else given
+abbrev pub guessFrom : Float → Bool → ℕ → ℕ → ℕ
+guessFrom m lit entry given = if lookedUp m lit then entry else given
 
 abbrev pub guessesFrom : Setting → Sights → Guesses → Guesses
 guessesFrom setting s given =
     record {
-      moon = guessFrom (setting .moon) (s .entries .moon) (given .moon);
-      sun = guessFrom (setting .sun) (s .entries .sun) (given .sun);
-      venus = guessFrom (setting .venus) (s .entries .venus) (given .venus);
-      mars = guessFrom (setting .mars) (s .entries .mars) (given .mars);
-      jupiter = guessFrom (setting .jupiter) (s .entries .jupiter) (given .jupiter);
+      moon = guessFrom (setting .moon) false (s .entries .moon) (given .moon);
+      sun = guessFrom (setting .sun) (used (setting .k)) (s .entries .sun) (given .sun);
+      venus = guessFrom (setting .venus) false (s .entries .venus) (given .venus);
+      mars = guessFrom (setting .mars) false (s .entries .mars) (given .mars);
+      jupiter = guessFrom (setting .jupiter) false (s .entries .jupiter) (given .jupiter);
     }
 
 -- a run's outcome after n steps more

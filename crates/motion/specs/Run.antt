@@ -1,10 +1,10 @@
 -- Document 01, "The step and the run" and "Refusal numbers": the run call, for every input.
-use mathlib.Core.Bool.{Bool}
+use mathlib.Core.Bool.{Bool, false}
 use mathlib.Core.List.{List}
 use Prim.Native.Nat.{ℕ, zero, suc, _+_}
 use lib.Ieee.{Float}
 use Rattle.basis.specs.Choice.{if_then_else_, _=?_}
-use Rattle.state.specs.State.{used}
+use Rattle.state.specs.State.{used, lookedUp}
 use Rattle.state.specs.declared.State.{State}
 use Rattle.state.specs.declared.Setting.{Setting}
 use Rattle.book.specs.Lookup.{lookup}
@@ -41,18 +41,18 @@ unfoldable pub runTo : (State → Moved) → ℕ → ℕ → State → Reached
 runTo f target zero s = if atTarget target s then ended Arrived s else ended Going s
 runTo f target (suc budget) s = if atTarget target s then ended Arrived s else afterwards (runTo f target budget) s (f s)
 
--- "If steps were done, each used body's returned guess is the entry covering the returned moment; all other guesses come back as given"
-abbrev pub guessAt : List ℕ → ℕ → ℕ → Float → ℕ → ℕ
-guessAt b t number m given = if used m then entryOr given (lookup b number t) else given
+-- "If steps were done, each used body's returned guess is the entry covering the returned moment; all other guesses come back as given"; document 02, R-7: with K above 0 the Sun counts as used
+abbrev pub guessAt : List ℕ → ℕ → ℕ → Float → Bool → ℕ → ℕ
+guessAt b t number m lit given = if lookedUp m lit then entryOr given (lookup b number t) else given
 
 unfoldable pub guessesAt : List ℕ → Setting → ℕ → Guesses → Guesses
 guessesAt b s t given =
     record {
-      moon = guessAt b t 2 (s .moon) (given .moon);
-      sun = guessAt b t 3 (s .sun) (given .sun);
-      venus = guessAt b t 4 (s .venus) (given .venus);
-      mars = guessAt b t 5 (s .mars) (given .mars);
-      jupiter = guessAt b t 6 (s .jupiter) (given .jupiter);
+      moon = guessAt b t 2 (s .moon) false (given .moon);
+      sun = guessAt b t 3 (s .sun) (used (s .k)) (given .sun);
+      venus = guessAt b t 4 (s .venus) false (given .venus);
+      mars = guessAt b t 5 (s .mars) false (given .mars);
+      jupiter = guessAt b t 6 (s .jupiter) false (given .jupiter);
     }
 
 -- after n steps

@@ -28,7 +28,7 @@ pub fn step_under(
     requires { ⌜ bodies ≡ sights (now book) setting (s .centre) (s .moment) ⌝ }
     ensures { λ r. ⌜ r ≡ kept (bodiesAfter (now (book .entry)) setting h s) (step (now (book .entry)) setting h s) ⌝ }
 {
-    let answer = acceleration_under(bodies, state::position_of(s));
+    let answer = acceleration_under(bodies, setting, state::position_of(s));
     match answer {
         AccelerationAnswer::Is(a1) => second_stage(book, setting, s, h, g, calm, a1),
         AccelerationAnswer::Refused(k) => Stepped::Off(k),

@@ -118,7 +118,7 @@ fn fourth_stage(
     let v3 = toward(state::velocity_of(s), half_of(h), a2);
     let p4 = toward(state::position_of(s), seconds(h), v3);
     let bodies = sights_at(book, setting, s.centre, s.moment + h as u64, g, calm);
-    let answer = acceleration_under(bodies, p4);
+    let answer = acceleration_under(bodies, setting, p4);
     match answer {
         AccelerationAnswer::Is(a4) => finish(s, h, bodies, a1, a2, a3, a4),
         AccelerationAnswer::Refused(k) => Stepped::Off(k),
@@ -143,7 +143,7 @@ fn third_stage(
     let half = half_of(h);
     let v2 = toward(state::velocity_of(s), half, a1);
     let p3 = toward(state::position_of(s), half, v2);
-    let answer = acceleration_under(bodies, p3);
+    let answer = acceleration_under(bodies, setting, p3);
     match answer {
         AccelerationAnswer::Is(a3) => fourth_stage(book, setting, s, h, g, calm, a1, a2, a3),
         AccelerationAnswer::Refused(k) => Stepped::Off(k),
@@ -165,7 +165,7 @@ pub fn second_stage(
 {
     let p2 = toward(state::position_of(s), half_of(h), state::velocity_of(s));
     let bodies = sights_at(book, setting, s.centre, s.moment + (h / 2) as u64, g, calm);
-    let answer = acceleration_under(bodies, p2);
+    let answer = acceleration_under(bodies, setting, p2);
     match answer {
         AccelerationAnswer::Is(a2) => third_stage(book, setting, s, h, g, calm, bodies, a1, a2),
         AccelerationAnswer::Refused(k) => Stepped::Off(k),

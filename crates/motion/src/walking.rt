@@ -14,22 +14,26 @@ ghost use Rattle.motion.specs.Step.{step};
 ghost use Rattle.motion.specs.Run.{handedBack, runTo, withGuesses};
 ghost use Rattle.motion.specs.Kept.{guessFrom, guessesFrom, MayWalk};
 
-fn guess_from(m: f64, entry: u64, given: u64) -> u64
-    ensures { λ r. ⌜ r ≡ guessFrom m entry given ⌝ }
+fn guess_from(m: f64, lit: bool, entry: u64, given: u64) -> u64
+    ensures { λ r. ⌜ r ≡ guessFrom m lit entry given ⌝ }
 {
-    if 0.0 < m { entry } else { given }
+    if state::is_looked_up(m, lit) {
+        return entry;
+    }
+    given
 }
 
 fn guesses_from(setting: Setting, bodies: Sights, given: Guesses) -> Guesses
     ensures { λ r. ⌜ r ≡ guessesFrom setting bodies given ⌝ }
 {
     let entries = bodies.entries;
+    let shines = state::sun_shines(setting);
     Guesses {
-        moon: guess_from(setting.moon, entries.moon, given.moon),
-        sun: guess_from(setting.sun, entries.sun, given.sun),
-        venus: guess_from(setting.venus, entries.venus, given.venus),
-        mars: guess_from(setting.mars, entries.mars, given.mars),
-        jupiter: guess_from(setting.jupiter, entries.jupiter, given.jupiter),
+        moon: guess_from(setting.moon, false, entries.moon, given.moon),
+        sun: guess_from(setting.sun, shines, entries.sun, given.sun),
+        venus: guess_from(setting.venus, false, entries.venus, given.venus),
+        mars: guess_from(setting.mars, false, entries.mars, given.mars),
+        jupiter: guess_from(setting.jupiter, false, entries.jupiter, given.jupiter),
     }
 }
 

@@ -1,5 +1,5 @@
--- Document 01, "Setting, state, acceleration", and document 02, R-6 and R-9: what a state and a setting hold, and which are allowed.
-use mathlib.Core.Bool.{Bool, not, _&&_}
+-- Document 01, "Setting, state, acceleration", and document 02, R-6, R-7 and R-9: what a state and a setting hold, and which are allowed.
+use mathlib.Core.Bool.{Bool, not, _&&_, _||_}
 use lib.Ieee.{Float}
 use lib.Ieee.Scale.{finite}
 use Prim.Native.Nat.{ℕ}
@@ -38,16 +38,21 @@ coefficientAllowed m = finite m && not (below0 m)
 abbrev pub earthAllowed : Float → Bool
 earthAllowed m = finite m && above0 m
 
-unfoldable pub settingAllowed : Setting → Bool
-settingAllowed s =
+unfoldable pub coefficientsAllowed : Setting → Bool
+coefficientsAllowed s =
     earthAllowed (s .earth)
     && coefficientAllowed (s .moon)
     && coefficientAllowed (s .sun)
     && coefficientAllowed (s .venus)
     && coefficientAllowed (s .mars)
     && coefficientAllowed (s .jupiter)
-    && isDUT (s .dut)
-    && isRule (s .rule)
+
+-- document 02, R-7: "J, A or K negative or not finite is 4"
+unfoldable pub termsAllowed : Setting → Bool
+termsAllowed s = coefficientAllowed (s .j) && coefficientAllowed (s .a) && coefficientAllowed (s .k)
+
+unfoldable pub settingAllowed : Setting → Bool
+settingAllowed s = coefficientsAllowed s && termsAllowed s && isDUT (s .dut) && isRule (s .rule)
 
 -- "centre, 1 to 6"
 abbrev pub isBody : ℕ → Bool
@@ -66,3 +71,8 @@ coefficientOf s number =
 -- "The centre must be a used body": document 02, R-6, "a centre outside 1 to 6 or unused is 14"
 unfoldable pub centreAllowed : Setting → ℕ → Bool
 centreAllowed s centre = used (coefficientOf s centre)
+
+-- document 02, R-7: "With K above 0 the Sun is looked up as a used body, even where its coefficient is 0 and it does not pull": a body of
+-- coefficient m is looked up where it pulls, or where it is lit
+abbrev pub lookedUp : Float → Bool → Bool
+lookedUp m lit = used m || lit

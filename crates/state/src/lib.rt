@@ -1,7 +1,7 @@
 // A spacecraft's state, the setting it moves under, and the tests that both have to pass.
 
 ghost use mathlib.Core.Path.{_≡_};
-ghost use Rattle.state.specs.State.{position, velocity, n, finiteVector, finiteState, coefficientAllowed, earthAllowed, settingAllowed, isBody, coefficientOf, centreAllowed};
+ghost use Rattle.state.specs.State.{position, velocity, n, finiteVector, finiteState, coefficientAllowed, earthAllowed, coefficientsAllowed, termsAllowed, settingAllowed, isBody, coefficientOf, centreAllowed, used, lookedUp};
 
 pub struct Vector {
     pub x: f64,
@@ -21,7 +21,8 @@ pub struct State {
     pub vz: f64,
 }
 
-// The gravitational coefficients of the bodies 1 to 6 in km³/s², DUT in milliseconds, and (02, R-9) the rule of the hour angle.
+// The gravitational coefficients of the bodies 1 to 6 in km³/s², DUT in milliseconds, (02, R-7) J and A in km of the oblate Earth
+// and K in km³/s² of sunlight, and (02, R-9) the rule of the hour angle.
 pub struct Setting {
     pub earth: f64,
     pub moon: f64,
@@ -30,6 +31,9 @@ pub struct Setting {
     pub mars: f64,
     pub jupiter: f64,
     pub dut: u32,
+    pub j: f64,
+    pub a: f64,
+    pub k: f64,
     pub rule: u64,
 }
 
@@ -99,8 +103,8 @@ fn earth_is_allowed(m: f64) -> bool
     false
 }
 
-pub fn setting_is_allowed(s: Setting) -> bool
-    ensures { λ r. ⌜ r ≡ settingAllowed s ⌝ }
+fn coefficients_are_allowed(s: Setting) -> bool
+    ensures { λ r. ⌜ r ≡ coefficientsAllowed s ⌝ }
 {
     if !earth_is_allowed(s.earth) {
         return false;
@@ -117,11 +121,30 @@ pub fn setting_is_allowed(s: Setting) -> bool
     if !coefficient_is_allowed(s.mars) {
         return false;
     }
-    if !coefficient_is_allowed(s.jupiter) {
+    coefficient_is_allowed(s.jupiter)
+}
+
+fn terms_are_allowed(s: Setting) -> bool
+    ensures { λ r. ⌜ r ≡ termsAllowed s ⌝ }
+{
+    if !coefficient_is_allowed(s.j) {
         return false;
     }
-    if s.dut <= basis::LONGEST_DUT {
-        return s.rule <= hour::LAST_RULE;
+    if !coefficient_is_allowed(s.a) {
+        return false;
+    }
+    coefficient_is_allowed(s.k)
+}
+
+pub fn setting_is_allowed(s: Setting) -> bool
+    ensures { λ r. ⌜ r ≡ settingAllowed s ⌝ }
+{
+    if coefficients_are_allowed(s) {
+        if terms_are_allowed(s) {
+            if s.dut <= basis::LONGEST_DUT {
+                return s.rule <= hour::LAST_RULE;
+            }
+        }
     }
     false
 }
@@ -155,4 +178,20 @@ pub fn centre_is_allowed(s: Setting, centre: u64) -> bool
     ensures { λ r. ⌜ r ≡ centreAllowed s centre ⌝ }
 {
     0.0 < coefficient_of(s, centre)
+}
+
+// (02, R-7) Whether a body is looked up: it pulls, or it is lit up by K.
+pub fn is_looked_up(coefficient: f64, lit: bool) -> bool
+    ensures { λ r. ⌜ r ≡ lookedUp coefficient lit ⌝ }
+{
+    if 0.0 < coefficient {
+        return true;
+    }
+    lit
+}
+
+pub fn sun_shines(s: Setting) -> bool
+    ensures { λ r. ⌜ r ≡ used (s .k) ⌝ }
+{
+    0.0 < s.k
 }

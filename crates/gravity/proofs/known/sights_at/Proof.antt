@@ -28,9 +28,15 @@ entries-of-requires c κs = search needs
 coefficient-of-requires : tie.Need-coefficient-of-requires
 coefficient-of-requires c κs = search needs
 
+difference-requires : tie.Need-difference-requires
+difference-requires c κs = search needs
+
+difference-requires-2 : tie.Need-difference-requires-2
+difference-requires-2 c κs = search needs
+
 returns : tie.Need-returns
 unfolding sights
-returns c = rw (c .coefficient-of .ensures, c .before .entries-of .ensures, c .before .before .refusal-of .ensures, c .before .before .before .seen-from .ensures, c .before .before .before .before .beside .ensures, c .before .before .before .before .before .centre-place .ensures, c .before .before .before .before .before .before .blank-sight .ensures, c .before .before .before .before .before .before .before .found-in .ensures)
+returns c = rw (c .difference2 .ensures, c .before .difference .ensures, c .before .before .coefficient-of .ensures, c .before .before .before .entries-of .ensures, c .before .before .before .before .refusal-of .ensures, c .before .before .before .before .before .before .seen-from .ensures, c .before .before .before .before .before .before .before .beside .ensures, c .before .before .before .before .before .before .before .before .centre-place .ensures, c .before .before .before .before .before .before .before .before .before .blank-sight .ensures, c .before .before .before .before .before .before .before .before .before .before .found-in .ensures)
 
 pub sights-at-spec : {M : Type 1} → statement M
 sights-at-spec =
@@ -44,4 +50,6 @@ sights-at-spec =
     refusal-of-requires
     entries-of-requires
     coefficient-of-requires
+    difference-requires
+    difference-requires-2
     returns)

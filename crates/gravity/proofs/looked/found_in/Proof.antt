@@ -7,6 +7,9 @@ use Rattle.gravity.proofs.looked.found_in.Tie as tie
 found-requires : tie.Need-found-requires
 found-requires c κs = search needs
 
+sun-shines-requires : tie.Need-sun-shines-requires
+sun-shines-requires c κs = search needs
+
 found-requires-2 : tie.Need-found-requires-2
 found-requires-2 c κs = search needs
 
@@ -21,13 +24,14 @@ found-requires-5 c κs = search needs
 
 returns : tie.Need-returns
 unfolding foundIn
-returns c = rw (c .found5 .ensures, c .before .found4 .ensures, c .before .before .found3 .ensures, c .before .before .before .found2 .ensures, c .before .before .before .before .found .ensures)
+returns c = rw (c .found5 .ensures, c .before .found4 .ensures, c .before .before .found3 .ensures, c .before .before .before .found2 .ensures, c .before .before .before .before .sun-shines .ensures, c .before .before .before .before .before .found .ensures)
 
 pub found-in-spec : {M : Type 1} → statement M
 found-in-spec =
     tie.close
     (tie.spec
     found-requires
+    sun-shines-requires
     found-requires-2
     found-requires-3
     found-requires-4

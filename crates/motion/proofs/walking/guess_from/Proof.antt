@@ -1,12 +1,17 @@
 -- `motion::walking::guess_from` meets its contract. Assumes nothing.
+use mathlib.Core.Path.{sym, _∙_}
+use borrow.Author.Needs.{needs}
 use Rattle.motion.proofs.walking.guess_from.Statement.{statement}
 use Rattle.motion.proofs.walking.guess_from.Tie as tie
 
+is-looked-up-requires : tie.Need-is-looked-up-requires
+is-looked-up-requires c κs = search needs
+
 returns : tie.Need-returns
-returns c = rw (c .if1 .taken)
+returns c = rw (sym (c .before .is-looked-up .ensures) ∙ c .if1 .taken)
 
 returns-2 : tie.Need-returns-2
-returns-2 c = rw (c .if1 .left)
+returns-2 c = rw (sym (c .before .is-looked-up .ensures) ∙ c .if1 .left)
 
 pub guess-from-spec : {M : Type 1} → statement M
-guess-from-spec = tie.close (tie.spec returns returns-2)
+guess-from-spec = tie.close (tie.spec is-looked-up-requires returns returns-2)
