@@ -6,7 +6,7 @@ use mathlib.Core.Path.{_≡_, refl, sym, ap, _∙_}
 use native.Mathlib.Omega.{arith}
 use borrow.Author.Tests.{lt-ltb, le-ltb, ltb-true, ltb-false}
 use lib.Dec.{ltb}
-use Rattle.parting.specs.Steps.{place, apart, steps}
+use Rattle.steps.specs.Steps.{place, apart, steps}
 
 halves : (t : Bool) (b : ℕ) {P : Type 0} → ltb b 0x8000_0000_0000_0000 ≡ t → (b < 0x8000_0000_0000_0000 → P) → (0x8000_0000_0000_0000 ≤ b → P) → P
 halves true b e low high = low (ltb-true b 0x8000_0000_0000_0000 e)

@@ -19,7 +19,7 @@ use Rattle.reader.specs.Form.{kindsOf, refusedFrom, formRefusal, rowsOf, rowsIn
 use Rattle.parting.specs.declared.Component.{Component}
 use Rattle.parting.specs.declared.Component.the-variants.{X, Y, Z, VX, VY, VZ}
 use Rattle.parting.specs.Report.{Difference, only, differs, component, atOne, parted}
-use Rattle.parting.specs.Steps.{steps}
+use Rattle.steps.specs.Steps.{steps}
 use Rattle.parting.specs.Turns.{differencesAt}
 use Rattle.compared.specs.Laws.{Rising, stateOf, momentOf, reportedAt, InOrder}
 

@@ -2,10 +2,10 @@
 use mathlib.Core.Path.{refl}
 use Rattle.basis.proofs.OneAnswer.{OneAnswer, one-answer}
 use Rattle.reader.specs.Form.{placed}
-use Rattle.parting.specs.Steps.{steps}
+use Rattle.steps.specs.Steps.{steps}
 use Rattle.parting.specs.Turns.{sideOf}
 use Rattle.reader.proofs.place_after as place-after
-use Rattle.parting.proofs.steps_between as steps-between
+use Rattle.steps.proofs.steps_between as steps-between
 use Rattle.parting.proofs.side_of as side-of
 
 pub place-after-answers-once : OneAnswer place-after.ended (λ M. place-after.clauses)

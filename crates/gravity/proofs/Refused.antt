@@ -14,8 +14,10 @@ use Rattle.book.specs.Position.{bodyAt}
 use Rattle.book.specs.declared.PositionAnswer.{PositionAnswer}
 use Rattle.book.specs.declared.PositionAnswer.the-variants as position
 use Rattle.book.proofs.Refused as book
-use Rattle.gravity.specs.Pull.{negated, g, sound}
-use Rattle.gravity.specs.Acceleration.{Sky, Bodies, Hidden, Listed, bodiesOf, atRest, stands, placeOf, seen, skyOf, sky, fromCentre, less, allSound, lastTerms, lastSound, finished, accelerationAt, accelerationAnswer}
+use Rattle.pull.specs.Pull.{negated, g, sound}
+use Rattle.pull.specs.Terms.{lastTerms, lastSound}
+use Rattle.sight.specs.Sky.{Sky, Bodies, Hidden, Listed, bodiesOf, atRest, stands, placeOf, seen, skyOf, sky}
+use Rattle.gravity.specs.Acceleration.{fromCentre, less, allSound, finished, accelerationAt, accelerationAnswer}
 use Rattle.gravity.specs.declared.AccelerationAnswer.{AccelerationAnswer}
 use Rattle.gravity.specs.declared.AccelerationAnswer.the-variants.{Is, Refused}
 

@@ -1,5 +1,5 @@
 -- The acceleration under the bodies as they were looked up is document 01's acceleration, about the centre, with the last terms of R-7. Assumes nothing.
-use mathlib.Core.Bool.{Bool, true, false, not, _&&_, _||_, and-true, and-assoc, true≢false}
+use mathlib.Core.Bool.{Bool, true, false, _&&_, _||_, and-true, and-assoc}
 use mathlib.Core.List.{List, [], _∷_}
 use mathlib.Core.Path.{_≡_, refl, sym, ap, _∙_}
 use Prim.Native.Nat.{ℕ, zero, suc}
@@ -8,27 +8,26 @@ use lib.Dec.{eqb·suc-zero}
 use borrow.Author.Tests.{ne-eqb}
 use native.Mathlib.Omega.{arith}
 use Rattle.basis.specs.Choice.{if_then_else_, _=?_}
-use Rattle.state.specs.State.{finiteVector, used, coefficientOf, centreAllowed, lookedUp}
+use Rattle.state.specs.State.{finiteVector, used, coefficientOf, centreAllowed}
 use Rattle.state.specs.declared.Vector.{Vector}
 use Rattle.state.specs.declared.Setting.{Setting}
-use Rattle.book.specs.Lookup.{lookup}
-use Rattle.book.specs.Series.{place, velocity}
-use Rattle.book.specs.Position.{finiteVelocity, bodyAt}
-use Rattle.book.proofs.BodyAt.{no-cover, not-finite, too-fast, at-place}
 use Rattle.book.specs.declared.Motion.{Motion}
-use Rattle.book.specs.declared.Lookup.{Lookup}
-use Rattle.book.specs.declared.Lookup.the-variants.{Entry, Nothing}
-use Rattle.book.specs.declared.PositionAnswer.{PositionAnswer}
 use Rattle.book.specs.declared.PositionAnswer.the-variants as position
-use Rattle.gravity.specs.Pull.{plus, minus, negated, g, sound}
-use Rattle.gravity.specs.Acceleration.{Body, Sky, Bodies, Hidden, Listed, bodiesOf, standing, nowhere, atRest, stands, placeOf, seen, skyOf, sky, others, fromCentre, less, allSound, settled, oblate, sunlit, lastTerms, soundIf, lastSound, finished, accelerationAt}
-use Rattle.gravity.specs.Sight.{pullOf, blank, foundAt, foundBy, foundOf, foundIn, placeIn, besides, otherOf, othersOf, sights, orLater, refusalOf, refusalIn, takenOff, lessBy, lessAll, vectorOf, startBy, listed, settledBy, oblateBy, sunlitBy, finishedBy, accelerationBy, entryOr}
+use Rattle.pull.specs.Pull.{plus, minus, negated, g, sound}
+use Rattle.pull.specs.Terms.{lastTerms, lastSound}
+use Rattle.pull.specs.Sum.{pullOf, takenOff, lessBy, lessAll, vectorOf, startBy, oblateBy, sunlitBy}
+use Rattle.pull.specs.declared.Pull.{Pull}
+use Rattle.pull.specs.declared.Other.{Other}
+use Rattle.sight.specs.Sky.{Sky, Bodies, Hidden, Listed, bodiesOf, standing, nowhere, stands, placeOf, seen, skyOf, sky}
+use Rattle.sight.specs.Looked.{foundOf, foundIn, placeIn, besides, orLater, refusalOf, refusalIn}
+use Rattle.sight.specs.declared.Sight.{Sight}
+use Rattle.sight.proofs.Looked.{Looked, unlooked, hidden, there, unpulling, sightOf, sightsOf, found, looked, placed, used-looked}
+pub use Rattle.sight.proofs.Looked.{allClear, seenEntry}
+use Rattle.gravity.specs.Acceleration.{others, fromCentre, less, allSound, settled, finished, accelerationAt}
+use Rattle.gravity.specs.Sight.{otherOf, othersOf, sights, listed, settledBy, finishedBy, accelerationBy}
 use Rattle.gravity.proofs.Centres.{One, one, two, three, four, five, six, centreOne}
 use Rattle.gravity.specs.declared.AccelerationAnswer.{AccelerationAnswer}
 use Rattle.gravity.specs.declared.AccelerationAnswer.the-variants.{Is, Refused}
-use Rattle.gravity.specs.declared.Pull.{Pull}
-use Rattle.gravity.specs.declared.Sight.{Sight}
-use Rattle.gravity.specs.declared.Other.{Other}
 use Rattle.gravity.specs.declared.Sights.{Sights}
 
 -- ---- by the refusal: none, or some
@@ -42,68 +41,6 @@ module _ (s : Sights) (setting : Setting) (P : Vector) where
   pub refused : (s .refusal ≡ 0 → ⊥) → accelerationBy s setting P ≡ Refused (s .refusal)
   unfolding accelerationBy
   refused h = rw (ne-eqb (s .refusal) 0 h)
-
--- ---- the three ways in which a body can be looked up
-
-data Looked (b : List ℕ) (number : ℕ) (m : Float) (lit : Bool) (t : ℕ) : Sight → Type 0 where
-  unlooked : lookedUp m lit ≡ false → Looked b number m lit t (blank m 0)
-  hidden : (k : ℕ) → lookedUp m lit ≡ true → stands b number t ≡ position.Refused (suc k) → Looked b number m lit t (blank m (suc k))
-  there : (M : Motion) (i : ℕ) → lookedUp m lit ≡ true → stands b number t ≡ position.At M
-      → Looked b number m lit t (record { refusal = 0; entry = i; m = m; place = standing (M .place) })
-
--- what is not looked up does not pull
-unpulling : (m : Float) (lit : Bool) → lookedUp m lit ≡ false → used m ≡ false
-unpulling m lit = go (used m)
-  where
-    go : (u : Bool) → (u || lit) ≡ false → u ≡ false
-    go true e = e
-    go false e = refl
-
--- the Earth stands where it is seen from; another body has to be looked up
-sightOf : List ℕ → ℕ → Listed → Sight
-sightOf b t body = if body .number =? 1 then blank (body .m) 0 else foundOf b (body .number) (body .m) (body .lit) t
-
-module _ (b : List ℕ) (number : ℕ) (m : Float) (lit : Bool) (t : ℕ) where
-  found : (number =? 1) ≡ false → Looked b number m lit t (foundOf b number m lit t)
-  unfolding foundOf
-  found far = go (lookedUp m lit) refl
-    where
-      is : {p : PositionAnswer} → bodyAt b number t ≡ p → stands b number t ≡ p
-      is e = rw far e
-
-      at : lookedUp m lit ≡ true → (i : ℕ) (ok slow : Bool) → lookup b number t ≡ Entry i → finiteVector (standing (place b i t)) ≡ ok → finiteVelocity (velocity b i t) ≡ slow
-          → Looked b number m lit t (foundAt (place b i t) (finiteVelocity (velocity b i t)) i m)
-      at u i true true l e v = rw (e, v) (there (record { place = place b i t; velocity = velocity b i t }) i u (is (at-place b number t i l e v)))
-      at u i true false l e v = rw (e, v) (hidden 6 u (is (too-fast b number t i l e v)))
-      at u i false slow l e v = rw e (hidden 6 u (is (not-finite b number t i l e)))
-
-      by : lookedUp m lit ≡ true → (l : Lookup) → lookup b number t ≡ l → Looked b number m lit t (foundBy b m t l)
-      by u Nothing e = hidden 5 u (is (no-cover b number t e))
-      by u (Entry i) e = at u i (finiteVector (standing (place b i t))) (finiteVelocity (velocity b i t)) e refl refl
-
-      go : (u : Bool) → lookedUp m lit ≡ u → Looked b number m lit t (if u then foundBy b m t (lookup b number t) else blank m 0)
-      go true u = by u (lookup b number t) refl
-      go false u = unlooked u
-
-  earth : (number =? 1) ≡ true → Looked b number m lit t (blank m 0)
-  earth near = go (lookedUp m lit) refl
-    where
-      go : (u : Bool) → lookedUp m lit ≡ u → Looked b number m lit t (blank m 0)
-      go true u = there atRest 0 u (rw near)
-      go false u = unlooked u
-
-  looked : Looked b number m lit t (if number =? 1 then blank m 0 else foundOf b number m lit t)
-  looked = go (number =? 1) refl
-    where
-      go : (near : Bool) → (number =? 1) ≡ near → Looked b number m lit t (if near then blank m 0 else foundOf b number m lit t)
-      go true near = earth near
-      go false near = found near
-
-  -- where a body that is looked up is seen is where it stands
-  placed : lookedUp m lit ≡ true → (s : Sight) → Looked b number m lit t s → s .place ≡ placeOf (stands b number t)
-  placed u s (unlooked n) = let z : true ≡ false = sym u ∙ n in absurd (true≢false z)
-  placed u s (hidden k e f) = rw f
-  placed u s (there M i e f) = rw f
 
 -- ---- body by body
 
@@ -149,10 +86,6 @@ module _ (st : Setting) (Q S P : Vector) (centre : ℕ) (C : Vector) (body : Lis
       → finished st Q S P ok a (fromCentre centre C (seen body (position.At M) later)) ≡ finished st Q S P ok a (fromCentre centre C later)
   lit-alone ok a (Bodies bs) far u = rw (far, u)
   lit-alone ok a (Hidden k) far u = refl
-
-sightsOf : List ℕ → ℕ → List Listed → List Sight
-sightsOf b t [] = []
-sightsOf b t (body ∷ rest) = sightOf b t body ∷ sightsOf b t rest
 
 -- the bodies beside the centre, as the code sees them
 othersBy : List ℕ → ℕ → ℕ → Vector → List Listed → List Other
@@ -204,10 +137,6 @@ module _ (b : List ℕ) (st : Setting) (t : ℕ) (P home sun : Vector) (centre :
       oneMore body rest (byList rest) (body .number =? centre) (used (body .m)) refl refl sum _ (looked b (body .number) (body .m) (body .lit) t)
 
 -- ---- about each of the six centres
-
--- a used body is looked up
-used-looked : (m : Float) (lit : Bool) → used m ≡ true → lookedUp m lit ≡ true
-used-looked m lit u = rw u
 
 -- where the Sun does not shine, it does not matter where it stands
 unlit : (st : Setting) (Q S S′ P : Vector) (ok : Bool) (a : Vector) (bodies : Sky) → used (st .k) ≡ false → finished st Q S P ok a bodies ≡ finished st Q S′ P ok a bodies
@@ -273,38 +202,3 @@ isClear s setting P a e = go (s .refusal) refl
         let no = refused s setting P (λ z. absurd (omega arith)) in
         let z : _≡_ {A = ℕ} 0 1 = cc in
         absurd (omega arith)
-
-abbrev pub AllClear : List Sight → Type 0
-AllClear [] = Unit {0}
-AllClear (s ∷ rest) = (s .refusal ≡ 0) × AllClear rest
-
-firstClear : (k later : ℕ) → orLater k later ≡ 0 → (k ≡ 0) × (later ≡ 0)
-firstClear zero later e = (refl, e)
-firstClear (suc k) later e = let z : suc k ≡ 0 = rw eqb·suc-zero at e in absurd (omega arith)
-
-pub allClear : (ss : List Sight) → refusalOf ss ≡ 0 → AllClear ss
-unfolding refusalOf
-allClear [] e = tt
-allClear (s ∷ rest) e = let f = firstClear (s .refusal) (refusalOf rest) e in (f .0, allClear rest (f .1))
-
--- a body's guess from where it was seen is the covering entry
-pub seenEntry : (b : List ℕ) (number : ℕ) (m : Float) (lit : Bool) (t given : ℕ) → (foundOf b number m lit t) .refusal ≡ 0
-    → (if lookedUp m lit then (foundOf b number m lit t) .entry else given) ≡ (if lookedUp m lit then entryOr given (lookup b number t) else given)
-unfolding foundOf
-seenEntry b number m lit t given = go (lookedUp m lit)
-  where
-    at : (i : ℕ) (ok slow : Bool) → finiteVector (standing (place b i t)) ≡ ok
-        → foundAt (place b i t) slow i m .refusal ≡ 0 → foundAt (place b i t) slow i m .entry ≡ i
-    at i true true e r = rw e
-    at i true false e r = let z : _≡_ {A = ℕ} 7 0 = rw e at r in absurd (omega arith)
-    at i false slow e r = let z : _≡_ {A = ℕ} 7 0 = rw e at r in absurd (omega arith)
-
-    by : (l : Lookup) → (foundBy b m t l) .refusal ≡ 0 → (foundBy b m t l) .entry ≡ entryOr given l
-    by Nothing r = absurd (omega arith)
-    by (Entry i) r = at i (finiteVector (standing (place b i t))) (finiteVelocity (velocity b i t)) refl r
-
-    go : (u : Bool) → (if u then foundBy b m t (lookup b number t) else blank m 0) .refusal ≡ 0
-        → (if u then (if u then foundBy b m t (lookup b number t) else blank m 0) .entry else given)
-        ≡ (if u then entryOr given (lookup b number t) else given)
-    go true r = by (lookup b number t) r
-    go false r = refl

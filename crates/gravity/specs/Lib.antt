@@ -1,3 +1,3 @@
-pub mod Pull
+pub use Rattle.pull.specs.Pull
 pub mod Acceleration
 pub mod Sight

@@ -2,80 +2,57 @@
 // the crates above call them once they have checked it.
 
 use crate::AccelerationAnswer;
-use crate::Besides;
-use crate::Found;
 use crate::Guesses;
-use crate::Other;
 use crate::Others;
-use crate::Pull;
-use crate::Sight;
 use crate::Sights;
-use crate::looked::blank_sight;
-use crate::looked::found_in;
-use crate::looked::refusal_of;
-pub use crate::pulls::difference;
-use crate::pulls::less;
-use crate::pulls::near_sum;
-use crate::pulls::pull;
-use crate::pulls::two_pulls;
-use crate::terms::oblate_sum;
-use crate::terms::sunlit_sum;
+use pull::Other;
+use pull::Pull;
+pub use pull::pulls::difference;
+use pull::pulls::less;
+use pull::pulls::near_sum;
+use pull::pulls::pull;
+use pull::pulls::two_pulls;
+use pull::terms::oblate_sum;
+use pull::terms::sunlit_sum;
+use sight::Besides;
+use sight::Found;
+use sight::Sight;
+use sight::beside;
+use sight::blank_sight;
+use sight::centre_place;
+use sight::known::found;
+use sight::refusal_of;
 use state::Setting;
 use state::Vector;
 ghost use mathlib.Core.Path.{_≡_};
-ghost use Rattle.basis.specs.Choice.{if_then_else_};
 ghost use Rattle.book.specs.Calm.{Ready};
-ghost use Rattle.gravity.specs.Sight.{placeIn, besides, otherBy, otherOf, othersOf, entriesOf, sights, settledBy, accelerationBy};
+ghost use Rattle.sight.specs.Looked.{foundIn};
+ghost use Rattle.gravity.specs.Sight.{otherBy, otherOf, othersOf, entriesOf, sights, settledBy, accelerationBy};
 
-// Where the centre stands, seen from the Earth.
-fn centre_place(centre: u64, bodies: Found) -> Vector
-    ensures { λ r. ⌜ r ≡ placeIn bodies centre ⌝ }
+fn found_in(book: &[u8], setting: Setting, moment: u64, guesses: Guesses, calm: bool) -> Found
+    requires { ⌜ Ready (now book) calm ⌝ }
+    ensures { λ r. ⌜ r ≡ foundIn (now (book .entry)) setting moment ⌝ }
 {
-    let moon = bodies.moon;
-    let sun = bodies.sun;
-    let venus = bodies.venus;
-    let mars = bodies.mars;
-    let jupiter = bodies.jupiter;
-    match centre {
-        2 => moon.place,
-        3 => sun.place,
-        4 => venus.place,
-        5 => mars.place,
-        6 => jupiter.place,
-        _ => Vector {
-            x: 0.0,
-            y: 0.0,
-            z: 0.0,
-        },
-    }
-}
-
-fn either(a: bool, x: Sight, y: Sight) -> Sight
-    ensures { λ r. ⌜ r ≡ (if a then x else y) ⌝ }
-{
-    if a { x } else { y }
-}
-
-// The bodies other than the centre, in rising number.
-fn beside(centre: u64, earth: Sight, bodies: Found) -> Besides
-    ensures { λ r. ⌜ r ≡ besides centre earth bodies ⌝ }
-{
-    let moon = bodies.moon;
-    let sun = bodies.sun;
-    let venus = bodies.venus;
-    let mars = bodies.mars;
-    let jupiter = bodies.jupiter;
-    let first = either(centre <= 1, moon, earth);
-    let second = either(centre <= 2, sun, moon);
-    let third = either(centre <= 3, venus, sun);
-    let fourth = either(centre <= 4, mars, venus);
-    let fifth = either(centre <= 5, jupiter, mars);
-    Besides {
-        first,
-        second,
-        third,
-        fourth,
-        fifth,
+    let moon = found(book, 2, setting.moon, false, moment, guesses.moon, calm);
+    let shines = state::sun_shines(setting);
+    let sun = found(book, 3, setting.sun, shines, moment, guesses.sun, calm);
+    let venus = found(book, 4, setting.venus, false, moment, guesses.venus, calm);
+    let mars = found(book, 5, setting.mars, false, moment, guesses.mars, calm);
+    let jupiter = found(
+        book,
+        6,
+        setting.jupiter,
+        false,
+        moment,
+        guesses.jupiter,
+        calm,
+    );
+    Found {
+        moon,
+        sun,
+        venus,
+        mars,
+        jupiter,
     }
 }
 

@@ -1,12 +1,10 @@
 // The acceleration of a spacecraft about a centre: the centre's pull, less what the other bodies give it and the centre.
 
 pub mod known;
-mod looked;
-mod pulls;
-mod terms;
 
 use basis::END_OF_TIME;
 use basis::unless;
+use pull::Other;
 use state::Setting;
 use state::Vector;
 ghost use mathlib.Core.Bool.{true};
@@ -20,57 +18,7 @@ pub enum AccelerationAnswer {
     Refused(u64),
 }
 
-// A sum of pulls, and whether every length on the way was one to divide by.
-pub struct Pull {
-    pub x: f64,
-    pub y: f64,
-    pub z: f64,
-    pub sound: bool,
-}
-
-pub struct TwoPulls {
-    pub first: Pull,
-    pub second: Pull,
-}
-
-pub struct ThreePulls {
-    pub first: Pull,
-    pub second: Pull,
-    pub third: Pull,
-}
-
-// One body at a moment, as it is looked up: refused by a number, or where it stands, seen from the Earth.
-pub struct Sight {
-    pub refusal: u64,
-    pub entry: usize,
-    pub m: f64,
-    pub place: Vector,
-}
-
-pub struct Found {
-    pub moon: Sight,
-    pub sun: Sight,
-    pub venus: Sight,
-    pub mars: Sight,
-    pub jupiter: Sight,
-}
-
-// (02, R-6) The five bodies other than the centre, in rising number: as they are looked up,
-pub struct Besides {
-    pub first: Sight,
-    pub second: Sight,
-    pub third: Sight,
-    pub fourth: Sight,
-    pub fifth: Sight,
-}
-
-// and each where it stands, seen from the centre, with its pull on the centre.
-pub struct Other {
-    pub m: f64,
-    pub place: Vector,
-    pub pull: Pull,
-}
-
+// (02, R-6) The five bodies other than the centre, in rising number, each seen from the centre with its pull on it.
 pub struct Others {
     pub first: Other,
     pub second: Other,

@@ -10,7 +10,7 @@ use Rattle.text.proofs.Writing.{nothing, both}
 use Rattle.reader.specs.declared.Row.{Row}
 use Rattle.parting.specs.declared.Component.{Component}
 use Rattle.parting.specs.declared.Component.the-variants.{X, Y, Z, VX, VY, VZ}
-use Rattle.parting.specs.Steps.{steps}
+use Rattle.steps.specs.Steps.{steps}
 use Rattle.parting.specs.Report.{Difference, component, atOne, onlyWord, twoNumbers, diffLine, lineOf, textOf}
 use Rattle.parting.specs.Turns.{Put, onlyText}
 

@@ -12,7 +12,7 @@ use Rattle.parting.specs.declared.Component.{Component}
 use Rattle.parting.specs.declared.Component.the-variants.{X, Y, Z, VX, VY, VZ}
 use Rattle.parting.specs.declared.Part.{Part}
 use Rattle.parting.specs.declared.Part.the-variants.{Header, States, Outcome, End, Over}
-use Rattle.parting.specs.Steps.{steps}
+use Rattle.steps.specs.Steps.{steps}
 
 -- one difference: a moment found in one listing only, or a component whose bits differ, with its float steps
 pub data Difference : Type 0 where

@@ -1,11 +1,10 @@
-// Where two listings part: float steps, whose state comes next, and the order of the report's parts.
+// Where two listings part: whose state comes next, and the order of the report's parts.
 
 pub mod same;
 
 use reader::Found;
 use reader::Row;
 ghost use mathlib.Core.Path.{_≡_};
-ghost use Rattle.parting.specs.Steps.{place, steps};
 ghost use Rattle.parting.specs.Report.{Follows};
 ghost use Rattle.parting.specs.Turns.{takes, sideOf};
 
@@ -44,27 +43,6 @@ pub fn next_part(part: Part) -> Part
         Part::End => Part::Over,
         Part::Over => Part::Over,
     }
-}
-
-fn place_of(bits: u64) -> u64
-    ensures { λ r. ⌜ r ≡ place bits ⌝ }
-{
-    if bits < 0x8000_0000_0000_0000 {
-        return 0x8000_0000_0000_0000 + bits;
-    }
-    0xffff_ffff_ffff_ffff - bits
-}
-
-// The float steps from the float of some bits to that of others.
-pub fn steps_between(a: u64, b: u64) -> u64
-    ensures { λ r. ⌜ r ≡ steps a b ⌝ }
-{
-    let p = place_of(a);
-    let q = place_of(b);
-    if p < q {
-        return q - p;
-    }
-    p - q
 }
 
 fn next_of(first: bool, second: bool) -> Side

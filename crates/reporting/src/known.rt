@@ -1,9 +1,9 @@
 // The lines of the report, for a buffer with room for them.
 
 use parting::Component;
-use parting::steps_between;
 use reader::Found;
 use reader::Row;
+use steps::steps_between;
 use text::known::put_bytes;
 use text::known::put_decimal;
 ghost use Prim.Native.Nat.{_+_, _≤_};

@@ -1,10 +1,12 @@
 //! Compares the program repair with the reference: the book on standard output and the report on standard error, byte by byte.
-//! Every book that was written is handed to strip, which must take it. With --spoil N the Nth answer is spoiled, and none behind it
-//! is looked at.
+//! Every book that was written is handed to strip, which must take it; one that it has taken is not handed to it again. With
+//! --spoil N the Nth answer is spoiled, and none behind it is looked at.
 //!
 //! mending --seed N --books N --real FILE --repair "WORDS" --strip "WORDS" [--spoil N]
 
+use std::collections::BTreeSet;
 use std::process::ExitCode;
+use std::sync::Mutex;
 
 use reference::repair;
 use reference::trial::chance::Chance;
@@ -24,41 +26,59 @@ fn order() -> Vec<u8> {
     order
 }
 
+/// How both programs are started, and the books that strip has taken.
+struct Programs {
+    repair: Vec<String>,
+    strip: Vec<String>,
+    taken: Mutex<BTreeSet<Vec<u8>>>,
+}
+
+impl Programs {
+    /// Whether strip takes a book.
+    fn takes(&self, book: Vec<u8>) -> Result<bool, String> {
+        let taken = || self.taken.lock().map_err(|error| error.to_string());
+        if self.strip.is_empty() || taken()?.contains(&book) {
+            return Ok(true);
+        }
+        let (listing, _) = talk_both(&self.strip, None, &[&order(), &book[..]].concat())?;
+        let takes = listing.starts_with(b"STRIP 1000\n");
+        if takes {
+            taken()?.insert(book);
+        }
+        Ok(takes)
+    }
+}
+
 /// What differs, in words.
-fn differs(repairer: &[String], stripper: &[String], d: &Damaged, spoiled: bool) -> Result<Option<&'static str>, String> {
+fn differs(programs: &Programs, d: &Damaged, spoiled: bool) -> Result<Option<&'static str>, String> {
     let answer = repair::repair(&d.input, d.room.unwrap_or(61_440) as usize);
     let mut book = answer.as_ref().map_or(Vec::new(), |a| a.book.clone());
     if spoiled {
         book.push(0);
     }
     let word = d.room.map(|room| room.to_string());
-    let (output, report) = talk_both(repairer, word.as_deref(), &d.input)?;
+    let (output, report) = talk_both(&programs.repair, word.as_deref(), &d.input)?;
     if output != book {
         return Ok(Some("the book differs"));
     }
     if report != repair::report(&answer).into_bytes() {
         return Ok(Some("the report differs"));
     }
-    if answer.is_ok() && !stripper.is_empty() {
-        let (listing, _) = talk_both(stripper, None, &[order(), output].concat())?;
-        if !listing.starts_with(b"STRIP 1000\n") {
-            return Ok(Some("strip does not take the book"));
-        }
-    }
-    Ok(None)
+    Ok((answer.is_ok() && !programs.takes(output)?).then_some("strip does not take the book"))
 }
 
 fn compare() -> Result<bool, String> {
     let options = Options::read(&["seed", "books", "real", "repair", "strip", "spoil"], std::env::args().skip(1))?;
-    let (real_book, repair, strip) = (options.text("real"), options.words("repair"), options.words("strip"));
+    let real_book = options.text("real");
+    let programs = Programs { repair: options.words("repair"), strip: options.words("strip"), taken: Mutex::default() };
     let mut list = if real_book.is_empty() {
         Vec::new()
     } else {
         real(&std::fs::read(real_book).map_err(|error| format!("{real_book}: {error}"))?)
     };
     list.extend(made(&mut Chance::new(options.number("seed", 1)?), options.number("books", 2000)? as usize));
-    count(list, options.number("spoil", 0)?, |d, spoiled| {
-        let what = differs(&repair, &strip, d, spoiled)?;
+    count(list, options.number("spoil", 0)?, |_, d, spoiled| {
+        let what = differs(&programs, d, spoiled)?;
         Ok(what.map(|what| format!("{}, room {:?}: {what}", d.case, d.room)))
     })
 }

@@ -13,6 +13,7 @@ use reference::trial::pairs::{edges, long, made, Pair};
 /// What differs, in words.
 fn differs(command: &[String], folder: &Path, p: &Pair, spoiled: bool) -> Result<Option<&'static str>, String> {
     let (program, words) = command.split_first().ok_or("no program given")?;
+    std::fs::create_dir_all(folder).map_err(|error| format!("{}: {error}", folder.display()))?;
     let names = ["first", "second"].map(|name| folder.join(name));
     for (name, text) in names.iter().zip([&p.first, &p.second]) {
         std::fs::write(name, text).map_err(|error| format!("{}: {error}", name.display()))?;
@@ -40,13 +41,15 @@ fn sort(p: &Pair) -> String {
 fn compare() -> Result<bool, String> {
     let options = Options::read(&["seed", "pairs", "folder", "compare", "spoil"], std::env::args().skip(1))?;
     let (folder, command, spoil) = (Path::new(options.text("folder")), options.words("compare"), options.number("spoil", 0)?);
-    std::fs::create_dir_all(folder).map_err(|error| format!("{}: {error}", folder.display()))?;
     let mut c = Chance::new(options.number("seed", 1)?);
     let mut list = edges(&mut c);
     list.extend(long(&mut c));
     list.extend(made(&mut c, options.number("pairs", 2000)? as usize));
     println!("{}", sorts(&list, sort));
-    count(list, spoil, |p, spoiled| Ok(differs(&command, folder, p, spoiled)?.map(|what| format!("{}: {what}", p.case))))
+    count(list, spoil, |thread, p, spoiled| {
+        let what = differs(&command, &folder.join(thread.to_string()), p, spoiled)?;
+        Ok(what.map(|what| format!("{}: {what}", p.case)))
+    })
 }
 
 fn main() -> ExitCode {

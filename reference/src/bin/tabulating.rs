@@ -43,7 +43,7 @@ fn compare() -> Result<bool, String> {
     list.extend(long(&mut c));
     list.extend(made(&mut c, options.number("tables", 2000)? as usize));
     println!("{}", sorts(&list, sort));
-    count(list, spoil, |m, spoiled| {
+    count(list, spoil, |_, m, spoiled| {
         let what = differs(&command, m, spoiled.then_some(spoil))?;
         Ok(what.map(|what| format!("{}: {what}", m.case)))
     })

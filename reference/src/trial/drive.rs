@@ -2,6 +2,9 @@
 
 use std::collections::BTreeMap;
 use std::process::ExitCode;
+use std::sync::atomic::{AtomicUsize, Ordering};
+use std::sync::mpsc::channel;
+use std::thread::{available_parallelism, scope};
 
 use super::compare::SHOWN;
 
@@ -36,26 +39,38 @@ impl Options {
     }
 }
 
-/// Compares case after case; `differs` says in words what does. The answer numbered `spoil` is to be spoiled, and none behind it is
-/// looked at; 0 is none.
-pub fn count<T>(
-    mut list: Vec<T>, spoil: u64, mut differs: impl FnMut(&T, bool) -> Result<Option<String>, String>,
+/// Compares case after case, on a thread for each processor; `differs` is told which thread asks, and says in words what differs. The
+/// answer numbered `spoil` is to be spoiled, and none behind it is looked at; 0 is none.
+pub fn count<T: Sync>(
+    mut list: Vec<T>, spoil: u64, differs: impl Fn(usize, &T, bool) -> Result<Option<String>, String> + Sync,
 ) -> Result<bool, String> {
     if spoil > 0 {
         list.truncate(spoil as usize);
     }
-    let (mut compared, mut differ) = (0, 0);
-    for case in &list {
-        compared += 1;
-        if let Some(what) = differs(case, compared == spoil)? {
-            differ += 1;
-            if differ <= SHOWN {
-                println!("{what}");
-            }
+    let (next, (send, receive)) = (AtomicUsize::new(0), channel());
+    scope(|s| {
+        for thread in 0..available_parallelism().map_or(1, usize::from) {
+            let (list, next, differs, send) = (&list, &next, &differs, send.clone());
+            s.spawn(move || {
+                while let Some((i, case)) = Some(next.fetch_add(1, Ordering::Relaxed)).and_then(|i| Some((i, list.get(i)?))) {
+                    let said = differs(thread, case, i as u64 + 1 == spoil);
+                    if said.is_err() {
+                        next.store(list.len(), Ordering::Relaxed);
+                    }
+                    let _ = send.send((i, said));
+                }
+            });
         }
+    });
+    drop(send);
+    let said: BTreeMap<usize, _> = receive.iter().collect();
+    let said = said.into_values().collect::<Result<Vec<_>, String>>()?;
+    let differing: Vec<&String> = said.iter().flatten().collect();
+    for what in differing.iter().take(SHOWN) {
+        println!("{what}");
     }
-    println!("{compared} compared, {differ} differ");
-    Ok(compared > 0 && differ == 0)
+    println!("{} compared, {} differ", said.len(), differing.len());
+    Ok(!said.is_empty() && differing.is_empty())
 }
 
 /// How many there are of each sort, in one line.

@@ -17,12 +17,18 @@ fn damaged(case: &str, input: Vec<u8>, room: Option<u64>) -> Damaged {
     Damaged { case: case.to_string(), input, room }
 }
 
-/// A real book cut at every byte, and with every room up to its length.
+/// A real book cut at every byte of its head and contents and of the last float of each block, and at every eleventh between; and
+/// with rooms up to its length.
 pub fn real(book: &[u8]) -> Vec<Damaged> {
     let cut = |n: usize| damaged(&format!("real, cut at {n}"), book[..n].to_vec(), None);
     let roomy = |n: usize| damaged("real", book.to_vec(), Some(n as u64));
+    let list = entries(book);
+    let ends: Vec<usize> = list.iter().map(|e| e.offset as usize + 24 * e.n as usize).collect();
+    let edge = |n: &usize| {
+        *n <= HEAD + ENTRY * list.len() || n % 11 == 0 || ends.iter().any(|end| (end - 9..=end + 1).contains(n))
+    };
     let step = |n: &usize| n % 24 == 8 || n % 24 == 7 || *n < 16;
-    (0..=book.len()).map(cut).chain((0..=book.len() + 8).filter(step).map(roomy)).collect()
+    (0..=book.len()).filter(edge).map(cut).chain((0..=book.len() + 8).filter(step).map(roomy)).collect()
 }
 
 fn put(book: &mut [u8], at: usize, bytes: &[u8]) {
@@ -79,23 +85,24 @@ fn header(c: &mut Chance, book: &mut [u8]) {
     put(book, if c.one_in(2) { 0 } else { 4 }, &(number as u32).to_le_bytes());
 }
 
-/// As many entries as the input can have, each with its block somewhere in the contents.
+/// As many entries as its length has room for, each with its block somewhere in the contents. Some are as long as the input can be.
 fn crowded(c: &mut Chance) -> Vec<u8> {
-    let count = (LIMIT - HEAD) / ENTRY;
-    let mut book = vec![0; LIMIT];
-    put(&mut book, 0, &(LIMIT as u32).to_le_bytes());
+    let length = if c.one_in(10) { LIMIT } else { c.between(400, 4_000) as usize };
+    let count = (length - HEAD) / ENTRY;
+    let mut book = vec![0; length];
+    put(&mut book, 0, &(length as u32).to_le_bytes());
     put(&mut book, 4, &(count as u32).to_le_bytes());
     let apart = c.pick(&[1, 3, 7]);
     for i in 0..count {
         let at = HEAD + ENTRY * i;
         let start = match apart {
-            1 => c.below(3_000),
+            1 => c.below(count as u64 * 6 / 5),
             3 => 10 * (count - i) as u64,
             _ => 10 * i as u64,
         };
         put(&mut book, at, &(c.between(2, 6) as u16).to_le_bytes());
         put(&mut book, at + 2, &2u16.to_le_bytes());
-        put(&mut book, at + 4, &(8 * c.below(7_000) as u32).to_le_bytes());
+        put(&mut book, at + 4, &(8 * c.below(length as u64 / 9) as u32).to_le_bytes());
         put(&mut book, at + 8, &start.to_le_bytes());
         put(&mut book, at + 16, &c.between(1, 12).to_le_bytes());
     }
@@ -126,7 +133,8 @@ fn one(c: &mut Chance, i: usize) -> Damaged {
         4 => book.truncate(c.below(book.len() as u64 + 1) as usize),
         5 => book = crowded(c),
         6 => {
-            let (_, make) = c.pick(&damage::all().collect::<Vec<_>>());
+            let all: Vec<_> = damage::all().collect();
+            let (_, make) = all[i / 8 % all.len()];
             let whole = sturdy(c);
             book = make(c, whole);
         }

@@ -1,0 +1,26 @@
+-- `pull::pulls::less` meets its contract. Assumes nothing.
+use Rattle.pull.specs.Sum.{lessBy}
+use borrow.Author.Needs.{needs}
+use Rattle.pull.proofs.pulls.less.Statement.{statement}
+use Rattle.pull.proofs.pulls.less.Tie as tie
+
+difference-requires : tie.Need-difference-requires
+difference-requires c κs = search needs
+
+pull-requires : tie.Need-pull-requires
+pull-requires c κs = search needs
+
+take-off-requires : tie.Need-take-off-requires
+take-off-requires c κs = search needs
+
+returns : tie.Need-returns
+unfolding lessBy
+returns c = rw (c .take-off .ensures, c .before .pull .ensures, c .before .before .difference .ensures, c .before .before .before .before .before .if1 .taken)
+
+returns-2 : tie.Need-returns-2
+unfolding lessBy
+returns-2 c = rw (c .if1 .left)
+
+pub less-spec : {M : Type 1} → statement M
+less-spec =
+    tie.close (tie.spec difference-requires pull-requires take-off-requires returns returns-2)

@@ -1,0 +1,13 @@
+-- `pull::pulls::pull_by` meets its contract. Assumes nothing.
+use borrow.Author.Needs.{needs}
+use Rattle.pull.proofs.pulls.pull_by.Statement.{statement}
+use Rattle.pull.proofs.pulls.pull_by.Tie as tie
+
+divides-requires : tie.Need-divides-requires
+divides-requires c κs = search needs
+
+returns : tie.Need-returns
+returns c = rw (c .divides .ensures)
+
+pub pull-by-spec : {M : Type 1} → statement M
+pull-by-spec = tie.close (tie.spec divides-requires returns)
