@@ -1,9 +1,9 @@
 #!/usr/bin/env bash
-# What strip, ask, repair, compare and table say where something cannot be done: files that cannot be read, words that they do not take, a full disk.
+# What strip, strip144, ask, repair, compare and table say where something cannot be done: files that cannot be read, words that they do not take, a full disk.
 # One line for each check; ends with 1 if one failed.
 cd "$(dirname "$0")/.." || exit 2
 . tests/programs.sh
-[ -x target/bin/ask ] && [ -x target/bin/strip ] && [ -x target/bin/repair ] && [ -x target/bin/compare ] && [ -x target/bin/table ] || rt check ask strip repair compare table >/dev/null || exit 2
+[ -x target/bin/ask ] && [ -x target/bin/strip ] && [ -x target/bin/strip144 ] && [ -x target/bin/repair ] && [ -x target/bin/compare ] && [ -x target/bin/table ] || rt check ask strip strip144 repair compare table >/dev/null || exit 2
 work=$PWD/target/told
 rm -rf "$work"
 mkdir -p "$work"
@@ -47,9 +47,9 @@ check "ask with two words" '' '^use: ask \[BOOK\] < QUESTIONS$'
 says "$dates" ask "$work/long"
 check "ask with a book above the limit" $'1950 1 1\nREFUSED 1' ''
 zeros=0000000000000000 small=00000000000000000000
-longest="fly 4020000000000000$(printf " $zeros%.0s" {1..5})$(printf " $small%.0s" {1..3}) 00000000000000000001 4000000000000000$(printf " $zeros%.0s" {1..3}) 4010000000000000 $zeros 00000000000000001000$(printf " $small%.0s" {1..7})"
+longest="fly 4020000000000000$(printf " $zeros%.0s" {1..5}) $small$(printf " $zeros%.0s" {1..3})$(printf " $small%.0s" {1..2}) 00000000000000000001 4000000000000000$(printf " $zeros%.0s" {1..3}) 4010000000000000 $zeros 00000000000000001000$(printf " $small%.0s" {1..7})"
 says "$longest"$'\n' ask
-[ ${#longest} = 459 ] || echo "the longest call has ${#longest} bytes" >>"$work/err"
+[ ${#longest} = 510 ] || echo "the longest call has ${#longest} bytes" >>"$work/err"
 check "ask with the longest call" 'REFUSED 1 0 0 1 4000000000000000 0000000000000000 0000000000000000 0000000000000000 4010000000000000 0000000000000000 0 0 0 0 0' ''
 says "$longest 0"$'\n' ask
 check "ask with a field more" UNREADABLE ''
@@ -57,19 +57,24 @@ printf '%s' "$dates" | $start target/bin/ask >/dev/full 2>"$work/err"
 : >"$work/out"
 check "ask on a full disk" '' '^ask: cannot write the answers: No space left on device$'
 
-says '' strip more
-check "strip with a word" '' '^use: strip < INPUT$'
-says '' strip
-check "strip without input" 'REFUSED 1' ''
-$start target/bin/strip <"$work" >"$work/out" 2>"$work/err"
-check "strip with a directory" '' '^strip: cannot read standard input: Is a directory$'
-cat data/orders/check-case-1.order "$work/long" | $start target/bin/strip >"$work/out" 2>"$work/err"
-check "strip with a book above the limit" 'REFUSED 1' ''
-: >"$work/out"
-cat data/orders/check-case-1.order data/books/book31all.bin | $start target/bin/strip >/dev/full 2>"$work/err"
-check "strip on a full disk" '' '^strip: cannot write the listing: No space left on device$'
-printf '' | $start target/bin/strip >/dev/full 2>"$work/err"
-check "a lone refusal on a full disk" '' '^strip: cannot write the listing: No space left on device$'
+for strip in strip strip144; do
+    order=data/orders/check-case-1.order${strip#strip}
+    says '' $strip more
+    check "$strip with a word" '' "^use: $strip < INPUT\$"
+    says '' $strip
+    check "$strip without input" 'REFUSED 1' ''
+    $start target/bin/$strip <"$work" >"$work/out" 2>"$work/err"
+    check "$strip with a directory" '' "^$strip: cannot read standard input: Is a directory\$"
+    cat $order "$work/long" | $start target/bin/$strip >"$work/out" 2>"$work/err"
+    check "$strip with a book above the limit" 'REFUSED 1' ''
+    : >"$work/out"
+    cat $order data/books/book31all.bin | $start target/bin/$strip >/dev/full 2>"$work/err"
+    check "$strip on a full disk" '' "^$strip: cannot write the listing: No space left on device\$"
+    printf '' | $start target/bin/$strip >/dev/full 2>"$work/err"
+    check "a lone refusal of $strip on a full disk" '' "^$strip: cannot write the listing: No space left on device\$"
+done
+head -c 143 data/orders/check-case-1.order144 | $start target/bin/strip144 >"$work/out" 2>"$work/err"
+check "strip144 with an order of 143 bytes" 'REFUSED 1' ''
 
 for room in 61441 -1 0x10 '1 2' '' 123456789012345678901; do
     says '' repair "$room"

@@ -1,13 +1,14 @@
 //! `bench BOOK ORDER [TIMES]`: the proved calls beside the Rust reference, in one process. The
 //! flight is the order's state with the Earth, the Moon and the Sun for thirty days at one-minute
-//! steps, and a second one is an orbit about the Moon for as long. Answers are compared bit by bit
-//! first. Each pair is then timed TIMES times, one after the other in turn, and the least time of
+//! steps, a second one is an orbit about the Moon for as long, and a third is the first with the
+//! oblate Earth and sunlight. Answers are compared bit by bit first. Each pair is then timed TIMES times, one after the other in turn, and the least time of
 //! each is printed, with the first over the second.
 
 use std::hint::black_box;
 use std::process::ExitCode;
 use std::time::Instant;
 
+use reference::extras::Extras;
 use reference::motion::{run, Outcome, Ran, Setting, State};
 use reference::strip::read_order;
 
@@ -39,8 +40,8 @@ impl Flight<'_> {
     }
 
     fn by_proved(&self) -> belfrywool::Ran {
-        let Setting { coefficients, dut, rule } = self.setting;
-        let setting = belfrywool::Setting { coefficients, dut, rule };
+        let Setting { coefficients, dut, extras: Extras { j, a, k }, rule } = self.setting;
+        let setting = belfrywool::Setting { coefficients, extras: [j, a, k], dut, rule };
         let State { moment, centre, position: [x, y, z], velocity: [vx, vy, vz] } = self.start;
         let state = belfrywool::State { moment, centre, coordinates: [x, y, z, vx, vy, vz] };
         (self.walk)(black_box(self.book), &setting, &state, H, self.target(), u32::MAX, &[0; 5])
@@ -73,6 +74,11 @@ impl Flight<'_> {
 fn about_the_moon(order: &State, setting: &Setting) -> State {
     let (r, m) = (5000.0, setting.coefficients[MOON as usize - 1]);
     State { moment: order.moment, centre: MOON, position: [r, 0.0, 0.0], velocity: [0.0, (m / r).sqrt(), 0.0] }
+}
+
+/// The setting with document 003's J and A, and sunlight as on a craft of 10 m² and 300 kg.
+fn with_terms(setting: &Setting) -> Setting {
+    Setting { extras: Extras { k: 3.4e6, ..Extras::NOMINAL }, ..*setting }
 }
 
 /// Nanoseconds of one turn, the least of so many times; `first` and `second` in turn.
@@ -156,13 +162,15 @@ fn bench(words: &[String]) -> Result<(), String> {
     let read = |file| std::fs::read(file).map_err(|error| format!("{file}: {error}"));
     let order = read_order(&read(order)?).ok_or("the order is too short")?;
     let [earth, moon, sun, ..] = order.setting.coefficients;
-    let setting = Setting { coefficients: [earth, moon, sun, 0.0, 0.0, 0.0], dut: order.setting.dut, rule: 0 };
+    let setting = Setting { coefficients: [earth, moon, sun, 0.0, 0.0, 0.0], ..order.setting };
     let book = read(book)?;
     let flight = Flight { book: &book, setting, start: order.state, walk: belfrywool::run };
     flight.timed("thirty days", times)?;
     let moon = about_the_moon(&order.state, &setting);
     let flight = Flight { start: moon, walk: belfrywool::fly, ..flight };
     flight.timed("thirty days about the Moon", times)?;
+    let flight = Flight { start: order.state, setting: with_terms(&setting), ..flight };
+    flight.timed("thirty days with the oblate Earth and sunlight", times)?;
     books(times, &book, flight.target());
     roots(times);
     angles(times);

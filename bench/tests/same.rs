@@ -2,6 +2,7 @@
 //! run hands back, bit by bit.
 
 use belfrywool as proved;
+use reference::extras::Extras;
 use reference::hour::CIRCLE;
 use reference::sphere::QUARTER;
 use reference::trial::centres::{centred, some_centre};
@@ -10,6 +11,7 @@ use reference::trial::floats::{flight, one_not_finite, wild};
 use reference::trial::mends::made;
 use reference::trial::plan::worlds;
 use reference::trial::runs::RUN;
+use reference::trial::terms::TERMS;
 use reference::trial::times::{bad_dut, bad_moment, hard_ut, moment_dut, some_rule};
 use reference::trial::trip::{bad_centre, Trip};
 use reference::trial::world::World;
@@ -173,9 +175,9 @@ fn proved_back(ran: &proved::Ran) -> Back {
 
 /// Setting and state of a trip for the proved calls.
 fn given(t: &Trip) -> (proved::Setting, proved::State) {
-    let motion::Setting { coefficients, dut, rule } = t.setting;
+    let motion::Setting { coefficients, dut, extras: Extras { j, a, k }, rule } = t.setting;
     let (state, _) = both(t.state.moment, t.state.centre, joined(t.state.position, t.state.velocity));
-    (proved::Setting { coefficients, dut, rule }, state)
+    (proved::Setting { coefficients, extras: [j, a, k], dut, rule }, state)
 }
 
 /// The calls about the Earth.
@@ -221,6 +223,12 @@ fn books_and_runs() {
                 on_a_book(&mut c, w, &t.clone().shortened(w.bytes(), 100));
                 let t = centred(&mut c, t).shortened(w.bytes(), 100);
                 about_a_centre(&mut c, w, &t);
+                compared += 1;
+            }
+        }
+        for (_, make) in TERMS.iter().cycle().take(200) {
+            for (_, t) in make(&mut c, w) {
+                about_a_centre(&mut c, w, &t.shortened(w.bytes(), 100));
                 compared += 1;
             }
         }

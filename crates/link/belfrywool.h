@@ -11,7 +11,8 @@
    Moments are milliseconds of ephemeris time since 0h 1950 January 1. DUT is ephemeris time less UT, in milliseconds.
    A setting is the gravitational coefficients of the bodies 1 to 6 (Earth, Moon, Sun, Venus, Mars, Jupiter) in km^3/s^2, and DUT.
    A state is a moment and six coordinates: x, y, z in km, then their rates in km/s, from a centre, the number of a body. Calls
-   that take no centre are about the Earth; calls that take no rule go by rule 0. */
+   that take no centre are about the Earth; calls that take no extras leave oblateness and sunlight out; calls that take no rule go
+   by rule 0. */
 #ifndef BELFRYWOOL_H
 #define BELFRYWOOL_H
 
@@ -30,7 +31,7 @@ enum {
     BELFRY_BOOK = 1,         /* the book does not pass */
     BELFRY_STEP = 2,         /* h is not allowed */
     BELFRY_MOMENT = 3,       /* a moment or UT is out of range */
-    BELFRY_SETTING = 4,      /* a coefficient, DUT or the rule of the hour angle is not allowed */
+    BELFRY_SETTING = 4,      /* a coefficient, J, A, K, DUT or the rule of the hour angle is not allowed */
     BELFRY_TARGET = 5,       /* the target is before the state, or not a whole number of steps away */
     BELFRY_COVER = 6,        /* a body has no cover */
     BELFRY_NOT_FINITE = 7,   /* a given state or a result is not finite */
@@ -125,24 +126,27 @@ uint64_t belfry_from_sphere(uint64_t rule, uint64_t moment, uint32_t dut, const 
    figures: a, e, p, q, and the far distance of an ellipse or the root of c3 of a hyperbola. */
 uint64_t belfry_conic(double m, uint64_t moment, const double coordinates[6], uint64_t names[2], double figures[5]);
 
-/* The calls about a centre, 1 to 6, under the whole setting: rule is the rule of the hour angle, as belfry_sidereal takes it. A
+/* The calls about a centre, 1 to 6, under the whole setting. extras: J and A, the Earth's oblateness and radius in km, and K, the
+   sunlight in km^3/s^2; a term whose J or K is 0 is left out, and with K above 0 the Sun is looked up even where its coefficient
+   is 0. Negative or not finite ones are BELFRY_SETTING. rule is the rule of the hour angle, as belfry_sidereal takes it. A
    centre has to be a body whose coefficient is above 0, else BELFRY_CENTRE. */
 
 /* acceleration: as belfry_acceleration, of a craft at a position from the centre. */
-uint64_t belfry_pull(const uint8_t *book, size_t length, const double coefficients[6], uint32_t dut, uint64_t rule,
-                     uint64_t moment, uint64_t centre, const double position[3], double acceleration[3]);
+uint64_t belfry_pull(const uint8_t *book, size_t length, const double coefficients[6], const double extras[3],
+                     uint32_t dut, uint64_t rule, uint64_t moment, uint64_t centre, const double position[3],
+                     double acceleration[3]);
 
 /* moved: the same craft about the centre `target_centre`: its coordinates less those of that centre, seen from the one that it
    has. The moment stays. */
-uint64_t belfry_move(const uint8_t *book, size_t length, const double coefficients[6], uint32_t dut, uint64_t rule,
-                     uint64_t moment, uint64_t centre, const double coordinates[6], uint64_t target_centre,
-                     double moved[6]);
+uint64_t belfry_move(const uint8_t *book, size_t length, const double coefficients[6], const double extras[3],
+                     uint32_t dut, uint64_t rule, uint64_t moment, uint64_t centre, const double coordinates[6],
+                     uint64_t target_centre, double moved[6]);
 
 /* As belfry_run, about the centre. The state that it writes is about the same one. */
-uint64_t belfry_fly(const uint8_t *book, size_t length, const double coefficients[6], uint32_t dut, uint64_t rule,
-                    uint64_t moment, uint64_t centre, const double coordinates[6], uint32_t h, uint64_t target,
-                    uint32_t budget, const uint64_t guesses[5], uint64_t *reached, double there[6],
-                    uint64_t entries[5], uint32_t *steps);
+uint64_t belfry_fly(const uint8_t *book, size_t length, const double coefficients[6], const double extras[3],
+                    uint32_t dut, uint64_t rule, uint64_t moment, uint64_t centre, const double coordinates[6],
+                    uint32_t h, uint64_t target, uint32_t budget, const uint64_t guesses[5], uint64_t *reached,
+                    double there[6], uint64_t entries[5], uint32_t *steps);
 
 /* turned: as belfry_earth_fixed, by the rule. A state about another centre than the Earth is BELFRY_CENTRE. */
 uint64_t belfry_turn(uint64_t rule, uint32_t dut, uint64_t moment, uint64_t centre, const double coordinates[6],

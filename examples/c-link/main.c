@@ -247,17 +247,20 @@ static void told_from(const char *what, uint32_t steps, uint64_t centre, const d
 
 static const double three[6] = {398600.63, 4902.6293, 132714110000};
 
+/* J, A and K: the Earth's oblateness as JPL had it, and no sunlight. */
+static const double oblate[3] = {0.001623450, 6378.1650, 0};
+
 /* One call about a centre, to the target. */
 static uint32_t flown(struct place *now, uint64_t centre, uint64_t target) {
     struct place next;
     uint32_t steps;
-    belfry_fly(lent, lent_length, three, 35000, 0, now->moment, centre, now->coordinates, (uint32_t)minute, target, UINT32_MAX,
+    belfry_fly(lent, lent_length, three, oblate, 35000, 0, now->moment, centre, now->coordinates, (uint32_t)minute, target, UINT32_MAX,
                now->guesses, &next.moment, next.coordinates, next.guesses, &steps);
     *now = next;
     return steps;
 }
 
-/* JPL's check case 1 under the Moon and the Sun: 58 hours about the Earth, a move to the Moon, four hours about it. */
+/* JPL's check case 1 under the oblate Earth, the Moon and the Sun: 58 hours about the Earth, a move to the Moon, four hours about it. */
 static void to_the_moon(void) {
     struct place now = {UINT64_C(411331356297), {5936.9501, 2718.6042, -728.83219, -4.2284408, 8.5267773, -5.4530145}, {0}};
     const uint64_t reached = now.moment + 58 * hour;
@@ -265,18 +268,18 @@ static void to_the_moon(void) {
     uint64_t names[2], number;
     uint32_t steps = flown(&now, EARTH, reached);
     told_from("toward the Moon", steps, EARTH, now.coordinates);
-    belfry_move(lent, lent_length, three, 35000, 0, now.moment, EARTH, now.coordinates, MOON, moon);
+    belfry_move(lent, lent_length, three, oblate, 35000, 0, now.moment, EARTH, now.coordinates, MOON, moon);
     memcpy(now.coordinates, moon, sizeof moon);
     told_from("moved to the Moon", 0, MOON, now.coordinates);
     printf("turned about the Moon:");
     refused(belfry_turn(0, 35000, now.moment, MOON, now.coordinates, turned));
     printf("moved to Mars, which is not used:");
-    refused(belfry_move(lent, lent_length, three, 35000, 0, now.moment, MOON, now.coordinates, MARS, moon));
+    refused(belfry_move(lent, lent_length, three, oblate, 35000, 0, now.moment, MOON, now.coordinates, MARS, moon));
     steps = flown(&now, MOON, reached + 4 * hour);
     told_from("four hours on", steps, MOON, now.coordinates);
     printf("there:");
     floats(now.coordinates, 6);
-    belfry_pull(lent, lent_length, three, 35000, 0, now.moment, MOON, now.coordinates, acceleration);
+    belfry_pull(lent, lent_length, three, oblate, 35000, 0, now.moment, MOON, now.coordinates, acceleration);
     printf("its acceleration:");
     floats(acceleration, 3);
     number = belfry_orbit(three[1], now.moment, MOON, now.coordinates, names, figures);

@@ -2,7 +2,7 @@
 
 use crate::conic::{conic, Kind};
 use crate::fields::{
-    all_shown, decimal, decimals, float, floats, put_in, setting, shown, signed, small, state, state_shown, told, two,
+    all_shown, decimal, decimals, float, floats, put_in, setting, shown, signed, small, state, state_shown, told, two, SETTING, STATE,
 };
 use crate::motion::{acceleration, run, Outcome, Ran};
 use crate::sphere::{from_sphere, Sphere};
@@ -82,21 +82,22 @@ pub fn ask_body(book: &[u8], f: &[&[u8]]) -> Option<String> {
 }
 
 pub fn ask_pull(book: &[u8], f: &[&[u8]]) -> Option<String> {
-    let (setting, moment) = (setting(f.get(..8)?)?, decimal(f.get(8)?)?);
-    let (centre, position) = (decimal(f.get(9)?)?, floats(f.get(10..)?)?);
+    let (setting, rest) = (setting(f.get(..SETTING)?)?, f.get(SETTING..)?);
+    let [moment, centre, position @ ..] = rest else { return None };
+    let (moment, centre, position) = (decimal(moment)?, decimal(centre)?, floats(position)?);
     Some(told(acceleration(book, &setting, moment, centre, position).map(|a| all_shown(&a))))
 }
 
 pub fn ask_move(book: &[u8], f: &[&[u8]]) -> Option<String> {
     let [.., new] = f else { return None };
-    let (setting, state) = (setting(f.get(..8)?)?, state(f.get(8..f.len() - 1)?)?);
+    let (setting, state) = (setting(f.get(..SETTING)?)?, state(f.get(SETTING..f.len() - 1)?)?);
     Some(told(moves::moved(book, &setting, &state, decimal(new)?).map(|s| state_shown(&s))))
 }
 
 /// What a line of `fly` makes.
 pub fn flown(book: &[u8], f: &[&[u8]]) -> Option<Ran> {
-    let (setting, state) = (setting(f.get(..8)?)?, state(f.get(8..16)?)?);
-    let [h, target, budget, guesses @ ..] = f.get(16..)? else { return None };
+    let (setting, state) = (setting(f.get(..SETTING)?)?, state(f.get(SETTING..SETTING + STATE)?)?);
+    let [h, target, budget, guesses @ ..] = f.get(SETTING + STATE..)? else { return None };
     let (h, target, budget) = (small(h)?, decimal(target)?, small(budget)?);
     Some(run(book, &setting, &state, h, target, budget, decimals(guesses)?))
 }
@@ -124,10 +125,13 @@ pub fn ask_run(book: &[u8], f: &[&[u8]]) -> Option<String> {
     Some(ran_line(&ran, &format!("{} {}", s.moment, all_shown(&two(s.position, s.velocity)))))
 }
 
-/// An old line means rule 0 and the Earth: their numbers, put in where the new line has them. A conic looks at no moment.
+/// An old line means rule 0 and the Earth, with J, A and K zero: put in where the new line has them. A conic looks at no moment.
 pub const RULE: &[u8] = b"0";
 pub const CENTRE: &[u8] = b"1";
 pub const MOMENT: &[u8] = b"0";
+pub const ZERO: &[u8] = b"0000000000000000";
+/// What an old line of an acceleration or of a run lacks.
+pub const LACKING: [(usize, &[u8]); 5] = [(7, ZERO), (8, ZERO), (9, ZERO), (10, RULE), (12, CENTRE)];
 
 /// The answer to one line, without line feeds; None when it is unreadable.
 pub fn readable(book: &[u8], line: &[u8]) -> Option<String> {
@@ -149,9 +153,9 @@ pub fn readable(book: &[u8], line: &[u8]) -> Option<String> {
         b"conic" => ask_orbit(&put_in(rest, &[(1, MOMENT), (2, CENTRE)])?),
         b"orbit" => ask_orbit(rest),
         b"body" => ask_body(book, rest),
-        b"accel" => ask_pull(book, &put_in(rest, &[(7, RULE), (9, CENTRE)])?),
+        b"accel" => ask_pull(book, &put_in(rest, &LACKING)?),
         b"pull" => ask_pull(book, rest),
-        b"run" => ask_run(book, &put_in(rest, &[(7, RULE), (9, CENTRE)])?),
+        b"run" => ask_run(book, &put_in(rest, &LACKING)?),
         b"fly" => ask_fly(book, rest),
         b"move" => ask_move(book, rest),
         _ => None,

@@ -1,5 +1,6 @@
 //! The fields of a question line and of its answer.
 
+use crate::extras::Extras;
 use crate::motion::{Setting, State};
 use crate::vector::Vector;
 
@@ -93,13 +94,18 @@ pub fn signed(field: &[u8]) -> Option<i128> {
     }
 }
 
-/// Eight fields: six coefficients, DUT and the rule.
+/// How many fields a setting has, and a state.
+pub const SETTING: usize = 11;
+pub const STATE: usize = 8;
+
+/// The fields of a setting: six coefficients, DUT, J, A and K, and the rule.
 pub fn setting(f: &[&[u8]]) -> Option<Setting> {
-    let [_, _, _, _, _, _, dut, rule] = f else { return None };
-    Some(Setting { coefficients: floats(&f[..6])?, dut: small(dut)?, rule: decimal(rule)? })
+    let [_, _, _, _, _, _, dut, terms @ .., rule] = f else { return None };
+    let [j, a, k] = floats(terms)?;
+    Some(Setting { coefficients: floats(&f[..6])?, dut: small(dut)?, extras: Extras { j, a, k }, rule: decimal(rule)? })
 }
 
-/// Eight fields: moment, centre, position and velocity.
+/// The fields of a state: moment, centre, position and velocity.
 pub fn state(f: &[&[u8]]) -> Option<State> {
     let [moment, centre, six @ ..] = f else { return None };
     let (position, velocity) = halves(floats(six)?);

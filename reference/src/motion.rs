@@ -1,20 +1,23 @@
 //! Acceleration, the step and the run.
 
 use crate::book;
+use crate::extras::{self, Extras};
 use crate::hour::{self, END};
-use crate::root::root;
-use crate::vector::{add, along, finite, n, sub, Vector};
+use crate::pull::pull;
+use crate::vector::{add, along, finite, sub, Vector};
 
-/// Six gravitational coefficients by body number from 1, DUT, and the rule of the hour angle.
+/// Six gravitational coefficients by body number from 1, DUT, J, A and K, and the rule of the hour angle.
 #[derive(Clone, Copy, Debug)]
 pub struct Setting {
     pub coefficients: [f64; 6],
     pub dut: u32,
+    pub extras: Extras,
     pub rule: u64,
 }
 
-/// The Earth's number, and the numbers a centre can have.
+/// The numbers of the Earth and the Sun, and the numbers a centre can have.
 pub const EARTH: u64 = 1;
+pub const SUN: u64 = 3;
 pub const CENTRES: std::ops::RangeInclusive<u64> = 1..=6;
 
 /// A moment and a centre, with position and velocity from that centre.
@@ -53,13 +56,14 @@ pub struct Ran {
     pub guesses: [u64; 5],
 }
 
-/// Coefficients, DUT and rule; else 4.
+/// Coefficients, J, A and K, DUT and rule; else 4.
 pub fn setting_allowed(setting: &Setting) -> Result<(), u64> {
     let m = setting.coefficients;
     let allowed = m.iter().all(|c| c.is_finite() && *c >= 0.0) && m[0] > 0.0;
     if !allowed {
         return Err(4);
     }
+    setting.extras.allowed()?;
     hour::allowed(setting.rule, setting.dut)
 }
 
@@ -68,9 +72,10 @@ pub fn used(setting: &Setting) -> impl Iterator<Item = (usize, f64)> + '_ {
     (1..=6).map(|body| (body, setting.coefficients[body - 1])).filter(|&(_, m)| m > 0.0)
 }
 
-/// Those of them that a book has: all but the Earth.
+/// The bodies looked up: the used ones but the Earth, and the Sun where it shines, used or not.
 pub fn looked_up(setting: &Setting) -> impl Iterator<Item = usize> + '_ {
-    used(setting).map(|(body, _)| body).filter(|&body| body as u64 != EARTH)
+    let lit = |body| body as u64 == SUN && setting.extras.sun_shines();
+    (2..=6).filter(move |&body| setting.coefficients[body - 1] > 0.0 || lit(body))
 }
 
 /// A centre is one of the used bodies; else 14.
@@ -78,20 +83,7 @@ pub fn centre_allowed(setting: &Setting, centre: u64) -> Result<(), u64> {
     used(setting).any(|(body, _)| body as u64 == centre).then_some(()).ok_or(14)
 }
 
-/// g(v, m); 7 when n is not finite, or r3 is zero or not finite.
-pub fn pull(v: Vector, m: f64) -> Result<Vector, u64> {
-    let n = n(v);
-    if !n.is_finite() {
-        return Err(7);
-    }
-    let r3 = n * root(n).map_err(|_| 7u64)?;
-    if r3 == 0.0 || !r3.is_finite() {
-        return Err(7);
-    }
-    Ok([(m * v[0]) / r3, (m * v[1]) / r3, (m * v[2]) / r3])
-}
-
-/// Positions of the used bodies from the Earth, looked up in rising number: 6, then 7, body by body. The Earth's is zero.
+/// Positions from the Earth, of the bodies looked up in rising number: 6, then 7, body by body. The Earth's is zero.
 pub fn lookups(book: &[u8], setting: &Setting, t: u64) -> Result<[Vector; 7], u64> {
     let mut places = [[0.0; 3]; 7];
     for body in looked_up(setting) {
@@ -111,6 +103,8 @@ pub fn slope(book: &[u8], setting: &Setting, t: u64, centre: u64, p: Vector) -> 
         let r = sub(places[body], places[centre]);
         a = sub(a, add(pull(sub(p, r), m)?, pull(r, m)?));
     }
+    let from = |body: u64| sub(p, sub(places[body as usize], places[centre]));
+    a = extras::with_both(a, &setting.extras, from(EARTH), setting.coefficients[0], from(SUN))?;
     if finite(a) {
         Ok(a)
     } else {

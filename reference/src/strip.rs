@@ -1,12 +1,14 @@
-//! The program strip, as a function from its input to its output.
+//! The programs strip and strip144, as functions from their input to their output.
 
 use std::io::{self, Write};
 
 use crate::book::{bytes_at, float_at, LIMIT};
+use crate::extras::Extras;
 use crate::motion::{self, Setting, State, EARTH};
 
-/// Bytes of an order.
+/// Bytes of an order, and of one with J, A and K behind it.
 pub const ORDER: usize = 120;
+pub const ORDER_144: usize = 144;
 
 #[derive(Clone, Copy, Debug)]
 pub struct Order {
@@ -16,7 +18,7 @@ pub struct Order {
     pub target: u64,
 }
 
-/// The order at the front of the input, if it is long enough; it has no centre, and so the Earth.
+/// The order at the front of the input, if it is long enough; it has no centre, and so the Earth, and no last terms.
 pub fn read_order(input: &[u8]) -> Option<Order> {
     let mut f = [0.0; 6];
     for (i, value) in f.iter_mut().enumerate() {
@@ -32,7 +34,25 @@ pub fn read_order(input: &[u8]) -> Option<Order> {
     let h = bytes_at(input, 104).map(u32::from_le_bytes)?;
     let dut = bytes_at(input, 108).map(u32::from_le_bytes)?;
     let target = bytes_at(input, 112).map(u64::from_le_bytes)?;
-    Some(Order { setting: Setting { coefficients: f, dut, rule: 0 }, state, h, target })
+    let setting = Setting { coefficients: f, dut, extras: Extras::NONE, rule: 0 };
+    Some(Order { setting, state, h, target })
+}
+
+/// The same with J, A and K behind it.
+pub fn read_order144(input: &[u8]) -> Option<Order> {
+    let order = read_order(input)?;
+    let at = |i: usize| float_at(input, ORDER + 8 * i);
+    let extras = Extras { j: at(0)?, a: at(1)?, k: at(2)? };
+    Some(Order { setting: Setting { extras, ..order.setting }, ..order })
+}
+
+/// An order that stands alone, of either length.
+pub fn read_either(order: &[u8]) -> Option<Order> {
+    match order.len() {
+        ORDER => read_order(order),
+        ORDER_144 => read_order144(order),
+        _ => None,
+    }
 }
 
 /// One line for a state.
@@ -45,13 +65,11 @@ pub fn state_line(s: &State) -> String {
     line
 }
 
-/// Header, states and outcome, written as they come.
-pub fn strip_into(input: &[u8], out: &mut impl Write) -> io::Result<()> {
-    let Some(order) = read_order(input) else {
+/// Header, states and outcome of an order under a book, written as they come; no order is one that the input was too short for.
+pub fn listing_into(order: Option<Order>, book: &[u8], out: &mut impl Write) -> io::Result<()> {
+    let Some(Order { setting, mut state, h, target }) = order else {
         return out.write_all(b"REFUSED 1\n");
     };
-    let book = input.get(ORDER..).unwrap_or(&[]);
-    let Order { setting, mut state, h, target } = order;
     if book.len() > LIMIT {
         return out.write_all(b"REFUSED 1\n");
     }
@@ -72,9 +90,25 @@ pub fn strip_into(input: &[u8], out: &mut impl Write) -> io::Result<()> {
     writeln!(out, "ARRIVED {steps}")
 }
 
+/// What strip prints.
+pub fn strip_into(input: &[u8], out: &mut impl Write) -> io::Result<()> {
+    listing_into(read_order(input), input.get(ORDER..).unwrap_or(&[]), out)
+}
+
+/// What strip144 prints.
+pub fn strip144_into(input: &[u8], out: &mut impl Write) -> io::Result<()> {
+    listing_into(read_order144(input), input.get(ORDER_144..).unwrap_or(&[]), out)
+}
+
 pub fn strip(input: &[u8]) -> Vec<u8> {
     let mut out = Vec::new();
     // Writing into memory does not fail.
     let _ = strip_into(input, &mut out);
+    out
+}
+
+pub fn strip144(input: &[u8]) -> Vec<u8> {
+    let mut out = Vec::new();
+    let _ = strip144_into(input, &mut out);
     out
 }

@@ -2,6 +2,7 @@
 
 use reference::ask::answer;
 use reference::conic::conic;
+use reference::extras::Extras;
 use reference::fixed::earth_fixed;
 use reference::hour::END;
 use reference::motion::{acceleration, run, Outcome, Setting, State};
@@ -23,7 +24,7 @@ fn book() -> Vec<u8> {
 const MIDDLE: u64 = 50;
 
 fn setting(m: [f64; 3]) -> Setting {
-    Setting { coefficients: [m[0], m[1], m[2], 0.0, 0.0, 0.0], dut: 0, rule: 0 }
+    Setting { coefficients: [m[0], m[1], m[2], 0.0, 0.0, 0.0], dut: 0, extras: Extras::NONE, rule: 0 }
 }
 
 fn state(centre: u64, position: [f64; 3], velocity: [f64; 3]) -> State {
@@ -90,7 +91,7 @@ fn refusals_of_a_move() {
 fn cover_before_overflow() {
     let piece = |body, start, x: f64| Piece { body, start, span: 10, coefficients: vec![x, 0.0, 0.0, 0.0, 0.0, 0.0] };
     let book = build(&[piece(2, 0, 1.7e308), piece(3, 0, -1.7e308), piece(4, 10, 1.0)]);
-    let setting = Setting { coefficients: [1.0, 1.0, 1.0, 1.0, 0.0, 0.0], dut: 0, rule: 0 };
+    let setting = Setting { coefficients: [1.0, 1.0, 1.0, 1.0, 0.0, 0.0], dut: 0, extras: Extras::NONE, rule: 0 };
     let number = |centre, new| {
         let s = State { moment: 0, centre, position: [0.0; 3], velocity: [0.0; 3] };
         moved(&book, &setting, &s, new).err()

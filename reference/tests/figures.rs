@@ -4,6 +4,7 @@ use reference::ask::answers;
 use reference::book::{self, Motion};
 use reference::calendar::{date_of, day_of};
 use reference::conic::{conic, Kind};
+use reference::extras::Extras;
 use reference::fixed::{earth_fixed, precession, precession_by, turned, SINCE_1950_0};
 use reference::hour::{angle_at, angle_by, exact_1982, hour_angle, sidereal, CIRCLE, DAY, END, PART};
 use reference::motion::{acceleration, start_checks, run, Outcome, Setting, State, EARTH};
@@ -42,7 +43,7 @@ fn about_earth(moment: u64, position: [f64; 3], velocity: [f64; 3]) -> State {
 }
 
 fn earth_alone(m: f64) -> Setting {
-    Setting { coefficients: [m, 0.0, 0.0, 0.0, 0.0, 0.0], dut: 0, rule: 0 }
+    Setting { coefficients: [m, 0.0, 0.0, 0.0, 0.0, 0.0], dut: 0, extras: Extras::NONE, rule: 0 }
 }
 
 #[test]

@@ -9,7 +9,7 @@ use reference::trial::books::{build, pieces, special, sturdy};
 use reference::trial::chance::Chance;
 use reference::trial::child::Said;
 use reference::trial::compare::{group_input, Tally};
-use reference::trial::plan::{groups, strips, KINDS};
+use reference::trial::plan::{groups, strips, strips144, KINDS};
 use reference::trial::trip::{break_at, trip, BREAKS};
 use reference::trial::world::World;
 use reference::trial::{damage, sizes};
@@ -146,6 +146,7 @@ fn numbers_of_calls_and_strips_are_as_asked() {
         let made = groups(&mut c, calls, &kinds(), &[]);
         assert_eq!(made.iter().map(|g| g.calls.len()).sum::<usize>(), calls);
         assert_eq!(strips(&mut c, calls, &[]).len(), calls);
+        assert_eq!(strips144(&mut c, calls, &[]).len(), calls);
     }
 }
 

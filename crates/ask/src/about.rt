@@ -1,4 +1,4 @@
-// The calls about a state and its motion. An old line is the new one about the Earth, by the old rule.
+// The calls about a state and its motion. An old line is the new one about the Earth, with J, A and K zero, by the old rule.
 
 use crate::form::Numbers;
 use crate::form::reads;
@@ -9,6 +9,7 @@ use crate::put::put_refused;
 use crate::values::guesses_from;
 use crate::values::narrowed;
 use crate::values::nth_float;
+use crate::values::old_setting;
 use crate::values::setting_of;
 use crate::values::sphere_of;
 use crate::values::state_from;
@@ -22,6 +23,7 @@ use gravity::AccelerationAnswer;
 use motion::Outcome;
 use motion::RunAnswer;
 use sphere::SphereAnswer;
+use state::Setting;
 use state::State;
 ghost use Prim.Native.Nat.{_+_, _≤_};
 ghost use Rattle.ask.specs.Room.{Between};
@@ -149,7 +151,7 @@ pub fn state_call(book: &[u8], line: &[u8], out: &mut Out, at: usize) -> usize
     requires { ⌜ at + 512 ≤ 65_536 ⌝ }
     ensures { λ r. ⌜ Between at 1 512 r ⌝ }
 {
-    let mut v = [0u64; 24];
+    let mut v = [0u64; 27];
     if reads(line, b"fixed", b"SDFFFFFF", &mut v) {
         return fixed_answer(&v, out, at);
     }
@@ -167,7 +169,7 @@ fn conic_call(book: &[u8], line: &[u8], out: &mut Out, at: usize) -> usize
     requires { ⌜ at + 512 ≤ 65_536 ⌝ }
     ensures { λ r. ⌜ Between at 1 512 r ⌝ }
 {
-    let mut v = [0u64; 24];
+    let mut v = [0u64; 27];
     if reads(line, b"conic", b"FFFFFFF", &mut v) {
         return conic_answer(&v, out, at);
     }
@@ -255,21 +257,13 @@ fn put_flight(out: &mut Out, from: usize, r: RunAnswer) -> usize
 }
 
 // After the setting and the state, from a field on, come h, the target, the budget and the guesses.
-fn run_from(book: &[u8], v: &Numbers, rule: u64, state: State, i: usize) -> RunAnswer
-    requires { ⌜ i + 8 ≤ 24 ⌝ }
+fn run_from(book: &[u8], v: &Numbers, setting: Setting, state: State, i: usize) -> RunAnswer
+    requires { ⌜ i + 8 ≤ 27 ⌝ }
 {
     let guesses = guesses_from(v, i + 3);
     let h = narrowed(v[i]);
     let budget = narrowed(v[i + 2]);
-    motion::run(
-        book,
-        setting_of(v, rule),
-        state,
-        h,
-        v[i + 1],
-        budget,
-        guesses,
-    )
+    motion::run(book, setting, state, h, v[i + 1], budget, guesses)
 }
 
 fn accel_answer(book: &[u8], v: &Numbers, out: &mut Out, at: usize) -> usize
@@ -280,7 +274,7 @@ fn accel_answer(book: &[u8], v: &Numbers, out: &mut Out, at: usize) -> usize
     put_pull(
         out,
         at,
-        gravity::acceleration(book, setting_of(v, 0), 1, v[7], position),
+        gravity::acceleration(book, old_setting(v), 1, v[7], position),
     )
 }
 
@@ -288,11 +282,11 @@ fn pull_answer(book: &[u8], v: &Numbers, out: &mut Out, at: usize) -> usize
     requires { ⌜ at + 512 ≤ 65_536 ⌝ }
     ensures { λ r. ⌜ Between at 1 512 r ⌝ }
 {
-    let position = vector_from(v, 10);
+    let position = vector_from(v, 13);
     put_pull(
         out,
         at,
-        gravity::acceleration(book, setting_of(v, v[7]), v[9], v[8], position),
+        gravity::acceleration(book, setting_of(v), v[12], v[11], position),
     )
 }
 
@@ -300,12 +294,8 @@ fn move_answer(book: &[u8], v: &Numbers, out: &mut Out, at: usize) -> usize
     requires { ⌜ at + 512 ≤ 65_536 ⌝ }
     ensures { λ r. ⌜ Between at 1 512 r ⌝ }
 {
-    let state = state_from(v, v[8], v[9], 10);
-    put_moved(
-        out,
-        at,
-        centre::move_to(book, setting_of(v, v[7]), state, v[16]),
-    )
+    let state = state_from(v, v[11], v[12], 13);
+    put_moved(out, at, centre::move_to(book, setting_of(v), state, v[19]))
 }
 
 fn run_answer(book: &[u8], v: &Numbers, out: &mut Out, at: usize) -> usize
@@ -313,15 +303,15 @@ fn run_answer(book: &[u8], v: &Numbers, out: &mut Out, at: usize) -> usize
     ensures { λ r. ⌜ Between at 1 512 r ⌝ }
 {
     let state = state_from(v, v[7], 1, 8);
-    put_run(out, at, run_from(book, v, 0, state, 14))
+    put_run(out, at, run_from(book, v, old_setting(v), state, 14))
 }
 
 fn fly_answer(book: &[u8], v: &Numbers, out: &mut Out, at: usize) -> usize
     requires { ⌜ at + 512 ≤ 65_536 ⌝ }
     ensures { λ r. ⌜ Between at 1 512 r ⌝ }
 {
-    let state = state_from(v, v[8], v[9], 10);
-    put_flight(out, at, run_from(book, v, v[7], state, 16))
+    let state = state_from(v, v[11], v[12], 13);
+    put_flight(out, at, run_from(book, v, setting_of(v), state, 19))
 }
 
 // body, accel or run, or a call with the whole setting.
@@ -329,7 +319,7 @@ fn book_call(book: &[u8], line: &[u8], out: &mut Out, at: usize) -> usize
     requires { ⌜ at + 512 ≤ 65_536 ⌝ }
     ensures { λ r. ⌜ Between at 1 512 r ⌝ }
 {
-    let mut v = [0u64; 24];
+    let mut v = [0u64; 27];
     if reads(line, b"body", b"DD", &mut v) {
         return body_answer(book, &v, out, at);
     }
@@ -342,19 +332,19 @@ fn book_call(book: &[u8], line: &[u8], out: &mut Out, at: usize) -> usize
     centred_call(book, line, out, at)
 }
 
-// pull, move or fly, whose eighth number is the rule, or none of the calls.
+// pull, move or fly, whose first eleven numbers are the setting, or none of the calls.
 fn centred_call(book: &[u8], line: &[u8], out: &mut Out, at: usize) -> usize
     requires { ⌜ at + 512 ≤ 65_536 ⌝ }
     ensures { λ r. ⌜ Between at 1 512 r ⌝ }
 {
-    let mut v = [0u64; 24];
-    if reads(line, b"pull", b"FFFFFFSDDDFFF", &mut v) {
+    let mut v = [0u64; 27];
+    if reads(line, b"pull", b"FFFFFFSFFFDDDFFF", &mut v) {
         return pull_answer(book, &v, out, at);
     }
-    if reads(line, b"move", b"FFFFFFSDDDFFFFFFD", &mut v) {
+    if reads(line, b"move", b"FFFFFFSFFFDDDFFFFFFD", &mut v) {
         return move_answer(book, &v, out, at);
     }
-    if reads(line, b"fly", b"FFFFFFSDDDFFFFFFSDSDDDDD", &mut v) {
+    if reads(line, b"fly", b"FFFFFFSFFFDDDFFFFFFSDSDDDDD", &mut v) {
         return fly_answer(book, &v, out, at);
     }
     text::known::put_bytes(out, at, b"UNREADABLE ")

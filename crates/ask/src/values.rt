@@ -15,13 +15,13 @@ pub fn narrowed(number: u64) -> u32 {
 }
 
 pub fn nth_float(v: &Numbers, i: usize) -> f64
-    requires { ⌜ i + 1 ≤ 24 ⌝ }
+    requires { ⌜ i + 1 ≤ 27 ⌝ }
 {
     text::float_of_bits(v[i])
 }
 
 pub fn vector_from(v: &Numbers, i: usize) -> Vector
-    requires { ⌜ i + 3 ≤ 24 ⌝ }
+    requires { ⌜ i + 3 ≤ 27 ⌝ }
 {
     Vector {
         x: nth_float(v, i),
@@ -32,7 +32,7 @@ pub fn vector_from(v: &Numbers, i: usize) -> Vector
 
 // Position and velocity from a field on.
 pub fn state_from(v: &Numbers, moment: u64, centre: u64, i: usize) -> State
-    requires { ⌜ i + 6 ≤ 24 ⌝ }
+    requires { ⌜ i + 6 ≤ 27 ⌝ }
 {
     let p = vector_from(v, i);
     let w = vector_from(v, i + 3);
@@ -48,8 +48,8 @@ pub fn state_from(v: &Numbers, moment: u64, centre: u64, i: usize) -> State
     }
 }
 
-// The first seven numbers are six coefficients and DUT; J, A and K are zero.
-pub fn setting_of(v: &Numbers, rule: u64) -> Setting {
+// The first seven numbers are six coefficients and DUT. An old line has no more of a setting: J, A and K are zero, and the rule is 0.
+pub fn old_setting(v: &Numbers) -> Setting {
     Setting {
         earth: nth_float(v, 0),
         moon: nth_float(v, 1),
@@ -61,12 +61,22 @@ pub fn setting_of(v: &Numbers, rule: u64) -> Setting {
         j: 0.0,
         a: 0.0,
         k: 0.0,
-        rule,
+        rule: 0,
     }
 }
 
+// The first eleven numbers: behind DUT come J, A, K and the rule.
+pub fn setting_of(v: &Numbers) -> Setting {
+    let mut setting = old_setting(v);
+    setting.j = nth_float(v, 7);
+    setting.a = nth_float(v, 8);
+    setting.k = nth_float(v, 9);
+    setting.rule = v[10];
+    setting
+}
+
 pub fn guesses_from(v: &Numbers, i: usize) -> Guesses
-    requires { ⌜ i + 5 ≤ 24 ⌝ }
+    requires { ⌜ i + 5 ≤ 27 ⌝ }
 {
     Guesses {
         moon: v[i],

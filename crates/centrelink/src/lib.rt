@@ -15,6 +15,7 @@ ghost use Rattle.lent.specs.Answers.{ofAcceleration, ofMove, ofFixed, ofConic, 
 pub extern "C" fn belfry_pull(
     book: &[u8],
     coefficients: &[f64; 6],
+    extras: &[f64; 3],
     dut: u32,
     rule: u64,
     moment: u64,
@@ -23,12 +24,13 @@ pub extern "C" fn belfry_pull(
     acceleration: &mut [f64; 3],
 ) -> u64
     ensures { λ r. ⌜ handed r (now (acceleration .exit)) ≡ answered (now (acceleration .entry))
-        (ofAcceleration (accelerationAnswer (now (book .entry)) (settingOf (now (coefficients .entry)) dut rule) centre moment
+        (ofAcceleration (accelerationAnswer (now (book .entry)) (settingOf (now (coefficients .entry)) (now (extras .entry)) dut rule) centre moment
         (vectorOf (now (position .entry))))) ⌝ }
 {
     lent::calls::pull(
         book,
         coefficients,
+        extras,
         dut,
         rule,
         moment,
@@ -43,6 +45,7 @@ pub extern "C" fn belfry_pull(
 pub extern "C" fn belfry_fly(
     book: &[u8],
     coefficients: &[f64; 6],
+    extras: &[f64; 3],
     dut: u32,
     rule: u64,
     moment: u64,
@@ -58,12 +61,13 @@ pub extern "C" fn belfry_fly(
     steps: &mut u32,
 ) -> u64
     ensures { λ r. ⌜ handedBack r (now (reached .exit)) (now (there .exit)) (now (entries .exit)) (now (steps .exit)) ≡ ofRun
-        (runAnswer (now (book .entry)) (settingOf (now (coefficients .entry)) dut rule)
+        (runAnswer (now (book .entry)) (settingOf (now (coefficients .entry)) (now (extras .entry)) dut rule)
         (stateOf moment centre (now (coordinates .entry))) h target budget (guessesOf (now (guesses .entry)))) ⌝ }
 {
     lent::calls::fly(
         book,
         coefficients,
+        extras,
         dut,
         rule,
         moment,
@@ -84,6 +88,7 @@ pub extern "C" fn belfry_fly(
 pub extern "C" fn belfry_move(
     book: &[u8],
     coefficients: &[f64; 6],
+    extras: &[f64; 3],
     dut: u32,
     rule: u64,
     moment: u64,
@@ -93,12 +98,13 @@ pub extern "C" fn belfry_move(
     moved: &mut [f64; 6],
 ) -> u64
     ensures { λ r. ⌜ handed r (now (moved .exit)) ≡ answered (now (moved .entry))
-        (ofMove (moveAnswer (now (book .entry)) (settingOf (now (coefficients .entry)) dut rule)
+        (ofMove (moveAnswer (now (book .entry)) (settingOf (now (coefficients .entry)) (now (extras .entry)) dut rule)
         (stateOf moment centre (now (coordinates .entry))) new)) ⌝ }
 {
     lent::calls::moved(
         book,
         coefficients,
+        extras,
         dut,
         rule,
         moment,

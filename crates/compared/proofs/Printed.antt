@@ -1,4 +1,4 @@
--- All that strip prints is of the form. Assumes nothing.
+-- All that strip and strip144 print is of the form. Assumes nothing.
 use Prim.Native.Nat.{ℕ, zero, suc, _+_, _*_, _/_, _<_, _≤_}
 use mathlib.Core.Bool.{Bool, true, false, _&&_}
 use mathlib.Core.List.{List, [], _∷_, _++_, map, append-assoc, append-nil}
@@ -27,10 +27,11 @@ use Rattle.motion.specs.Step.{Moved, On, Off, andThen, stateAt, arrive, along, 
 use Rattle.motion.proofs.OneStep.{done}
 use Rattle.motion.proofs.Start.{mayWalk}
 use Rattle.listing.specs.Lines.{stripWord, arrivedWord, refusedWord, headerLine, stateLine, arrivedLine, refusedLine, loneRefusal}
-use Rattle.listing.specs.Order.{orderLength, orderOf, readOrder}
+use Rattle.orders.specs.Order.{orderLength, orderOf, readOrder}
 use Rattle.listing.specs.Strip.{orderText, stripText}
 use Rattle.listing.specs.Course.{afterStep, courseText, startOf}
-use Rattle.listing.specs.declared.Order.{Order}
+use Rattle.orders.specs.declared.Form.{Form}
+use Rattle.orders.specs.declared.Order.{Order}
 use Rattle.listing.proofs.Courses.{starts}
 use Rattle.listing.proofs.Whole.{order-course}
 use Rattle.text.specs.Numerals.{decimalOf}
@@ -202,8 +203,8 @@ lone-form : (k : ℕ) → formRefusal (loneRefusal k) ≡ 0
 unfolding formRefusal
 lone-form k = ap (refusedFrom Top 1) (kinds-lone k) ∙ lone-ends
 
-order-fits : (input : List ℕ) → Fits (orderOf input .state)
-order-fits input = record { x = ofBits-fits binary64 _; y = ofBits-fits binary64 _; z = ofBits-fits binary64 _; vx = ofBits-fits binary64 _; vy = ofBits-fits binary64 _; vz = ofBits-fits binary64 _ }
+order-fits : (form : Form) (input : List ℕ) → Fits (orderOf form input .state)
+order-fits form input = record { x = ofBits-fits binary64 _; y = ofBits-fits binary64 _; z = ofBits-fits binary64 _; vx = ofBits-fits binary64 _; vy = ofBits-fits binary64 _; vz = ofBits-fits binary64 _ }
 
 not-started : (b : List ℕ) (o : Order) → eqb (startRefusal b (o .setting) (o .state) (o .h) (o .target)) 0 ≡ false
     → orderText b o ≡ loneRefusal (startRefusal b (o .setting) (o .state) (o .h) (o .target))
@@ -217,11 +218,11 @@ any-order b o f = go (eqb (startRefusal b (o .setting) (o .state) (o .h) (o .tar
     go true e = order-form b o f (eqb-true _ 0 e)
     go false e = ap formRefusal (not-started b o e) ∙ lone-form _
 
--- for every input: a lone refusal, or a header, states whose moments rise and whose components are finite, and an outcome
-pub strip-of-the-form : (input : List ℕ) → formRefusal (stripText input) ≡ 0
+-- for every input of both programs: a lone refusal, or a header, states whose moments rise and whose components are finite, and an outcome
+pub strip-of-the-form : (form : Form) (input : List ℕ) → formRefusal (stripText form input) ≡ 0
 unfolding stripText readOrder
-strip-of-the-form input = go (ltb (length input) orderLength) refl
+strip-of-the-form form input = go (ltb (length input) (orderLength form)) refl
   where
-    go : (t : Bool) → ltb (length input) orderLength ≡ t → formRefusal (stripText input) ≡ 0
+    go : (t : Bool) → ltb (length input) (orderLength form) ≡ t → formRefusal (stripText form input) ≡ 0
     go true e = rw e (lone-form 1)
-    go false e = rw e (any-order (drop orderLength input) (orderOf input) (order-fits input))
+    go false e = rw e (any-order (drop (orderLength form) input) (orderOf form input) (order-fits form input))

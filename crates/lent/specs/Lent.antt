@@ -18,9 +18,9 @@ use Rattle.conic.specs.declared.Conic.{Conic}
 use Rattle.conic.specs.declared.Conic.the-variants.{Ellipse, Hyperbola}
 use Rattle.conic.specs.declared.CentredConic.{CentredConic}
 
--- read: six coefficients "by body number from 1", beside DUT and (02, R-9) the rule; (02, R-7) J, A and K are zero
-abbrev pub settingOf : List Float → ℕ → ℕ → Setting
-settingOf m dut rule =
+-- read: six coefficients "by body number from 1", (02, R-7) J, A and K, beside DUT and (02, R-9) the rule
+abbrev pub settingOf : List Float → List Float → ℕ → ℕ → Setting
+settingOf m extras dut rule =
     record {
       earth = getD m 0 nan;
       moon = getD m 1 nan;
@@ -29,11 +29,15 @@ settingOf m dut rule =
       mars = getD m 4 nan;
       jupiter = getD m 5 nan;
       dut = dut;
-      j = zero64;
-      a = zero64;
-      k = zero64;
+      j = getD extras 0 nan;
+      a = getD extras 1 nan;
+      k = getD extras 2 nan;
       rule = rule;
     }
+
+-- J, A and K of a call that takes none
+abbrev pub noExtras : List Float
+noExtras = zero64 ∷ zero64 ∷ zero64 ∷ []
 
 -- read: 64 bits as a number with a sign, as C has it
 abbrev pub signedOf : ℕ → Signed

@@ -24,6 +24,7 @@ ghost use Rattle.lent.specs.Answers.{ofAcceleration, ofMove, ofFixed, of
 pub fn pull(
     book: &[u8],
     coefficients: &[f64; 6],
+    extras: &[f64; 3],
     dut: u32,
     rule: u64,
     moment: u64,
@@ -32,10 +33,10 @@ pub fn pull(
     acceleration: &mut [f64; 3],
 ) -> u64
     ensures { λ r. ⌜ handed r (now (acceleration .exit)) ≡ answered (now (acceleration .entry))
-        (ofAcceleration (accelerationAnswer (now (book .entry)) (settingOf (now (coefficients .entry)) dut rule) centre moment
+        (ofAcceleration (accelerationAnswer (now (book .entry)) (settingOf (now (coefficients .entry)) (now (extras .entry)) dut rule) centre moment
         (vectorOf (now (position .entry))))) ⌝ }
 {
-    let setting = setting_of(*coefficients, dut, rule);
+    let setting = setting_of(*coefficients, *extras, dut, rule);
     match gravity::acceleration(book, setting, centre, moment, vector_of(*position)) {
         AccelerationAnswer::Is(a) => {
             *acceleration = [a.x, a.y, a.z];
@@ -49,6 +50,7 @@ pub fn pull(
 pub fn fly(
     book: &[u8],
     coefficients: &[f64; 6],
+    extras: &[f64; 3],
     dut: u32,
     rule: u64,
     moment: u64,
@@ -64,10 +66,10 @@ pub fn fly(
     steps: &mut u32,
 ) -> u64
     ensures { λ r. ⌜ handedBack r (now (reached .exit)) (now (there .exit)) (now (entries .exit)) (now (steps .exit)) ≡ ofRun
-        (runAnswer (now (book .entry)) (settingOf (now (coefficients .entry)) dut rule)
+        (runAnswer (now (book .entry)) (settingOf (now (coefficients .entry)) (now (extras .entry)) dut rule)
         (stateOf moment centre (now (coordinates .entry))) h target budget (guessesOf (now (guesses .entry)))) ⌝ }
 {
-    let setting = setting_of(*coefficients, dut, rule);
+    let setting = setting_of(*coefficients, *extras, dut, rule);
     let state = state_of(moment, centre, *coordinates);
     let given = guesses_of(*guesses);
     let answer = motion::run(book, setting, state, h, target, budget, given);
@@ -77,6 +79,7 @@ pub fn fly(
 pub fn moved(
     book: &[u8],
     coefficients: &[f64; 6],
+    extras: &[f64; 3],
     dut: u32,
     rule: u64,
     moment: u64,
@@ -86,10 +89,10 @@ pub fn moved(
     moved: &mut [f64; 6],
 ) -> u64
     ensures { λ r. ⌜ handed r (now (moved .exit)) ≡ answered (now (moved .entry))
-        (ofMove (moveAnswer (now (book .entry)) (settingOf (now (coefficients .entry)) dut rule)
+        (ofMove (moveAnswer (now (book .entry)) (settingOf (now (coefficients .entry)) (now (extras .entry)) dut rule)
         (stateOf moment centre (now (coordinates .entry))) new)) ⌝ }
 {
-    let setting = setting_of(*coefficients, dut, rule);
+    let setting = setting_of(*coefficients, *extras, dut, rule);
     let state = state_of(moment, centre, *coordinates);
     match centre::move_to(book, setting, state, new) {
         MoveAnswer::Moved(s) => {

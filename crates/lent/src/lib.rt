@@ -17,8 +17,8 @@ ghost use Rattle.lent.specs.Answers.{outcomeNumber, handedBack, ofRun};
 
 const GOING: u64 = 100;
 
-pub fn setting_of(m: [f64; 6], dut: u32, rule: u64) -> Setting
-    ensures { λ r. ⌜ r ≡ settingOf m dut rule ⌝ }
+pub fn setting_of(m: [f64; 6], extras: [f64; 3], dut: u32, rule: u64) -> Setting
+    ensures { λ r. ⌜ r ≡ settingOf m extras dut rule ⌝ }
 {
     Setting {
         earth: m[0],
@@ -28,9 +28,9 @@ pub fn setting_of(m: [f64; 6], dut: u32, rule: u64) -> Setting
         mars: m[4],
         jupiter: m[5],
         dut,
-        j: 0.0,
-        a: 0.0,
-        k: 0.0,
+        j: extras[0],
+        a: extras[1],
+        k: extras[2],
         rule,
     }
 }

@@ -1,5 +1,5 @@
 // The calls of document 01 about a state and its motion, for C and Rust, over numbers and memory that the caller lends.
-// An old call means an old order: centre 1 and rule 0; the calls with the whole of it are `centrelink`'s.
+// An old call means an old order: centre 1, J, A and K zero, and rule 0; the calls with the whole of it are `centrelink`'s.
 // Each returns 0 where it is accepted, else the number of the refusal. A run that is still going returns 100.
 
 use sphere::SphereAnswer;
@@ -10,7 +10,7 @@ ghost use Rattle.fixed.specs.Fixed.{fixedAnswer};
 ghost use Rattle.sphere.specs.Sphere.{sphereAnswer};
 ghost use Rattle.conic.specs.Conic.{conicAnswer};
 ghost use Rattle.handed.specs.Handed.{handed, answered};
-ghost use Rattle.lent.specs.Lent.{settingOf, vectorOf, stateOf, guessesOf, bothIn, sphereOf};
+ghost use Rattle.lent.specs.Lent.{settingOf, noExtras, vectorOf, stateOf, guessesOf, bothIn, sphereOf};
 ghost use Rattle.lent.specs.Answers.{ofAcceleration, ofFixed, ofConic, handedBack, ofRun, ofSphere};
 
 #[no_mangle]
@@ -23,12 +23,14 @@ pub extern "C" fn belfry_acceleration(
     acceleration: &mut [f64; 3],
 ) -> u64
     ensures { λ r. ⌜ handed r (now (acceleration .exit)) ≡ answered (now (acceleration .entry))
-        (ofAcceleration (accelerationAnswer (now (book .entry)) (settingOf (now (coefficients .entry)) dut 0) 1 moment
+        (ofAcceleration (accelerationAnswer (now (book .entry)) (settingOf (now (coefficients .entry)) noExtras dut 0) 1 moment
         (vectorOf (now (position .entry))))) ⌝ }
 {
+    let none = [0.0, 0.0, 0.0];
     lent::calls::pull(
         book,
         coefficients,
+        &none,
         dut,
         0,
         moment,
@@ -56,12 +58,14 @@ pub extern "C" fn belfry_run(
     steps: &mut u32,
 ) -> u64
     ensures { λ r. ⌜ handedBack r (now (reached .exit)) (now (there .exit)) (now (entries .exit)) (now (steps .exit)) ≡ ofRun
-        (runAnswer (now (book .entry)) (settingOf (now (coefficients .entry)) dut 0)
+        (runAnswer (now (book .entry)) (settingOf (now (coefficients .entry)) noExtras dut 0)
         (stateOf moment 1 (now (coordinates .entry))) h target budget (guessesOf (now (guesses .entry)))) ⌝ }
 {
+    let none = [0.0, 0.0, 0.0];
     lent::calls::fly(
         book,
         coefficients,
+        &none,
         dut,
         0,
         moment,
@@ -93,10 +97,11 @@ pub extern "C" fn belfry_single_step(
     steps: &mut u32,
 ) -> u64
     ensures { λ r. ⌜ handedBack r (now (reached .exit)) (now (there .exit)) (now (entries .exit)) (now (steps .exit)) ≡ ofRun
-        (singleStepAnswer (now (book .entry)) (settingOf (now (coefficients .entry)) dut 0)
+        (singleStepAnswer (now (book .entry)) (settingOf (now (coefficients .entry)) noExtras dut 0)
         (stateOf moment 1 (now (coordinates .entry))) h (guessesOf (now (guesses .entry)))) ⌝ }
 {
-    let setting = lent::setting_of(*coefficients, dut, 0);
+    let none = [0.0, 0.0, 0.0];
+    let setting = lent::setting_of(*coefficients, none, dut, 0);
     let state = lent::state_of(moment, 1, *coordinates);
     let given = lent::guesses_of(*guesses);
     let answer = motion::single_step(book, setting, state, h, given);

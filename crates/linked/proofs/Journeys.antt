@@ -39,15 +39,15 @@ state-reads-back b setting s h target budget given =
 pub guesses-read-back : (r : RunAnswer) → guessesOf (ofRun r .guesses) ≡ r .guesses
 guesses-read-back r = refl
 
-module _ (b : List ℕ) (m : List Float) (dut rule centre h target : ℕ) where
+module _ (b : List ℕ) (m extras : List Float) (dut rule centre h target : ℕ) where
   pub is-a-journey : (moment : ℕ) (coordinates : List Float) (calls : List LinkedCall)
-      → linkedJourney b m dut rule centre h target moment coordinates calls
-      ≡ map ofRun (journey b (settingOf m dut rule) h target (stateOf moment centre coordinates) (map asCall calls))
+      → linkedJourney b m extras dut rule centre h target moment coordinates calls
+      ≡ map ofRun (journey b (settingOf m extras dut rule) h target (stateOf moment centre coordinates) (map asCall calls))
   is-a-journey moment coordinates [] = refl
   is-a-journey moment coordinates (call ∷ calls) =
       let s = stateOf moment centre coordinates in
-      let r = runAnswer b (settingOf m dut rule) s h target (call .budget) (guessesOf (call .guesses)) in
+      let r = runAnswer b (settingOf m extras dut rule) s h target (call .budget) (guessesOf (call .guesses)) in
       ap (λ (rest : List RunMemory). ofRun r ∷ rest)
       (is-a-journey (r .state .moment) (coordinatesIn (r .state)) calls
-      ∙ ap (λ (from : State). map ofRun (journey b (settingOf m dut rule) h target from (map asCall calls)))
-      (state-reads-back b (settingOf m dut rule) s h target (call .budget) (guessesOf (call .guesses))))
+      ∙ ap (λ (from : State). map ofRun (journey b (settingOf m extras dut rule) h target from (map asCall calls)))
+      (state-reads-back b (settingOf m extras dut rule) s h target (call .budget) (guessesOf (call .guesses))))

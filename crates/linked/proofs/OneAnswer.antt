@@ -21,7 +21,7 @@ use Rattle.sphere.specs.Sphere.{sphereAnswer}
 use Rattle.conic.specs.Conic.{conicAnswer}
 use Rattle.handed.specs.Handed.{Handed, handed, answered}
 use Rattle.almanaclink.specs.Answers.{ofDate, ofDay, ofJulian, ofHour, ofRoot, ofSineCosine, ofPosition}
-use Rattle.lent.specs.Lent.{settingOf, vectorOf, stateOf, guessesOf, Both, bothIn, sphereOf}
+use Rattle.lent.specs.Lent.{settingOf, noExtras, vectorOf, stateOf, guessesOf, Both, bothIn, sphereOf}
 use Rattle.lent.specs.Answers.{ofAcceleration, ofMove, ofFixed, ofConic, RunMemory, handedBack, ofRun, ofSphere}
 use Rattle.almanaclink.proofs.belfry_date as date
 use Rattle.almanaclink.proofs.belfry_day as day
@@ -114,7 +114,7 @@ tell-acceleration κs r after = handed r (now (after .1 .1 .1 .1 .1 .0))
 pub acceleration-answers-once : OneOutcome acceleration.ended (λ M. acceleration.clauses) (λ κs. Handed (List Float)) tell-acceleration
 acceleration-answers-once =
     one-outcome (λ κs. Handed (List Float)) tell-acceleration
-    (λ κs inputs. answered (now (inputs .1 .1 .1 .1 .1 .0)) (ofAcceleration (accelerationAnswer (now (inputs .0)) (settingOf (now (inputs .1 .0)) (inputs .1 .1 .0) 0) 1 (inputs .1 .1 .1 .0) (vectorOf (now (inputs .1 .1 .1 .1 .0))))))
+    (λ κs inputs. answered (now (inputs .1 .1 .1 .1 .1 .0)) (ofAcceleration (accelerationAnswer (now (inputs .0)) (settingOf (now (inputs .1 .0)) noExtras (inputs .1 .1 .0) 0) 1 (inputs .1 .1 .1 .0) (vectorOf (now (inputs .1 .1 .1 .1 .0))))))
     (λ M 𝓤 H A mem run″ κs inputs g r after. refl)
 
 abbrev tell-from-sphere : Tell from-sphere.ended (λ κs. Handed (List Float))
@@ -154,38 +154,38 @@ turn-answers-once =
     (λ M 𝓤 H A mem run″ κs inputs g r after. refl)
 
 abbrev tell-pull : Tell pull.ended (λ κs. Handed (List Float))
-tell-pull κs r after = handed r (now (after .1 .1 .1 .1 .1 .1 .1 .0))
+tell-pull κs r after = handed r (now (after .1 .1 .1 .1 .1 .1 .1 .1 .0))
 
 pub pull-answers-once : OneOutcome pull.ended (λ M. pull.clauses) (λ κs. Handed (List Float)) tell-pull
 pull-answers-once =
     one-outcome (λ κs. Handed (List Float)) tell-pull
     (λ κs inputs.
-    answered (now (inputs .1 .1 .1 .1 .1 .1 .1 .0))
-    (ofAcceleration (accelerationAnswer (now (inputs .0)) (settingOf (now (inputs .1 .0)) (inputs .1 .1 .0) (inputs .1 .1 .1 .0)) (inputs .1 .1 .1 .1 .1 .0) (inputs .1 .1 .1 .1 .0) (vectorOf (now (inputs .1 .1 .1 .1 .1 .1 .0))))))
+    answered (now (inputs .1 .1 .1 .1 .1 .1 .1 .1 .0))
+    (ofAcceleration (accelerationAnswer (now (inputs .0)) (settingOf (now (inputs .1 .0)) (now (inputs .1 .1 .0)) (inputs .1 .1 .1 .0) (inputs .1 .1 .1 .1 .0)) (inputs .1 .1 .1 .1 .1 .1 .0) (inputs .1 .1 .1 .1 .1 .0) (vectorOf (now (inputs .1 .1 .1 .1 .1 .1 .1 .0))))))
     (λ M 𝓤 H A mem run″ κs inputs g r after. refl)
 
 abbrev tell-move : Tell move.ended (λ κs. Handed (List Float))
-tell-move κs r after = handed r (now (after .1 .1 .1 .1 .1 .1 .1 .1 .0))
+tell-move κs r after = handed r (now (after .1 .1 .1 .1 .1 .1 .1 .1 .1 .0))
 
 pub move-answers-once : OneOutcome move.ended (λ M. move.clauses) (λ κs. Handed (List Float)) tell-move
 move-answers-once =
     one-outcome (λ κs. Handed (List Float)) tell-move
     (λ κs inputs.
-    answered (now (inputs .1 .1 .1 .1 .1 .1 .1 .1 .0))
-    (ofMove (moveAnswer (now (inputs .0)) (settingOf (now (inputs .1 .0)) (inputs .1 .1 .0) (inputs .1 .1 .1 .0)) (stateOf (inputs .1 .1 .1 .1 .0) (inputs .1 .1 .1 .1 .1 .0) (now (inputs .1 .1 .1 .1 .1 .1 .0))) (inputs .1 .1 .1 .1 .1 .1 .1 .0))))
+    answered (now (inputs .1 .1 .1 .1 .1 .1 .1 .1 .1 .0))
+    (ofMove (moveAnswer (now (inputs .0)) (settingOf (now (inputs .1 .0)) (now (inputs .1 .1 .0)) (inputs .1 .1 .1 .0) (inputs .1 .1 .1 .1 .0)) (stateOf (inputs .1 .1 .1 .1 .1 .0) (inputs .1 .1 .1 .1 .1 .1 .0) (now (inputs .1 .1 .1 .1 .1 .1 .1 .0))) (inputs .1 .1 .1 .1 .1 .1 .1 .1 .0))))
     (λ M 𝓤 H A mem run″ κs inputs g r after. refl)
 
 abbrev tell-fly : Tell fly.ended (λ κs. RunMemory)
 tell-fly κs r after =
-    let out = after .1 .1 .1 .1 .1 .1 .1 .1 .1 .1 .1 in handedBack r (now (out .0)) (now (out .1 .0)) (now (out .1 .1 .0)) (now (out .1 .1 .1 .0))
+    let out = after .1 .1 .1 .1 .1 .1 .1 .1 .1 .1 .1 .1 in handedBack r (now (out .0)) (now (out .1 .0)) (now (out .1 .1 .0)) (now (out .1 .1 .1 .0))
 
 pub fly-answers-once : OneOutcome fly.ended (λ M. fly.clauses) (λ κs. RunMemory) tell-fly
 fly-answers-once =
     one-outcome (λ κs. RunMemory) tell-fly
     (λ κs inputs.
-    let rest = inputs .1 .1 .1 .1 .1 .1 .1 in
+    let rest = inputs .1 .1 .1 .1 .1 .1 .1 .1 in
     ofRun
-    (runAnswer (now (inputs .0)) (settingOf (now (inputs .1 .0)) (inputs .1 .1 .0) (inputs .1 .1 .1 .0)) (stateOf (inputs .1 .1 .1 .1 .0) (inputs .1 .1 .1 .1 .1 .0) (now (inputs .1 .1 .1 .1 .1 .1 .0))) (rest .0)
+    (runAnswer (now (inputs .0)) (settingOf (now (inputs .1 .0)) (now (inputs .1 .1 .0)) (inputs .1 .1 .1 .0) (inputs .1 .1 .1 .1 .0)) (stateOf (inputs .1 .1 .1 .1 .1 .0) (inputs .1 .1 .1 .1 .1 .1 .0) (now (inputs .1 .1 .1 .1 .1 .1 .1 .0))) (rest .0)
     (rest .1 .0) (rest .1 .1 .0) (guessesOf (now (rest .1 .1 .1 .0)))))
     (λ M 𝓤 H A mem run″ κs inputs g r after. refl)
 
@@ -224,7 +224,7 @@ run-answers-once =
     (λ κs inputs.
     let rest = inputs .1 .1 .1 .1 .1 in
     ofRun
-    (runAnswer (now (inputs .0)) (settingOf (now (inputs .1 .0)) (inputs .1 .1 .0) 0) (stateOf (inputs .1 .1 .1 .0) 1 (now (inputs .1 .1 .1 .1 .0))) (rest .0)
+    (runAnswer (now (inputs .0)) (settingOf (now (inputs .1 .0)) noExtras (inputs .1 .1 .0) 0) (stateOf (inputs .1 .1 .1 .0) 1 (now (inputs .1 .1 .1 .1 .0))) (rest .0)
     (rest .1 .0) (rest .1 .1 .0) (guessesOf (now (rest .1 .1 .1 .0)))))
     (λ M 𝓤 H A mem run″ κs inputs g r after. refl)
 
@@ -238,6 +238,6 @@ single-step-answers-once =
     (λ κs inputs.
     let rest = inputs .1 .1 .1 .1 .1 in
     ofRun
-    (singleStepAnswer (now (inputs .0)) (settingOf (now (inputs .1 .0)) (inputs .1 .1 .0) 0) (stateOf (inputs .1 .1 .1 .0) 1 (now (inputs .1 .1 .1 .1 .0))) (rest .0)
+    (singleStepAnswer (now (inputs .0)) (settingOf (now (inputs .1 .0)) noExtras (inputs .1 .1 .0) 0) (stateOf (inputs .1 .1 .1 .0) 1 (now (inputs .1 .1 .1 .1 .0))) (rest .0)
     (guessesOf (now (rest .1 .0)))))
     (λ M 𝓤 H A mem run″ κs inputs g r after. refl)

@@ -15,9 +15,9 @@ pub record LinkedCall : Type 0 where
 abbrev pub asCall : LinkedCall → Call
 asCall call = record { budget = call .budget; guesses = guessesOf (call .guesses) }
 
--- what each call leaves, under the coefficients m, DUT and the rule, about a centre: a run stays about it
-abbrev pub linkedJourney : List ℕ → List Float → ℕ → ℕ → ℕ → ℕ → ℕ → ℕ → List Float → List LinkedCall → List RunMemory
-linkedJourney b m dut rule centre h target moment coordinates [] = []
-linkedJourney b m dut rule centre h target moment coordinates (call ∷ calls) =
-    let left = ofRun (runAnswer b (settingOf m dut rule) (stateOf moment centre coordinates) h target (call .budget) (guessesOf (call .guesses))) in
-    left ∷ linkedJourney b m dut rule centre h target (left .moment) (left .coordinates) calls
+-- what each call leaves, under the coefficients m, the extras (J, A, K), DUT and the rule, about a centre: a run stays about it
+abbrev pub linkedJourney : List ℕ → List Float → List Float → ℕ → ℕ → ℕ → ℕ → ℕ → ℕ → List Float → List LinkedCall → List RunMemory
+linkedJourney b m extras dut rule centre h target moment coordinates [] = []
+linkedJourney b m extras dut rule centre h target moment coordinates (call ∷ calls) =
+    let left = ofRun (runAnswer b (settingOf m extras dut rule) (stateOf moment centre coordinates) h target (call .budget) (guessesOf (call .guesses))) in
+    left ∷ linkedJourney b m extras dut rule centre h target (left .moment) (left .coordinates) calls

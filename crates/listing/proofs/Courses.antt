@@ -27,7 +27,7 @@ use Rattle.listing.specs.Lines.{stateLine, outcomeLine}
 use Rattle.listing.specs.Strip.{stepsTo}
 use Rattle.listing.specs.Course.{courseText, remains, OnCourse, longestLine, Advanced, portionOf, startOf}
 use Rattle.listing.specs.declared.Course.{Course}
-use Rattle.listing.specs.declared.Order.{Order}
+use Rattle.orders.specs.declared.Order.{Order}
 use Rattle.listing.proofs.Lengths.{line-fits}
 
 -- ---- the text at a place of a run

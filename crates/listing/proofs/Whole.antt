@@ -1,4 +1,5 @@
--- The text of a strip as a whole: the portions make it up, its states are the walk's, and no input past the longest one changes it.
+-- The text of a strip as a whole: the portions make it up, its states are the walk's, no input past the longest one changes it, and an
+-- old order is a new one with zeros.
 -- Assumes nothing.
 use Prim.Native.Nat.{ℕ, zero, suc, _+_, _-_, _*_, _<_, _≤_}
 use mathlib.Core.Bool.{Bool, true, false, and-false}
@@ -10,7 +11,7 @@ use native.Mathlib.Omega.{arith}
 use borrow.Author.Tests.{le-ltb, lt-leb, ltb-true, ltb-false}
 use lib.Dec.{ltb}
 use lib.ListN.{length, getD, take, drop, length-drop}
-use lib.Seq.{take-all, length-take-le}
+use lib.Seq.{take-all, length-take-le, drop-append-add, drop-at}
 use Rattle.basis.specs.Choice.{if_then_else_}
 use Rattle.state.specs.declared.State.{State}
 use Rattle.book.specs.Passes.{longestBook, passes}
@@ -24,11 +25,14 @@ use Rattle.motion.proofs.Walks.{walkFirst}
 use Rattle.motion.proofs.Runs.{runArrived, runRefused, runOn}
 use Rattle.motion.proofs.Start.{mayWalk}
 use Rattle.listing.specs.Lines.{headerLine, stateLine, outcomeLine, loneRefusal}
-use Rattle.listing.specs.Order.{orderLength, orderOf, readOrder}
+use Rattle.orders.specs.Order.{orderLength, orderOf, readOrder}
 use Rattle.listing.specs.Strip.{andThen, statesAfter, stateLines, runText, stepsTo, orderText, stripText}
 use Rattle.listing.specs.Course.{courseText, startOf}
-use Rattle.listing.specs.declared.Order.{Order}
-use Rattle.listing.specs.declared.OrderAnswer.the-variants as answer
+use Rattle.orders.specs.declared.Form.{Form}
+use Rattle.orders.specs.declared.Form.the-variants.{Plain, Whole}
+use Rattle.orders.specs.declared.Order.{Order}
+use Rattle.orders.proofs.Old as orders
+use Rattle.orders.proofs.Old.{zeros}
 use Rattle.listing.proofs.Courses.{text-goes-on}
 
 -- ---- the states listed are those of the plain walk, in order
@@ -105,27 +109,27 @@ refused-1 : (b : List ℕ) (o : Order) → passes b ≡ false → orderText b o 
 unfolding orderText startRefusal
 refused-1 b o e = rw e
 
-long-refused : (input : List ℕ) → orderLength + longestBook < length input → stripText input ≡ loneRefusal 1
-unfolding stripText readOrder
-long-refused input h =
-    rw (le-ltb (length input) orderLength (omega arith))
-    (refused-1 (drop orderLength input) (orderOf input) (too-long (drop orderLength input) (rw length-drop (omega arith))))
+module _ (form : Form) where
+  long-refused : (input : List ℕ) → orderLength form + longestBook < length input → stripText form input ≡ loneRefusal 1
+  unfolding stripText readOrder
+  long-refused input h =
+      rw (le-ltb (length input) (orderLength form) (omega arith))
+      (refused-1 (drop (orderLength form) input) (orderOf form input) (too-long (drop (orderLength form) input) (rw length-drop (omega arith))))
 
-pub enough-read : (input : List ℕ) (n : ℕ) → orderLength + longestBook < n → stripText (take n input) ≡ stripText input
-enough-read input n h = by-size (ltb n (length input)) refl
-  where
-    by-size : (t : Bool) → ltb n (length input) ≡ t → stripText (take n input) ≡ stripText input
-    by-size true e =
-        let m : n < length input = ltb-true n (length input) e in
-        long-refused (take n input) (rw (length-take-le n input (omega arith)) h) ∙ sym (long-refused input (omega arith))
-    by-size false e = ap stripText (take-all n input (ltb-false n (length input) e))
+  pub enough-read : (input : List ℕ) (n : ℕ) → orderLength form + longestBook < n → stripText form (take n input) ≡ stripText form input
+  enough-read input n h = by-size (ltb n (length input)) refl
+    where
+      by-size : (t : Bool) → ltb n (length input) ≡ t → stripText form (take n input) ≡ stripText form input
+      by-size true e =
+          let m : n < length input = ltb-true n (length input) e in
+          long-refused (take n input) (rw (length-take-le n input (omega arith)) h) ∙ sym (long-refused input (omega arith))
+      by-size false e = ap (stripText form) (take-all n input (ltb-false n (length input) e))
 
--- ---- an order that was read is all there
+-- ---- document 02, R-7: strip prints of an old order what strip144 prints of the order with J, A and K zero behind the old 120 bytes
 
-pub order-there : (b : List ℕ) (o : Order) → readOrder b ≡ answer.Is o → orderLength ≤ length b
-unfolding readOrder
-order-there b o = go (ltb (length b) orderLength) refl
-  where
-    go : (t : Bool) → ltb (length b) orderLength ≡ t → (if t then answer.Refused 1 else answer.Is (orderOf b)) ≡ answer.Is o → orderLength ≤ length b
-    go true q e = let z : _≡_ {A = ℕ} 0 1 = cc in absurd (omega arith)
-    go false q e = ltb-false (length b) orderLength q
+pub old-as-new : (order : List ℕ) → length order ≡ 120 → (book : List ℕ) → stripText Plain (order ++ book) ≡ stripText Whole (order ++ zeros book)
+unfolding stripText
+old-as-new order all book =
+    let here : drop 144 (order ++ zeros book) ≡ book =
+    ap (λ (n : ℕ). drop (n + 24) (order ++ zeros book)) (sym all) ∙ drop-append-add order (zeros book) 24 in
+    rw (drop-at order book 120 all, here, orders.old-as-new order all book)

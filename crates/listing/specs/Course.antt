@@ -16,7 +16,7 @@ use Rattle.motion.specs.declared.Outcome.{Outcome}
 use Rattle.motion.specs.declared.Outcome.the-variants.{Arrived, Going, Refused}
 use Rattle.listing.specs.Lines.{stateLine, outcomeLine}
 use Rattle.listing.specs.Strip.{stepsTo}
-use Rattle.listing.specs.declared.Order.{Order}
+use Rattle.orders.specs.declared.Order.{Order}
 use Rattle.listing.specs.declared.Course.{Course}
 use Rattle.listing.specs.declared.Portion.{Portion}
 

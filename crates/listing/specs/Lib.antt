@@ -1,4 +1,3 @@
 pub mod Lines
-pub mod Order
 pub mod Strip
 pub mod Course

@@ -1,4 +1,4 @@
--- Document 01, "strip": all that it prints, from all that it reads.
+-- Document 01, "strip": all that it prints, from all that it reads; and (02, R-7) all that strip144 prints, by the same definition.
 use Prim.Native.Nat.{ℕ, zero, suc, _-_, _/_}
 use mathlib.Core.List.{List, [], _∷_, _++_}
 use lib.ListN.{drop}
@@ -8,10 +8,11 @@ use Rattle.motion.specs.Step.{Moved, On, Off, step}
 use Rattle.start.specs.Start.{startRefusal}
 use Rattle.motion.specs.Run.{Reached, runTo}
 use Rattle.listing.specs.Lines.{headerLine, stateLine, outcomeLine, loneRefusal}
-use Rattle.listing.specs.Order.{orderLength, readOrder}
-use Rattle.listing.specs.declared.Order.{Order}
-use Rattle.listing.specs.declared.OrderAnswer.{OrderAnswer}
-use Rattle.listing.specs.declared.OrderAnswer.the-variants as answer
+use Rattle.orders.specs.Order.{orderLength, readOrder}
+use Rattle.orders.specs.declared.Form.{Form}
+use Rattle.orders.specs.declared.Order.{Order}
+use Rattle.orders.specs.declared.OrderAnswer.{OrderAnswer}
+use Rattle.orders.specs.declared.OrderAnswer.the-variants as answer
 
 -- the states that up to n steps f reach after s, in order: a step refused ends them
 abbrev pub andThen : (State → List State) → Moved → List State
@@ -48,5 +49,5 @@ answerText book (answer.Is o) = orderText book o
 answerText book (answer.Refused k) = loneRefusal k
 
 -- an order, "then the book, to the end"
-unfoldable pub stripText : List ℕ → List ℕ
-stripText input = answerText (drop orderLength input) (readOrder input)
+unfoldable pub stripText : Form → List ℕ → List ℕ
+stripText form input = answerText (drop (orderLength form) input) (readOrder form input)

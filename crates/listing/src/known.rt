@@ -1,7 +1,6 @@
 // The lines of a run in portions, for an order and a book that have passed the checks: inner functions of the program.
 
 use crate::Course;
-use crate::Order;
 use crate::Portion;
 use crate::lines::LONGEST_LINE;
 use crate::lines::put_state;
@@ -11,6 +10,7 @@ use gravity::known::sights_at;
 use motion::Outcome;
 use motion::Stepped;
 use motion::known::step_under;
+use orders::Order;
 use state::Setting;
 use state::State;
 ghost use mathlib.Core.Path.{_≡_};

@@ -44,17 +44,17 @@ extern "C" {
         m: f64, moment: u64, coordinates: &[f64; 6], names: &mut [u64; 2], figures: &mut [f64; 5],
     ) -> u64;
     fn belfry_pull(
-        book: *const u8, length: usize, coefficients: &[f64; 6], dut: u32, rule: u64, moment: u64,
-        centre: u64, position: &[f64; 3], acceleration: &mut [f64; 3],
+        book: *const u8, length: usize, coefficients: &[f64; 6], extras: &[f64; 3], dut: u32, rule: u64,
+        moment: u64, centre: u64, position: &[f64; 3], acceleration: &mut [f64; 3],
     ) -> u64;
     fn belfry_move(
-        book: *const u8, length: usize, coefficients: &[f64; 6], dut: u32, rule: u64, moment: u64,
-        centre: u64, coordinates: &[f64; 6], target_centre: u64, moved: &mut [f64; 6],
+        book: *const u8, length: usize, coefficients: &[f64; 6], extras: &[f64; 3], dut: u32, rule: u64,
+        moment: u64, centre: u64, coordinates: &[f64; 6], target_centre: u64, moved: &mut [f64; 6],
     ) -> u64;
     fn belfry_fly(
-        book: *const u8, length: usize, coefficients: &[f64; 6], dut: u32, rule: u64, moment: u64,
-        centre: u64, coordinates: &[f64; 6], h: u32, target: u64, budget: u32, guesses: &[u64; 5],
-        reached: &mut u64, there: &mut [f64; 6], entries: &mut [u64; 5], steps: &mut u32,
+        book: *const u8, length: usize, coefficients: &[f64; 6], extras: &[f64; 3], dut: u32, rule: u64,
+        moment: u64, centre: u64, coordinates: &[f64; 6], h: u32, target: u64, budget: u32,
+        guesses: &[u64; 5], reached: &mut u64, there: &mut [f64; 6], entries: &mut [u64; 5], steps: &mut u32,
     ) -> u64;
     fn belfry_turn(
         rule: u64, dut: u32, moment: u64, centre: u64, coordinates: &[f64; 6],
@@ -90,11 +90,13 @@ pub struct Repaired {
     pub changed: [bool; 4],
 }
 
-/// The gravitational coefficients of the bodies 1 to 6 in km³/s², DUT in milliseconds, and the rule of
-/// the hour angle.
+/// The gravitational coefficients of the bodies 1 to 6 in km³/s², the extras J, A in km and K in km³/s² (the
+/// Earth's oblateness and the sunlight), DUT in milliseconds, and the rule of the hour angle.
+/// `acceleration`, `run` and `single_step` read the coefficients and DUT alone.
 #[derive(Clone, Copy, Debug)]
 pub struct Setting {
     pub coefficients: [f64; 6],
+    pub extras: [f64; 3],
     pub dut: u32,
     pub rule: u64,
 }
@@ -304,11 +306,11 @@ pub fn conic(m: f64, state: &State) -> Result<(u64, Conic), u64> {
 pub fn pull(
     book: &[u8], setting: &Setting, moment: u64, centre: u64, position: &[f64; 3],
 ) -> Result<[f64; 3], u64> {
-    let Setting { coefficients, dut, rule } = setting;
+    let Setting { coefficients, extras, dut, rule } = setting;
     let mut acceleration = [0.0; 3];
     let number = unsafe {
         belfry_pull(
-            book.as_ptr(), book.len(), coefficients, *dut, *rule, moment, centre, position,
+            book.as_ptr(), book.len(), coefficients, extras, *dut, *rule, moment, centre, position,
             &mut acceleration,
         )
     };
@@ -317,11 +319,11 @@ pub fn pull(
 
 /// The state about another centre.
 pub fn moved(book: &[u8], setting: &Setting, state: &State, centre: u64) -> Result<State, u64> {
-    let Setting { coefficients, dut, rule } = setting;
+    let Setting { coefficients, extras, dut, rule } = setting;
     let mut coordinates = [0.0; 6];
     let number = unsafe {
         belfry_move(
-            book.as_ptr(), book.len(), coefficients, *dut, *rule, state.moment, state.centre,
+            book.as_ptr(), book.len(), coefficients, extras, *dut, *rule, state.moment, state.centre,
             &state.coordinates, centre, &mut coordinates,
         )
     };
@@ -333,10 +335,10 @@ pub fn fly(
     book: &[u8], setting: &Setting, state: &State, h: u32, target: u64, budget: u32,
     guesses: &[u64; 5],
 ) -> Ran {
-    let Setting { coefficients, dut, rule } = setting;
+    let Setting { coefficients, extras, dut, rule } = setting;
     ran(state.centre, |reached, there, entries, steps| unsafe {
         belfry_fly(
-            book.as_ptr(), book.len(), coefficients, *dut, *rule, state.moment, state.centre,
+            book.as_ptr(), book.len(), coefficients, extras, *dut, *rule, state.moment, state.centre,
             &state.coordinates, h, target, budget, guesses, reached, there, entries, steps,
         )
     })

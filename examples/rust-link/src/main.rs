@@ -64,7 +64,7 @@ fn positions() {
 }
 
 fn earth(dut: u32) -> Setting {
-    Setting { coefficients: [8.0, 0.0, 0.0, 0.0, 0.0, 0.0], dut, rule: 0 }
+    Setting { coefficients: [8.0, 0.0, 0.0, 0.0, 0.0, 0.0], extras: [0.0; 3], dut, rule: 0 }
 }
 
 fn repaired(r: &Repaired) -> String {
@@ -142,7 +142,8 @@ fn launch() -> Result<(), u64> {
     let moment = 411_264_035_000;
     let state = from_sphere(&sphere, 0, moment, 35_000)?;
     println!("launch:{}", bits(&state.coordinates));
-    let setting = Setting { coefficients: [398_600.63, 0.0, 0.0, 0.0, 0.0, 0.0], dut: 35_000, rule: 0 };
+    let coefficients = [398_600.63, 0.0, 0.0, 0.0, 0.0, 0.0];
+    let setting = Setting { coefficients, extras: [0.0; 3], dut: 35_000, rule: 0 };
     let ran = run(&[8, 0, 0, 0, 0, 0, 0, 0], &setting, &state, 60_000, moment + 3_600_000, 100, &[0; 5]);
     println!("after an hour, steps {}:{}", ran.steps, bits(&ran.state.coordinates));
     sphere.path = -900_000_000_001;
@@ -177,10 +178,13 @@ fn told_from(what: &str, steps: u32, state: &State) -> Result<(), u64> {
     Ok(())
 }
 
-/// JPL's check case 1 under the Moon and the Sun: 58 hours about the Earth, a move to the Moon, four hours about it.
+/// J, A and K: the Earth's oblateness as JPL had it, and no sunlight.
+const OBLATE: [f64; 3] = [0.001623450, 6378.1650, 0.0];
+
+/// JPL's check case 1 under the oblate Earth, the Moon and the Sun: 58 hours about the Earth, a move to the Moon, four hours about it.
 fn to_the_moon(book: &[u8]) -> Result<(), u64> {
     let coefficients = [398_600.63, 4902.6293, 132_714_110_000.0, 0.0, 0.0, 0.0];
-    let setting = Setting { coefficients, dut: 35_000, rule: 0 };
+    let setting = Setting { coefficients, extras: OBLATE, dut: 35_000, rule: 0 };
     let injection = State {
         moment: 411_331_356_297,
         centre: EARTH,

@@ -1,6 +1,6 @@
 //! Compares a program with the reference over inputs from a seed.
 //!
-//! differ --seed N --calls N --strips N --ask "WORDS" --strip "WORDS" --books FOLDER
+//! differ --seed N --calls N --strips N --ask "WORDS" --strip "WORDS" --strip144 "WORDS" --books FOLDER
 //!        [--kinds root,sincos,..] [--spoil N] [--limit SECONDS] [--cases]
 
 use std::path::PathBuf;
@@ -9,7 +9,7 @@ use std::time::Duration;
 
 use reference::trial::chance::Chance;
 use reference::trial::compare::{Programs, Tally};
-use reference::trial::plan::{groups, strips, KINDS};
+use reference::trial::plan::{groups, strips, strips144, KINDS};
 
 #[derive(Default)]
 struct Wish {
@@ -18,6 +18,7 @@ struct Wish {
     strips: usize,
     ask: Vec<String>,
     strip: Vec<String>,
+    strip144: Vec<String>,
     books: Option<PathBuf>,
     kinds: Vec<&'static str>,
     spoil: usize,
@@ -40,7 +41,7 @@ fn words(text: &str) -> Vec<String> {
 
 fn read_wish(mut args: impl Iterator<Item = String>) -> Result<Wish, String> {
     let all = KINDS.iter().map(|(k, _)| *k).collect();
-    let mut w = Wish { seed: 1, calls: 20_000, strips: 1000, limit: 300, kinds: all, ..Wish::default() };
+    let mut w = Wish { seed: 1, calls: 34_000, strips: 1000, limit: 300, kinds: all, ..Wish::default() };
     while let Some(name) = args.next() {
         if name == "--cases" {
             w.cases = true;
@@ -53,6 +54,7 @@ fn read_wish(mut args: impl Iterator<Item = String>) -> Result<Wish, String> {
             "--strips" => w.strips = number(&value)? as usize,
             "--ask" => w.ask = words(&value),
             "--strip" => w.strip = words(&value),
+            "--strip144" => w.strip144 = words(&value),
             "--books" => w.books = Some(value.into()),
             "--kinds" => w.kinds = kinds(&value)?,
             "--spoil" => w.spoil = number(&value)? as usize,
@@ -96,6 +98,11 @@ fn compare(wish: &Wish, programs: &Programs) -> Result<Tally, String> {
             programs.print_strip(&mut tally, &strip)?;
         }
     }
+    if !programs.strip144.is_empty() {
+        for strip in strips144(&mut chance, wish.strips, &real) {
+            programs.print_strip(&mut tally, &strip)?;
+        }
+    }
     Ok(tally)
 }
 
@@ -103,8 +110,8 @@ fn differ() -> Result<bool, String> {
     let wish = read_wish(std::env::args().skip(1))?;
     let folder = std::env::temp_dir().join(format!("differ-{}", std::process::id()));
     std::fs::create_dir_all(&folder).map_err(|e| format!("{}: {e}", folder.display()))?;
-    let (ask, strip) = (wish.ask.clone(), wish.strip.clone());
-    let programs = Programs { ask, strip, folder, limit: Duration::from_secs(wish.limit) };
+    let (ask, strip, strip144) = (wish.ask.clone(), wish.strip.clone(), wish.strip144.clone());
+    let programs = Programs { ask, strip, strip144, folder, limit: Duration::from_secs(wish.limit) };
     let tally = compare(&wish, &programs);
     // Inputs that differ stay in the folder.
     if tally.as_ref().is_ok_and(|t| t.differ == 0) {

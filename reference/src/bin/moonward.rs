@@ -2,7 +2,9 @@
 //! With --ask the program given is asked each line, made from its own answers, and every answer is compared with the reference's.
 //! With --spoil N the Nth expected answer is spoiled.
 //!
-//! moonward --order FILE --book FILE [--ask "WORDS"] [--spoil N]
+//! moonward --order FILE [--order FILE..] --book FILE [--ask "WORDS"] [--spoil N]
+//!
+//! An order is one of 120 bytes or one of 144, with J, A and K.
 
 use std::path::{Path, PathBuf};
 use std::process::ExitCode;
@@ -12,7 +14,7 @@ use reference::ask;
 use reference::fields::decimal;
 use reference::fixed::{precession, turned};
 use reference::motion::State;
-use reference::strip::{read_order, Order};
+use reference::strip::{read_either, Order};
 use reference::trial::child::talk;
 use reference::trial::compare::short;
 use reference::trial::moonward::{flight, Said};
@@ -20,7 +22,7 @@ use reference::vector::n;
 
 #[derive(Default)]
 struct Wish {
-    order: PathBuf,
+    orders: Vec<PathBuf>,
     book: PathBuf,
     ask: Vec<String>,
     spoil: usize,
@@ -31,7 +33,7 @@ fn read_wish(mut args: impl Iterator<Item = String>) -> Result<Wish, String> {
     while let Some(name) = args.next() {
         let value = args.next().ok_or(format!("{name}: nothing behind it"))?;
         match name.as_str() {
-            "--order" => w.order = value.into(),
+            "--order" => w.orders.push(value.into()),
             "--book" => w.book = value.into(),
             "--ask" => w.ask = value.split_whitespace().map(str::to_string).collect(),
             "--spoil" => w.spoil = decimal(value.as_bytes()).ok_or(format!("{value}: not a number"))? as usize,
@@ -70,22 +72,34 @@ fn compare(expected: &[Said], got: &[Said], spoil: usize) -> bool {
     differ == 0
 }
 
+/// The reference's own flight of an order, shown from the Moon.
+fn own_flight(order: &Order, book: &[u8]) -> Result<Vec<Said>, String> {
+    let own = flight(order, |line| Ok(ask::answer(book, line.as_bytes())))?;
+    let seen = own.iter().filter(|said| !said.answer.starts_with("GOING"));
+    seen.filter_map(Said::state).filter(|s| s.centre == 2).for_each(|s| show(order, &s));
+    Ok(own)
+}
+
+/// One line asked of the program.
+fn asked(w: &Wish, line: &str) -> Result<String, String> {
+    let said = talk(&w.ask, Some(&w.book), line.as_bytes(), 10_000, Duration::from_secs(300))?;
+    let answer = String::from_utf8_lossy(&said.output).into_owned();
+    answer.strip_suffix('\n').map(str::to_string).ok_or(format!("{answer}: no whole line"))
+}
+
 fn moonward() -> Result<bool, String> {
     let w = read_wish(std::env::args().skip(1))?;
-    let order = read_order(&read(&w.order)?).ok_or("the order is too short")?;
     let book = read(&w.book)?;
-    let own = flight(&order, |line| Ok(ask::answer(&book, line.as_bytes())))?;
-    let seen = own.iter().filter(|said| !said.answer.starts_with("GOING"));
-    seen.filter_map(Said::state).filter(|s| s.centre == 2).for_each(|s| show(&order, &s));
-    if w.ask.is_empty() {
-        return Ok(true);
+    let (mut own, mut got) = (Vec::new(), Vec::new());
+    for file in &w.orders {
+        println!("{}:", file.display());
+        let order = read_either(&read(file)?).ok_or("the order is neither of 120 bytes nor of 144")?;
+        own.extend(own_flight(&order, &book)?);
+        if !w.ask.is_empty() {
+            got.extend(flight(&order, |line| asked(&w, line))?);
+        }
     }
-    let got = flight(&order, |line| {
-        let said = talk(&w.ask, Some(&w.book), line.as_bytes(), 10_000, Duration::from_secs(300))?;
-        let answer = String::from_utf8_lossy(&said.output).into_owned();
-        answer.strip_suffix('\n').map(str::to_string).ok_or(format!("{answer}: no whole line"))
-    })?;
-    Ok(compare(&own, &got, w.spoil))
+    Ok(w.ask.is_empty() || compare(&own, &got, w.spoil))
 }
 
 fn main() -> ExitCode {

@@ -1,5 +1,5 @@
-//! The reference as a program: `reference ask [BOOK]`, `reference strip`, `reference repair`, `reference compare FIRST SECOND`,
-//! `reference table` and `reference precession`, a line for each year from 1950 on: its day and the nine elements.
+//! The reference as a program: `reference ask [BOOK]`, `reference strip`, `reference strip144`, `reference repair`,
+//! `reference compare FIRST SECOND`, `reference table` and `reference precession`, a line for each year from 1950 on: its day and the nine elements.
 
 use std::io::{self, BufWriter, Read, Write};
 use std::process::ExitCode;
@@ -21,6 +21,7 @@ fn answer(words: &[String]) -> io::Result<bool> {
             out.write_all(&ask::answers(&book, &standard_input()?))?;
         }
         ["strip"] => strip::strip_into(&standard_input()?, &mut out)?,
+        ["strip144"] => strip::strip144_into(&standard_input()?, &mut out)?,
         ["repair"] => {
             let answer = repair::repair(&standard_input()?, book::LIMIT);
             eprint!("{}", repair::report(&answer));
@@ -53,7 +54,7 @@ fn main() -> ExitCode {
     match answer(&words) {
         Ok(true) => ExitCode::SUCCESS,
         Ok(false) => {
-            eprintln!("reference ask [BOOK] | reference strip | reference repair | reference compare FIRST SECOND | reference table | reference precession");
+            eprintln!("reference ask [BOOK] | reference strip | reference strip144 | reference repair | reference compare FIRST SECOND | reference table | reference precession");
             ExitCode::from(2)
         }
         Err(error) => {

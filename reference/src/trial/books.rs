@@ -175,6 +175,13 @@ pub fn fast_apart() -> Vec<Piece> {
     [(2, 8.5e304), (3, -8.5e304)].iter().flat_map(|&(body, slope)| (0..40).map(move |i| at(body, i, slope))).collect()
 }
 
+/// The Moon all the time, and for half of it the Sun on the Earth's centre.
+pub fn sun_at_home() -> Vec<Piece> {
+    let moon = vec![3e5, 1e4, 2e5, -1e4, 1e5, 1e3];
+    let piece = |body, span, coefficients| Piece { body, start: 0, span, coefficients };
+    vec![piece(2, 10_000_000, moon), piece(3, 5_000_000, vec![0.0; 6])]
+}
+
 /// Books that pass and are of a kind of their own.
 pub fn special(c: &mut Chance) -> Vec<(&'static str, Vec<u8>)> {
     let whole = Piece { body: 6, start: 0, span: END, coefficients: coefficients(c, 16, 1000) };
@@ -190,6 +197,7 @@ pub fn special(c: &mut Chance) -> Vec<(&'static str, Vec<u8>)> {
         ("Moon too fast", build(&fast(2))),
         ("Jupiter too fast", build(&fast(6))),
         ("Moon and Sun far apart", build(&far_apart())),
+        ("Sun on the Earth's centre for a while", build(&sun_at_home())),
         ("Moon and Sun fast apart", build(&fast_apart())),
         ("one entry over all time", build(&[whole])),
         ("one entry, the last millisecond", build(&[last])),

@@ -1,9 +1,10 @@
 //! Centres for a trip: used ones, unused ones, and numbers that are none.
 
 use super::chance::Chance;
+use super::extras::some_extras;
 use super::times::some_rule;
 use super::trip::{bad_centre, Trip};
-use crate::motion::{looked_up, used, Setting, EARTH};
+use crate::motion::{used, Setting, EARTH};
 
 /// The Earth or another body that is used.
 pub fn used_centre(c: &mut Chance, setting: &Setting) -> u64 {
@@ -13,7 +14,7 @@ pub fn used_centre(c: &mut Chance, setting: &Setting) -> u64 {
 
 /// A used body that is not the Earth, where there is one.
 pub fn other_centre(c: &mut Chance, setting: &Setting) -> u64 {
-    let list: Vec<u64> = looked_up(setting).map(|body| body as u64).collect();
+    let list: Vec<u64> = used(setting).map(|(body, _)| body as u64).filter(|&body| body != EARTH).collect();
     if list.is_empty() { EARTH } else { c.pick(&list) }
 }
 
@@ -27,9 +28,12 @@ pub fn some_centre(c: &mut Chance, setting: &Setting) -> u64 {
     }
 }
 
-/// The trip about some centre, by one of the rules.
+/// The trip about some centre, by one of the rules, half of them with the last terms.
 pub fn centred(c: &mut Chance, mut t: Trip) -> Trip {
     t.state.centre = some_centre(c, &t.setting);
+    if c.one_in(2) {
+        t.setting.extras = some_extras(c);
+    }
     t.setting.rule = match c.below(3) {
         0 => some_rule(c),
         _ => c.below(2),

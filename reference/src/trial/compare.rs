@@ -73,9 +73,10 @@ impl Tally {
     }
 
     pub fn strip(&mut self, s: &Strip, expected: Vec<u8>, said: &Said, kept: &dyn Fn() -> String) {
-        self.counts.add("strip", &s.case, &String::from_utf8_lossy(&expected));
-        self.one(&format!("strip, {}", s.case), expected, Some(&said.output), kept);
-        self.counts.end("strip", &said.ended);
+        let name = if s.extras { "strip144" } else { "strip" };
+        self.counts.add(name, &s.case, &String::from_utf8_lossy(&expected));
+        self.one(&format!("{name}, {}", s.case), expected, Some(&said.output), kept);
+        self.counts.end(name, &said.ended);
     }
 }
 
@@ -97,6 +98,7 @@ pub fn group_input(group: &Group) -> Vec<u8> {
 pub struct Programs {
     pub ask: Vec<String>,
     pub strip: Vec<String>,
+    pub strip144: Vec<String>,
     pub folder: PathBuf,
     pub limit: Duration,
 }
@@ -126,9 +128,11 @@ impl Programs {
 
     /// The input of a strip that differs is kept in the folder.
     pub fn print_strip(&self, tally: &mut Tally, s: &Strip) -> Result<(), String> {
-        let expected = strip::strip(&s.input);
+        let (print, program) =
+            if s.extras { (strip::strip144 as fn(&[u8]) -> Vec<u8>, &self.strip144) } else { (strip::strip as _, &self.strip) };
+        let expected = print(&s.input);
         let most = 2 * expected.len() as u64 + 100_000;
-        let said = talk(&self.strip, None, &s.input, most, self.limit)?;
+        let said = talk(program, None, &s.input, most, self.limit)?;
         let file = self.folder.join(format!("strip-{}.input", tally.compared + 1));
         let kept = || match std::fs::write(&file, &s.input) {
             Ok(()) => format!("{} bytes, kept in {}", s.input.len(), file.display()),

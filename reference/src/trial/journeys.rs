@@ -3,6 +3,7 @@
 use super::centres::{other_centre, used_centre};
 use super::chance::Chance;
 use super::cover::crossing;
+use super::extras::some_extras;
 use super::trip::{guesses, trip, Trip};
 use super::world::{Case, World};
 use crate::motion::{Outcome, EARTH};
@@ -34,6 +35,7 @@ fn leg(c: &mut Chance, w: &World, t: &mut Trip, lines: &mut Vec<String>) -> bool
 fn legs(c: &mut Chance, w: &World, mut t: Trip) -> Vec<String> {
     let mut lines = Vec::new();
     t.state.centre = used_centre(c, &t.setting);
+    t.setting.extras = some_extras(c);
     for _ in 0..c.between(2, 4) {
         t.aim(c.between(0, 8));
         if !leg(c, w, &mut t, &mut lines) {

@@ -2,6 +2,7 @@
 
 use super::floats::hexes;
 use super::trip::Trip;
+use crate::extras::Extras;
 
 impl Trip {
     /// Coefficients and DUT.
@@ -10,7 +11,8 @@ impl Trip {
     }
 
     fn setting_fields(&self) -> String {
-        format!("{} {}", self.old_setting(), self.setting.rule)
+        let Extras { j, a, k } = self.setting.extras;
+        format!("{} {} {}", self.old_setting(), hexes(&[j, a, k]), self.setting.rule)
     }
 
     fn six(&self) -> String {
@@ -59,6 +61,14 @@ impl Trip {
         bytes.extend(self.h.to_le_bytes());
         bytes.extend(self.setting.dut.to_le_bytes());
         bytes.extend(self.target.to_le_bytes());
+        bytes
+    }
+
+    /// The 144 bytes of an order with J, A and K.
+    pub fn order144(&self) -> Vec<u8> {
+        let Extras { j, a, k } = self.setting.extras;
+        let mut bytes = self.order();
+        bytes.extend([j, a, k].iter().flat_map(|x| x.to_le_bytes()));
         bytes
     }
 }

@@ -6,6 +6,7 @@ pub mod books;
 pub mod centres;
 pub mod chance;
 pub mod damage;
+pub mod extras;
 pub mod floats;
 pub mod lines;
 pub mod listings;
@@ -31,6 +32,7 @@ pub mod spheres;
 pub mod states;
 pub mod strips;
 pub mod tables;
+pub mod terms;
 pub mod unreadable;
 
 // Plan: how many of each, and with which books.

@@ -2,6 +2,7 @@
 //! Moon, and on about it. Each line is made from the answer before it.
 
 use super::floats::hexes;
+use crate::extras::Extras;
 use crate::fields;
 use crate::motion::State;
 use crate::strip::Order;
@@ -38,7 +39,7 @@ impl Said {
     pub fn state(&self) -> Option<State> {
         let list: Vec<&[u8]> = self.answer.split(' ').map(str::as_bytes).collect();
         let from = state_from(&self.answer)?;
-        fields::state(list.get(from..from + 8)?)
+        fields::state(list.get(from..from + fields::STATE)?)
     }
 }
 
@@ -62,9 +63,9 @@ impl Place {
     fn take(&mut self, answer: &str) -> Result<bool, String> {
         let list: Vec<String> = answer.split(' ').map(str::to_string).collect();
         let from = state_from(answer).ok_or_else(|| answer.to_string())?;
-        self.state = list.get(from..from + 8).ok_or_else(|| answer.to_string())?.to_vec();
+        self.state = list.get(from..from + fields::STATE).ok_or_else(|| answer.to_string())?.to_vec();
         if from > 0 {
-            self.guesses = list[from + 8..].to_vec();
+            self.guesses = list[from + fields::STATE..].to_vec();
         }
         Ok(list[0] == "GOING")
     }
@@ -77,7 +78,8 @@ impl Place {
 /// The flight of an order, by whatever answers a line: every call with its answer. A refusal ends it.
 pub fn flight(order: &Order, mut say: impl FnMut(&str) -> Result<String, String>) -> Result<Vec<Said>, String> {
     let (setting, s) = (&order.setting, &order.state);
-    let setting = format!("{} {} {}", hexes(&setting.coefficients), setting.dut, setting.rule);
+    let Extras { j, a, k } = setting.extras;
+    let setting = format!("{} {} {} {}", hexes(&setting.coefficients), setting.dut, hexes(&[j, a, k]), setting.rule);
     let state = format!("{} {} {} {}", s.moment, s.centre, hexes(&s.position), hexes(&s.velocity));
     let mut place = Place { state: state.split(' ').map(str::to_string).collect(), guesses: vec!["0".to_string(); 5] };
     let mut list = Vec::new();

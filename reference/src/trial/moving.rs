@@ -4,6 +4,7 @@ use super::about::place;
 use super::centres::{other_centre, some_centre, used_centre};
 use super::chance::Chance;
 use super::cover;
+use super::extras::{bad_extras, some_extras};
 use super::floats::{largest, one_not_finite, signed_zeros, wild};
 use super::times::{bad_moment, some_rule};
 use super::trip::{bad_centre, break_setting, trip, trip_at, Trip, NOMINAL};
@@ -18,6 +19,7 @@ fn pair(c: &mut Chance, w: &World) -> (Trip, u64) {
     let mut t = trip(c, w);
     t.state.centre = used_centre(c, &t.setting);
     t.setting.rule = c.below(2);
+    t.setting.extras = some_extras(c);
     let new = if t.state.centre == EARTH { other_centre(c, &t.setting) } else { used_centre(c, &t.setting) };
     let at_zero = |body| body != EARTH && place(w, &t, body).contains(&0.0);
     if [t.state.centre, new].into_iter().any(at_zero) {
@@ -147,7 +149,9 @@ fn broken(c: &mut Chance, w: &World) -> Vec<String> {
     if which & 8 != 0 {
         t.state.moment = bad_moment(c);
     }
-    if which & 1 != 0 {
+    if which & 1 != 0 && c.one_in(2) {
+        t.setting.extras = bad_extras(c);
+    } else if which & 1 != 0 {
         break_setting(c, &mut t);
     }
     vec![t.move_line(new)]

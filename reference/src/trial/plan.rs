@@ -4,16 +4,18 @@ use super::about::ABOUT;
 use super::books::{build, entries, pieces, special, sturdy};
 use super::centres::centred;
 use super::chance::Chance;
-use super::strips::{journey, strip, Strip};
+use super::strips::{journey, strip, strip144, Strip};
+use super::terms::TERMS;
 use super::trip::Trip;
 use super::world::{Case, World};
-use super::{damage, earth, journeys, leaves, lookups, moving, runs, spheres, states, unreadable};
+use super::{damage, earth, journeys, leaves, lookups, moving, runs, spheres, states, terms, unreadable};
 
-/// All kinds of call, with their share of 140; a journey is lines of fly and move, and `earth` is old lines beside new ones.
-pub const KINDS: [(&str, usize); 20] = [
+/// All kinds of call, with their share of 170; a journey is lines of fly and move, `earth` is old lines beside new ones, and
+/// `terms` is lines of fly, pull and move with J, A and K.
+pub const KINDS: [(&str, usize); 21] = [
     ("root", 9), ("sincos", 6), ("hour", 6), ("sidereal", 7), ("date", 4), ("day", 5), ("fixed", 5),
     ("turn", 5), ("sphere", 6), ("conic", 7), ("unreadable", 5), ("body", 8), ("accel", 9), ("run", 18),
-    ("pull", 8), ("move", 10), ("fly", 9), ("journey", 7), ("orbit", 2), ("earth", 4),
+    ("pull", 8), ("move", 10), ("fly", 9), ("journey", 7), ("orbit", 2), ("earth", 4), ("terms", 30),
 ];
 
 #[derive(Clone, Debug)]
@@ -58,6 +60,10 @@ pub fn trips(c: &mut Chance, w: &World, kind: &str, i: usize) -> Option<(&'stati
         "fly" => (runs::RUN, true),
         "accel" => (lookups::ACCEL, false),
         "pull" => (lookups::ACCEL, true),
+        "terms" => {
+            let (name, make) = TERMS[i % TERMS.len()];
+            return Some((name, make(c, w)));
+        }
         _ => return None,
     };
     let i = i % (old.len() + if new { ABOUT.len() } else { 0 });
@@ -72,11 +78,12 @@ pub fn trips(c: &mut Chance, w: &World, kind: &str, i: usize) -> Option<(&'stati
     Some((name, list))
 }
 
-pub fn trip_line(kind: &str, t: &Trip) -> String {
+pub fn trip_line(c: &mut Chance, kind: &str, t: &Trip) -> String {
     match kind {
         "run" => t.run_line(),
         "fly" => t.fly_line(),
         "accel" => t.accel_line(),
+        "terms" => terms::line(c, t),
         _ => t.pull_line(),
     }
 }
@@ -84,8 +91,8 @@ pub fn trip_line(kind: &str, t: &Trip) -> String {
 /// Calls of one kind by its i-th case; at least one.
 pub fn made(c: &mut Chance, w: &World, kind: &'static str, i: usize) -> Vec<Call> {
     if let Some((name, list)) = trips(c, w, kind, i) {
-        let made = |(note, t): &(String, Trip)| call(kind, &format!("{name} {note}"), trip_line(kind, t));
-        return list.iter().map(made).collect();
+        let mut made = |(note, t): &(String, Trip)| call(kind, &format!("{name} {note}"), trip_line(c, kind, t));
+        return list.iter().map(&mut made).collect();
     }
     let list = cases(kind);
     let (name, make) = list[i % list.len()];
@@ -122,7 +129,7 @@ pub fn counts(calls: usize, kinds: &[&'static str]) -> Vec<(&'static str, usize)
 }
 
 pub fn needs_book(kind: &str) -> bool {
-    matches!(kind, "body" | "accel" | "run" | "pull" | "move" | "fly" | "journey" | "earth")
+    matches!(kind, "body" | "accel" | "run" | "pull" | "move" | "fly" | "journey" | "earth" | "terms")
 }
 
 /// Books: none, the real ones, special ones, random ones and damaged ones.
@@ -207,22 +214,36 @@ pub fn groups(
     list
 }
 
-/// So many inputs for strip, over all sorts of books.
-pub fn strips(c: &mut Chance, n: usize, real: &[(String, Vec<u8>)]) -> Vec<Strip> {
-    let worlds = worlds(c, real);
+/// So many inputs of one sort, over all sorts of books.
+fn inputs(c: &mut Chance, n: usize, worlds: &[World], make: fn(&mut Chance, &World, usize) -> Strip) -> Vec<Strip> {
     let mut list = Vec::new();
     for (j, world) in worlds.iter().enumerate() {
         let first = c.below(100) as usize;
-        for i in 0..part(n, &worlds, j) {
-            list.push(strip(c, world, first + i));
+        for i in 0..part(n, worlds, j) {
+            list.push(make(c, world, first + i));
         }
     }
+    list
+}
+
+/// So many inputs for strip.
+pub fn strips(c: &mut Chance, n: usize, real: &[(String, Vec<u8>)]) -> Vec<Strip> {
+    let worlds = worlds(c, real);
+    let mut list = inputs(c, n, &worlds, strip);
     // A few long journeys through the real books.
     for (i, (name, book)) in real.iter().enumerate() {
         if n >= 100 && i < list.len() {
             list[i] = journey(c, &World::new(name, book.clone(), 1));
         }
     }
+    c.shuffle(&mut list);
+    list
+}
+
+/// So many inputs for strip144.
+pub fn strips144(c: &mut Chance, n: usize, real: &[(String, Vec<u8>)]) -> Vec<Strip> {
+    let worlds = worlds(c, real);
+    let mut list = inputs(c, n, &worlds, strip144);
     c.shuffle(&mut list);
     list
 }

@@ -62,7 +62,7 @@ impl Counts {
     pub fn kind_lines(&self) -> Vec<String> {
         let mut lines = Vec::new();
         for (kind, n) in &self.kinds {
-            let what = if kind == "strip" { "strips" } else { "calls" };
+            let what = if kind.starts_with("strip") { "strips" } else { "calls" };
             let mut line = format!("{kind}: {} {what}", grouped(*n));
             for ((_, sort), m) in self.answers.iter().filter(|((k, _), _)| k == kind) {
                 line.push_str(&format!(", {} {sort}", grouped(*m)));

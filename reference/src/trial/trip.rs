@@ -5,6 +5,7 @@ use super::floats::flight;
 use super::times::{bad_dut, bad_moment};
 use super::world::World;
 use crate::book::covers;
+use crate::extras::Extras;
 use crate::hour::{DUT_MOST, END};
 use crate::motion::{run, start_checks, Ran, Setting, State, EARTH};
 
@@ -79,7 +80,7 @@ pub fn setting_at(c: &mut Chance, w: &World, t: u64) -> Setting {
         }
     }
     let dut = c.pick(&[0, 35_000, DUT_MOST, c.clone().below(100_001) as u32]);
-    Setting { coefficients, dut, rule: 0 }
+    Setting { coefficients, dut, extras: Extras::NONE, rule: 0 }
 }
 
 /// An allowed h, any size, or one that fits the cover that is left.

@@ -1,0 +1,18 @@
+-- `orders::bytes::float_at` meets its contract. Assumes nothing.
+use mathlib.Core.Path.{ap, _∙_}
+use lib.Ieee.{binary64, ofBits}
+use borrow.Author.Needs.{needs}
+use Rattle.orders.proofs.bytes.float_at.Statement.{statement}
+use Rattle.orders.proofs.bytes.float_at.Tie as tie
+
+u64-at-requires : tie.Need-u64-at-requires
+u64-at-requires c κs = search needs
+
+float-of-bits-requires : tie.Need-float-of-bits-requires
+float-of-bits-requires c κs = search needs
+
+returns : tie.Need-returns
+returns c = c .float-of-bits .ensures ∙ ap (ofBits binary64) (c .before .u64-at .ensures)
+
+pub float-at-spec : {M : Type 1} → statement M
+float-at-spec = tie.close (tie.spec u64-at-requires float-of-bits-requires returns)

@@ -1,0 +1,61 @@
+-- `stripping::print_listing` meets its contract: the buffer holds two lines, and an order that passed starts on course. Assumes nothing.
+use mathlib.Core.Path.{sym}
+use native.Mathlib.Omega.{arith}
+use lib.Seq.{length-take-le}
+use denote.Ref.{now}
+use Rattle.text.proofs.Writing.{inside}
+use Rattle.motion.proofs.Start.{mayWalk}
+use Rattle.listing.proofs.Lengths.{header-fits}
+use Rattle.listing.proofs.Courses.{starts}
+use borrow.Author.Needs.{needs}
+use Rattle.stripping.proofs.print_listing.Statement.{statement}
+use Rattle.stripping.proofs.print_listing.Tie as tie
+
+large-buffer-requires : tie.Need-large-buffer-requires
+large-buffer-requires c κs = search needs
+
+slice-aggregate-out : tie.Need-slice-aggregate-out
+slice-aggregate-out c = search needs
+
+put-header-requires : tie.Need-put-header-requires
+put-header-requires c κs = search needs
+
+put-state-requires : tie.Need-put-state-requires
+put-state-requires c κs = omega (arith, header-fits (c .before .before .before .before .before .before .before .before .before .args .order .h) (omega arith), c .before .before .before .before .put-header .ensures .next, c .before .before .before .before .put-header .kept .0, c .before .before .before .before .before .before .before .large-buffer .ensures)
+
+slice-reshare-prefix-print : tie.Need-slice-reshare-prefix-print
+slice-reshare-prefix-print c = inside (c .before .before .put-state .ensures) (inside (c .before .before .before .before .before .before .before .put-header .ensures) (omega arith))
+
+slice-aggregate-print : tie.Need-slice-aggregate-print
+slice-aggregate-print c = sym (length-take-le _ _ (inside (c .before .before .before .put-state .ensures) (inside (c .before .before .before .before .before .before .before .before .put-header .ensures) (omega arith))))
+
+print-requires : tie.Need-print-requires
+print-requires c κs = search needs
+
+start-requires : tie.Need-start-requires
+start-requires c κs = mayWalk _ _ _ _ _ (c .before .before .before .before .before .before .before .before .before .before .before .before .before .before .before .before .pre)
+
+print-course-requires : tie.Need-print-course-requires
+print-course-requires c κs = (rw (c .start .ensures) (starts (now (c .before .before .before .before .before .before .before .before .before .before .before .before .before .before .before .before .before .args .book)) (c .before .before .before .before .before .before .before .before .before .before .before .before .before .before .before .before .before .args .order) (mayWalk _ _ _ _ _ (c .before .before .before .before .before .before .before .before .before .before .before .before .before .before .before .before .before .pre))), omega (arith, c .before .before .before .before .before .before .before .put-state .kept .0, c .before .before .before .before .before .before .before .before .before .before .before .before .put-header .kept .0, c .before .before .before .before .before .before .before .before .before .before .before .before .before .before .before .large-buffer .ensures))
+
+returns : tie.Need-returns
+returns c = search needs
+
+returns-2 : tie.Need-returns-2
+returns-2 c = search needs
+
+pub print-listing-spec : {M : Type 1} → statement M
+print-listing-spec =
+    tie.close
+    (tie.spec
+    large-buffer-requires
+    slice-aggregate-out
+    put-header-requires
+    put-state-requires
+    slice-reshare-prefix-print
+    slice-aggregate-print
+    print-requires
+    start-requires
+    print-course-requires
+    returns
+    returns-2)

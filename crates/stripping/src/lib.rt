@@ -1,0 +1,142 @@
+// The programs strip and strip144: each reads an order of its form and a book from standard input, and prints the listing of their
+// run. What it cannot read or write it tells on standard error.
+//
+// No contract can say what a program reads or writes. What it should print is listing's definition `stripText` of the form and
+// what it reads: the contracts of orders and listing say what is read and what each text is that is printed here, and the laws of
+// listing (proofs/Whole.antt) that these texts, in this order, make up the whole.
+
+mod telling;
+
+use libc::STDIN_FILENO;
+use libc::STDOUT_FILENO;
+use listing::Course;
+use listing::known::portion;
+use listing::known::start;
+use listing::lines::put_header;
+use listing::lines::put_lone_refusal;
+use listing::lines::put_outcome;
+use listing::lines::put_state;
+use motion::Outcome;
+use orders::Form;
+use orders::Order;
+use orders::OrderAnswer;
+use state::Setting;
+use telling::tell_unread;
+use telling::tell_unwritten;
+use telling::tell_use;
+ghost use mathlib.Core.Path.{_≡_};
+ghost use Prim.Native.Nat.{_≤_};
+ghost use lib.ListN.{length};
+ghost use Rattle.start.specs.Start.{startRefusal};
+ghost use Rattle.listing.specs.Course.{OnCourse};
+
+// The longest order, the longest book, and one byte more: enough to see that a book is too long.
+const LONGEST_INPUT: usize = orders::LONGEST_ORDER + book::LONGEST_BOOK + 1;
+
+// Whether all of the text was written; if not, standard error says why.
+fn print(form: Form, part: &[u8]) -> bool {
+    if io::write_all(STDOUT_FILENO, part) {
+        return true;
+    }
+    tell_unwritten(form);
+    false
+}
+
+fn print_lone_refusal(form: Form, refusal: u64) {
+    let mut line = [0u8; 128];
+    let n = put_lone_refusal(&mut line, 0, refusal);
+    print(form, &line[..n]);
+}
+
+fn print_outcome(form: Form, outcome: Outcome, steps: u64) {
+    let mut line = [0u8; 128];
+    let n = put_outcome(&mut line, 0, outcome, steps);
+    print(form, &line[..n]);
+}
+
+// Portion after portion, each as large as the buffer takes.
+fn print_course(form: Form, book: &[u8], setting: Setting, h: u32, from: Course, out: &mut [u8])
+    requires { ⌜ OnCourse (now book) setting h from ⌝ }
+    requires { ⌜ 123 ≤ length (now out) ⌝ }
+{
+    let mut course = from;
+    loop {
+        let p = portion(book, setting, h, course, out);
+        let n = p.written;
+        if !print(form, &out[..n]) {
+            return;
+        }
+        let outcome = p.outcome;
+        course = p.course;
+        let Outcome::Going = outcome else {
+            print_outcome(form, outcome, course.done);
+            return;
+        };
+    }
+}
+
+fn print_listing(form: Form, book: &[u8], order: Order)
+    requires { ⌜ startRefusal (now book) (order .setting) (order .state) (order .h) (order .target) ≡ 0 ⌝ }
+{
+    let mut buffer = io::large_buffer();
+    let out: &mut [u8] = &mut buffer;
+    let header = put_header(out, 0, order.h);
+    let injection = order.state;
+    let n = put_state(out, header, injection);
+    if print(form, &out[..n]) {
+        let setting = order.setting;
+        print_course(form, book, setting, order.h, start(book, order), out);
+    }
+}
+
+fn print_order(form: Form, book: &[u8], order: Order) {
+    let setting = order.setting;
+    let injection = order.state;
+    let refusal = start::start_refusal(book, setting, injection, order.h, order.target);
+    if refusal == 0 {
+        print_listing(form, book, order);
+    } else {
+        print_lone_refusal(form, refusal);
+    }
+}
+
+fn print_strip(form: Form, input: &[u8]) {
+    let answer = orders::read_order(form, input);
+    match answer {
+        OrderAnswer::Is(order) => {
+            let from = orders::order_length(form);
+            print_order(form, &input[from..], order);
+        }
+        OrderAnswer::Refused(refusal) => {
+            print_lone_refusal(form, refusal);
+        }
+    }
+}
+
+// A short count is the end of the input or a failure: reading once more tells which.
+fn read_failed(count: usize) -> bool {
+    if LONGEST_INPUT <= count {
+        return false;
+    }
+    let mut more = [0u8; 1];
+    let got = libc::read(STDIN_FILENO, &mut more);
+    if got < 0 {
+        return true;
+    }
+    false
+}
+
+// All of the program that takes orders of this form.
+pub fn strip(form: Form) {
+    if 1 < os::arg_count() {
+        tell_use(form);
+        return;
+    }
+    let mut input = [0u8; LONGEST_INPUT];
+    let n = io::read_full(STDIN_FILENO, &mut input);
+    if read_failed(n) {
+        tell_unread(form);
+        return;
+    }
+    print_strip(form, &input[..n]);
+}
