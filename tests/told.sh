@@ -47,10 +47,10 @@ check "ask with two words" '' '^use: ask \[BOOK\] < QUESTIONS$'
 says "$dates" ask "$work/long"
 check "ask with a book above the limit" $'1950 1 1\nREFUSED 1' ''
 zeros=0000000000000000 small=00000000000000000000
-longest="fly 4020000000000000$(printf " $zeros%.0s" {1..5}) $small$(printf " $zeros%.0s" {1..3})$(printf " $small%.0s" {1..2}) 00000000000000000001 4000000000000000$(printf " $zeros%.0s" {1..3}) 4010000000000000 $zeros 00000000000000001000$(printf " $small%.0s" {1..7})"
+longest="fly 4020000000000000$(printf " $zeros%.0s" {1..5}) $small$(printf " $zeros%.0s" {1..3}) $small $small 00000000000000000001 4000000000000000$(printf " $zeros%.0s" {1..3}) 4010000000000000$(printf " $zeros%.0s" {1..4}) 00000000000000001000$(printf " $small%.0s" {1..7})"
 says "$longest"$'\n' ask
-[ ${#longest} = 510 ] || echo "the longest call has ${#longest} bytes" >>"$work/err"
-check "ask with the longest call" 'REFUSED 1 0 0 1 4000000000000000 0000000000000000 0000000000000000 0000000000000000 4010000000000000 0000000000000000 0 0 0 0 0' ''
+[ ${#longest} = 561 ] || echo "the longest call has ${#longest} bytes" >>"$work/err"
+check "ask with the longest call" "REFUSED 1 0 0 1 4000000000000000 $zeros $zeros $zeros 4010000000000000 $zeros $zeros $zeros $zeros 0 0 0 0 0" ''
 says "$longest 0"$'\n' ask
 check "ask with a field more" UNREADABLE ''
 printf '%s' "$dates" | $start target/bin/ask >/dev/full 2>"$work/err"

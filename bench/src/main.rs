@@ -9,7 +9,8 @@ use std::process::ExitCode;
 use std::time::Instant;
 
 use reference::extras::Extras;
-use reference::motion::{run, Outcome, Ran, Setting, State};
+use reference::motion::{of_an_order, run, Outcome, Ran};
+use reference::rule::{Setting, State};
 use reference::strip::read_order;
 
 const H: u32 = 60_000;
@@ -29,7 +30,12 @@ struct Flight<'a> {
     walk: Walk,
 }
 
-impl Flight<'_> {
+impl<'a> Flight<'a> {
+    /// From a state that is given its acceleration first.
+    fn new(book: &'a [u8], setting: Setting, start: &State, walk: Walk) -> Flight<'a> {
+        Flight { book, setting, start: of_an_order(book, &setting, start), walk }
+    }
+
     fn target(&self) -> u64 {
         self.start.moment + u64::from(H) * u64::from(STEPS)
     }
@@ -42,8 +48,8 @@ impl Flight<'_> {
     fn by_proved(&self) -> belfrywool::Ran {
         let Setting { coefficients, dut, extras: Extras { j, a, k }, rule } = self.setting;
         let setting = belfrywool::Setting { coefficients, extras: [j, a, k], dut, rule };
-        let State { moment, centre, position: [x, y, z], velocity: [vx, vy, vz] } = self.start;
-        let state = belfrywool::State { moment, centre, coordinates: [x, y, z, vx, vy, vz] };
+        let State { moment, centre, position: [x, y, z], velocity: [vx, vy, vz], acceleration } = self.start;
+        let state = belfrywool::State { moment, centre, coordinates: [x, y, z, vx, vy, vz], acceleration };
         (self.walk)(black_box(self.book), &setting, &state, H, self.target(), u32::MAX, &[0; 5])
     }
 
@@ -73,7 +79,7 @@ impl Flight<'_> {
 /// An orbit about the Moon at 5,000 km, at the order's moment.
 fn about_the_moon(order: &State, setting: &Setting) -> State {
     let (r, m) = (5000.0, setting.coefficients[MOON as usize - 1]);
-    State { moment: order.moment, centre: MOON, position: [r, 0.0, 0.0], velocity: [0.0, (m / r).sqrt(), 0.0] }
+    State::bare(order.moment, MOON, [r, 0.0, 0.0], [0.0, (m / r).sqrt(), 0.0])
 }
 
 /// The setting with document 003's J and A, and sunlight as on a craft of 10 m² and 300 kg.
@@ -164,13 +170,12 @@ fn bench(words: &[String]) -> Result<(), String> {
     let [earth, moon, sun, ..] = order.setting.coefficients;
     let setting = Setting { coefficients: [earth, moon, sun, 0.0, 0.0, 0.0], ..order.setting };
     let book = read(book)?;
-    let flight = Flight { book: &book, setting, start: order.state, walk: belfrywool::run };
+    let flight = Flight::new(&book, setting, &order.state, belfrywool::run);
     flight.timed("thirty days", times)?;
     let moon = about_the_moon(&order.state, &setting);
-    let flight = Flight { start: moon, walk: belfrywool::fly, ..flight };
-    flight.timed("thirty days about the Moon", times)?;
-    let flight = Flight { start: order.state, setting: with_terms(&setting), ..flight };
-    flight.timed("thirty days with the oblate Earth and sunlight", times)?;
+    Flight::new(&book, setting, &moon, belfrywool::fly).timed("thirty days about the Moon", times)?;
+    let lit = Flight::new(&book, with_terms(&setting), &order.state, belfrywool::fly);
+    lit.timed("thirty days with the oblate Earth and sunlight", times)?;
     books(times, &book, flight.target());
     roots(times);
     angles(times);

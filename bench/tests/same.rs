@@ -7,15 +7,16 @@ use reference::hour::CIRCLE;
 use reference::sphere::QUARTER;
 use reference::trial::centres::{centred, some_centre};
 use reference::trial::chance::Chance;
-use reference::trial::floats::{flight, one_not_finite, wild};
+use reference::trial::floats::{anything, flight, one_not_finite, wild};
 use reference::trial::mends::made;
 use reference::trial::plan::worlds;
 use reference::trial::runs::RUN;
+use reference::trial::stored::STORED;
 use reference::trial::terms::TERMS;
 use reference::trial::times::{bad_dut, bad_moment, hard_ut, moment_dut, some_rule};
 use reference::trial::trip::{bad_centre, Trip};
 use reference::trial::world::World;
-use reference::{book, calendar, conic, fixed, hour, motion, moves, repair, root, sine, sphere};
+use reference::{book, calendar, conic, fixed, hour, motion, moves, repair, root, rule, sine, sphere};
 
 const TIMES: usize = 20_000;
 
@@ -95,10 +96,11 @@ fn proved_figured(x: Result<(u64, proved::Conic), u64>) -> Figured {
     })
 }
 
-/// The same state for the one and for the other.
-fn both(moment: u64, centre: u64, coordinates: [f64; 6]) -> (proved::State, motion::State) {
-    let (position, velocity) = halves(coordinates);
-    (proved::State { moment, centre, coordinates }, motion::State { moment, centre, position, velocity })
+/// The same state for the one and for the other, with anything stored.
+fn both(c: &mut Chance, moment: u64, centre: u64, coordinates: [f64; 6]) -> (proved::State, rule::State) {
+    let ((position, velocity), acceleration) = (halves(coordinates), anything(c));
+    let other = rule::State { moment, centre, position, velocity, acceleration };
+    (proved::State { moment, centre, coordinates, acceleration }, other)
 }
 
 #[test]
@@ -107,13 +109,13 @@ fn states() {
     for _ in 0..TIMES {
         let (moment, dut) = moment_dut(&mut c);
         let coordinates = some_state(&mut c);
-        let (own, other) = both(moment, 1, coordinates);
-        let turned = |rule, s: &motion::State| fixed::earth_fixed(rule, dut, s).map(|(p, v)| bits(joined(p, v)));
+        let (own, other) = both(&mut c, moment, 1, coordinates);
+        let turned = |rule, s: &rule::State| fixed::earth_fixed(rule, dut, s).map(|(p, v)| bits(joined(p, v)));
         assert_eq!(proved::earth_fixed(&own, dut).map(bits), turned(0, &other));
         let m = if c.one_in(8) { c.any_bits() } else { c.sized(-2, 20).abs() };
         assert_eq!(proved_figured(proved::conic(m, &own)), figured(conic::conic(m, &other)));
         let centre = c.pick(&[1, 1, c.clone().between(1, 6), bad_centre(&mut c.clone())]);
-        let (own, other) = both(moment, centre, coordinates);
+        let (own, other) = both(&mut c, moment, centre, coordinates);
         let rule = some_rule(&mut c);
         assert_eq!(proved::turn(rule, dut, &own).map(bits), turned(rule, &other));
         assert_eq!(proved_figured(proved::orbit(m, &own)), figured(conic::conic(m, &other)));
@@ -175,12 +177,23 @@ fn proved_back(ran: &proved::Ran) -> Back {
 
 /// Setting and state of a trip for the proved calls.
 fn given(t: &Trip) -> (proved::Setting, proved::State) {
-    let motion::Setting { coefficients, dut, extras: Extras { j, a, k }, rule } = t.setting;
-    let (state, _) = both(t.state.moment, t.state.centre, joined(t.state.position, t.state.velocity));
+    let rule::Setting { coefficients, dut, extras: Extras { j, a, k }, rule } = t.setting;
+    let rule::State { moment, centre, position, velocity, acceleration } = t.state;
+    let state = proved::State { moment, centre, coordinates: joined(position, velocity), acceleration };
     (proved::Setting { coefficients, extras: [j, a, k], dut, rule }, state)
 }
 
-/// The calls about the Earth.
+/// Coordinates of a state, and the acceleration kept with them.
+fn nine(s: &rule::State) -> [u64; 9] {
+    let [p, v, a] = [s.position, s.velocity, s.acceleration].map(bits);
+    [p, v, a].concat().try_into().expect("nine")
+}
+
+fn proved_nine(s: &proved::State) -> [u64; 9] {
+    [&bits(s.coordinates)[..], &bits(s.acceleration)].concat().try_into().expect("nine")
+}
+
+/// The calls about the Earth, which have the acceleration that the rule gives.
 fn on_a_book(c: &mut Chance, w: &World, t: &Trip) {
     let (book, what) = (w.bytes(), format!("{} {}", w.name, t.run_line()));
     let (setting, state) = given(t);
@@ -188,12 +201,12 @@ fn on_a_book(c: &mut Chance, w: &World, t: &Trip) {
     let ran = proved::run(book, &setting, &state, t.h, t.target, t.budget, &t.guesses);
     assert_eq!(proved_back(&ran), back(&t.run(book)), "{what}");
     let ran = proved::single_step(book, &setting, &state, t.h, &t.guesses);
-    let single = motion::single(book, &t.setting, &t.state, t.h, t.guesses);
+    let single = motion::single(book, &t.setting, &t.kept(book).state, t.h, t.guesses);
     assert_eq!(proved_back(&ran), back(&single), "{what}");
     let (body, moment) = (c.below(9), t.state.moment);
     let found = book::body(book, body, moment).map(|m| bits(m.six()));
     assert_eq!(proved::position(book, body, moment).map(bits), found, "{}", w.name);
-    let expected = motion::acceleration(book, &t.setting, moment, 1, t.state.position).map(bits);
+    let expected = rule::acceleration(book, &t.setting, moment, 1, t.state.position).map(bits);
     let got = proved::acceleration(book, &setting, moment, &t.state.position).map(bits);
     assert_eq!(got, expected, "{what}");
 }
@@ -202,14 +215,17 @@ fn on_a_book(c: &mut Chance, w: &World, t: &Trip) {
 fn about_a_centre(c: &mut Chance, w: &World, t: &Trip) {
     let (book, what) = (w.bytes(), format!("{} {}", w.name, t.fly_line()));
     let (setting, state) = given(t);
-    let ran = proved::fly(book, &setting, &state, t.h, t.target, t.budget, &t.guesses);
-    assert_eq!(proved_back(&ran), back(&t.run(book)), "{what}");
+    let (ran, other) = (proved::fly(book, &setting, &state, t.h, t.target, t.budget, &t.guesses), t.fly(book));
+    assert_eq!(proved_back(&ran), back(&other), "{what}");
+    assert_eq!(proved_nine(&ran.state), nine(&other.state), "{what}");
+    let expected = rule::inject(book, &t.setting, &t.state).map(|s| nine(&s));
+    assert_eq!(proved::inject(book, &setting, &state).map(|s| proved_nine(&s)), expected, "{what}");
     let (moment, centre, position) = (t.state.moment, t.state.centre, t.state.position);
-    let expected = motion::acceleration(book, &t.setting, moment, centre, position).map(bits);
+    let expected = rule::acceleration(book, &t.setting, moment, centre, position).map(bits);
     assert_eq!(proved::pull(book, &setting, moment, centre, &position).map(bits), expected, "{what}");
     let new = if c.one_in(6) { centre } else { some_centre(c, &t.setting) };
-    let expected = moves::moved(book, &t.setting, &t.state, new).map(|s| bits(joined(s.position, s.velocity)));
-    let got = proved::moved(book, &setting, &state, new).map(|s| bits(s.coordinates));
+    let expected = moves::moved(book, &t.setting, &t.state, new).map(|s| nine(&s));
+    let got = proved::moved(book, &setting, &state, new).map(|s| proved_nine(&s));
     assert_eq!(got, expected, "to {new}, {what}");
 }
 
@@ -222,11 +238,17 @@ fn books_and_runs() {
             for (_, t) in make(&mut c, w) {
                 on_a_book(&mut c, w, &t.clone().shortened(w.bytes(), 100));
                 let t = centred(&mut c, t).shortened(w.bytes(), 100);
-                about_a_centre(&mut c, w, &t);
+                about_a_centre(&mut c, w, &t.kept(w.bytes()));
                 compared += 1;
             }
         }
         for (_, make) in TERMS.iter().cycle().take(200) {
+            for (_, t) in make(&mut c, w) {
+                about_a_centre(&mut c, w, &t.shortened(w.bytes(), 100).kept(w.bytes()));
+                compared += 1;
+            }
+        }
+        for (_, make) in STORED.iter().cycle().take(200) {
             for (_, t) in make(&mut c, w) {
                 about_a_centre(&mut c, w, &t.shortened(w.bytes(), 100));
                 compared += 1;

@@ -1,6 +1,7 @@
 /* Belfrywool for C: link with the archives that `rt staticlib NAME` writes to target/staticlib, libNAME.a, in any order:
    `almanaclink` has the calls that take no state (belfry_date to belfry_position), `mendlink` has belfry_repair, `centrelink` has
-   the calls about any centre (belfry_pull to belfry_orbit), and `link` has all others. A program that uses the calls of one of them alone needs no other.
+   the calls about any centre (belfry_pull to belfry_orbit), and `link` has all others. A program that uses the calls of one of
+   them alone needs no other.
 
    Each call returns BELFRY_ACCEPTED, or the number of a refusal. Outside a run a refused call leaves all lent
    memory as it was. No call keeps a pointer, allocates, or reads or writes anything but what it is lent.
@@ -10,9 +11,10 @@
 
    Moments are milliseconds of ephemeris time since 0h 1950 January 1. DUT is ephemeris time less UT, in milliseconds.
    A setting is the gravitational coefficients of the bodies 1 to 6 (Earth, Moon, Sun, Venus, Mars, Jupiter) in km^3/s^2, and DUT.
-   A state is a moment and six coordinates: x, y, z in km, then their rates in km/s, from a centre, the number of a body. Calls
-   that take no centre are about the Earth; calls that take no extras leave oblateness and sunlight out; calls that take no rule go
-   by rule 0. */
+   A state is a moment and six coordinates: x, y, z in km, then their rates in km/s, from a centre, the number of a body; the whole
+   of it is nine, with the acceleration there in km/s^2 behind the six. Calls that take no centre are about the Earth; calls that
+   take no extras leave oblateness and sunlight out; calls that take no rule go by rule 0; runs that take six coordinates start
+   with the acceleration that the rule gives. */
 #ifndef BELFRYWOOL_H
 #define BELFRYWOOL_H
 
@@ -41,6 +43,7 @@ enum {
     BELFRY_ROOT = 11,        /* root of a negative or non-finite number */
     BELFRY_ANGLE = 12,       /* an angle of a circle or more */
     BELFRY_CENTRE = 14,      /* no body of that number, or one that the setting does not use; Earth-fixed: not the Earth */
+    BELFRY_STORED = 15,      /* of a run: the acceleration stored with the state is not the rule's, by its bits */
     BELFRY_SHORT = 16        /* a repair's input or output of fewer than 8 bytes */
 };
 
@@ -117,8 +120,8 @@ uint64_t belfry_earth_fixed(uint64_t moment, const double coordinates[6], uint32
 
 /* An injection as launch crews speak it, Earth-fixed, to a state's six coordinates in 1950.0 axes at the moment. sizes: radius
    in km and speed in km/s. angles, in parts of 10^-10 degree: latitude and path angle from -90 to 90 degrees, longitude
-   (eastward) and azimuth (from the north) within one circle; in the order latitude, longitude, path angle, azimuth. rule: as belfry_sidereal
-   takes it. */
+   (eastward) and azimuth (from the north) within one circle; in the order latitude, longitude, path angle, azimuth. rule: as
+   belfry_sidereal takes it. belfry_inject makes a whole state of them. */
 uint64_t belfry_from_sphere(uint64_t rule, uint64_t moment, uint32_t dut, const double sizes[2], const int64_t angles[4],
                             double coordinates[6]);
 
@@ -136,19 +139,28 @@ uint64_t belfry_pull(const uint8_t *book, size_t length, const double coefficien
                      uint32_t dut, uint64_t rule, uint64_t moment, uint64_t centre, const double position[3],
                      double acceleration[3]);
 
+/* state: the six coordinates of an injection, and behind them the acceleration that belfry_pull gives there: what belfry_fly and
+   belfry_move take. An injection that has none is refused, as belfry_pull refuses it. */
+uint64_t belfry_inject(const uint8_t *book, size_t length, const double coefficients[6], const double extras[3],
+                       uint32_t dut, uint64_t rule, uint64_t moment, uint64_t centre, const double coordinates[6],
+                       double state[9]);
+
 /* moved: the same craft about the centre `target_centre`: its coordinates less those of that centre, seen from the one that it
-   has. The moment stays. */
+   has, and its acceleration worked out anew. The moment stays. The stored acceleration is not read; to the centre that it has the
+   state comes back as it was given. */
 uint64_t belfry_move(const uint8_t *book, size_t length, const double coefficients[6], const double extras[3],
-                     uint32_t dut, uint64_t rule, uint64_t moment, uint64_t centre, const double coordinates[6],
-                     uint64_t target_centre, double moved[6]);
+                     uint32_t dut, uint64_t rule, uint64_t moment, uint64_t centre, const double coordinates[9],
+                     uint64_t target_centre, double moved[9]);
 
-/* As belfry_run, about the centre. The state that it writes is about the same one. */
+/* As belfry_run, about the centre. The state that it writes is about the same one. The stored acceleration has to be the rule's
+   there, to the bit, else BELFRY_STORED, at any budget and at the target too; that of `there` is the rule's again. */
 uint64_t belfry_fly(const uint8_t *book, size_t length, const double coefficients[6], const double extras[3],
-                    uint32_t dut, uint64_t rule, uint64_t moment, uint64_t centre, const double coordinates[6],
+                    uint32_t dut, uint64_t rule, uint64_t moment, uint64_t centre, const double coordinates[9],
                     uint32_t h, uint64_t target, uint32_t budget, const uint64_t guesses[5], uint64_t *reached,
-                    double there[6], uint64_t entries[5], uint32_t *steps);
+                    double there[9], uint64_t entries[5], uint32_t *steps);
 
-/* turned: as belfry_earth_fixed, by the rule. A state about another centre than the Earth is BELFRY_CENTRE. */
+/* turned: as belfry_earth_fixed, by the rule. A state about another centre than the Earth is BELFRY_CENTRE. This call and the next
+   one do not look at an acceleration: they take the first six coordinates of a whole state. */
 uint64_t belfry_turn(uint64_t rule, uint32_t dut, uint64_t moment, uint64_t centre, const double coordinates[6],
                      double turned[6]);
 

@@ -239,6 +239,13 @@ static double length(const double v[3]) {
     return value;
 }
 
+/* Where a journey about any centre stands: a whole state, the acceleration behind its six coordinates, and guesses. */
+struct whole {
+    uint64_t moment;
+    double coordinates[9];
+    uint64_t guesses[5];
+};
+
 /* How far from its centre a state is, in km, and how fast it goes, in km/s. */
 static void told_from(const char *what, uint32_t steps, uint64_t centre, const double coordinates[6]) {
     printf("%s, steps %" PRIu32 ": %.3f km from centre %" PRIu64 ", %.6f km/s\n", what, steps, length(coordinates), centre,
@@ -251,22 +258,30 @@ static const double three[6] = {398600.63, 4902.6293, 132714110000};
 static const double oblate[3] = {0.001623450, 6378.1650, 0};
 
 /* One call about a centre, to the target. */
-static uint32_t flown(struct place *now, uint64_t centre, uint64_t target) {
-    struct place next;
-    uint32_t steps;
-    belfry_fly(lent, lent_length, three, oblate, 35000, 0, now->moment, centre, now->coordinates, (uint32_t)minute, target, UINT32_MAX,
-               now->guesses, &next.moment, next.coordinates, next.guesses, &steps);
+static uint64_t flown(struct whole *now, uint64_t centre, uint64_t target, uint32_t *steps) {
+    struct whole next;
+    uint64_t number = belfry_fly(lent, lent_length, three, oblate, 35000, 0, now->moment, centre, now->coordinates,
+                                 (uint32_t)minute, target, UINT32_MAX, now->guesses, &next.moment, next.coordinates,
+                                 next.guesses, steps);
     *now = next;
-    return steps;
+    return number;
 }
 
 /* JPL's check case 1 under the oblate Earth, the Moon and the Sun: 58 hours about the Earth, a move to the Moon, four hours about it. */
 static void to_the_moon(void) {
-    struct place now = {UINT64_C(411331356297), {5936.9501, 2718.6042, -728.83219, -4.2284408, 8.5267773, -5.4530145}, {0}};
+    const double injection[6] = {5936.9501, 2718.6042, -728.83219, -4.2284408, 8.5267773, -5.4530145};
+    struct whole now = {UINT64_C(411331356297), {0}, {0}};
     const uint64_t reached = now.moment + 58 * hour;
-    double moon[6], turned[6], acceleration[3], figures[5];
+    double moon[9], turned[6], acceleration[3], figures[5];
     uint64_t names[2], number;
-    uint32_t steps = flown(&now, EARTH, reached);
+    uint32_t steps;
+    memcpy(now.coordinates, injection, sizeof injection);
+    number = flown(&now, EARTH, reached, &steps);
+    printf("without its acceleration: refused %" PRIu64 ", steps %" PRIu32 "\n", number, steps);
+    belfry_inject(lent, lent_length, three, oblate, 35000, 0, now.moment, EARTH, injection, now.coordinates);
+    printf("injected, with the acceleration:");
+    floats(now.coordinates + 6, 3);
+    flown(&now, EARTH, reached, &steps);
     told_from("toward the Moon", steps, EARTH, now.coordinates);
     belfry_move(lent, lent_length, three, oblate, 35000, 0, now.moment, EARTH, now.coordinates, MOON, moon);
     memcpy(now.coordinates, moon, sizeof moon);
@@ -275,12 +290,14 @@ static void to_the_moon(void) {
     refused(belfry_turn(0, 35000, now.moment, MOON, now.coordinates, turned));
     printf("moved to Mars, which is not used:");
     refused(belfry_move(lent, lent_length, three, oblate, 35000, 0, now.moment, MOON, now.coordinates, MARS, moon));
-    steps = flown(&now, MOON, reached + 4 * hour);
+    flown(&now, MOON, reached + 4 * hour, &steps);
     told_from("four hours on", steps, MOON, now.coordinates);
     printf("there:");
     floats(now.coordinates, 6);
+    printf("its acceleration, as stored:");
+    floats(now.coordinates + 6, 3);
     belfry_pull(lent, lent_length, three, oblate, 35000, 0, now.moment, MOON, now.coordinates, acceleration);
-    printf("its acceleration:");
+    printf("its acceleration, by the rule:");
     floats(acceleration, 3);
     number = belfry_orbit(three[1], now.moment, MOON, now.coordinates, names, figures);
     printf("its orbit:");

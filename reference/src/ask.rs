@@ -2,9 +2,11 @@
 
 use crate::conic::{conic, Kind};
 use crate::fields::{
-    all_shown, decimal, decimals, float, floats, put_in, setting, shown, signed, small, state, state_shown, told, two, SETTING, STATE,
+    all_shown, bare_state, decimal, decimals, float, floats, put_in, setting, shown, signed, small, state, state_shown, told, two,
+    SETTING, STATE,
 };
-use crate::motion::{acceleration, run, Outcome, Ran};
+use crate::motion::{of_an_order, run, Outcome, Ran};
+use crate::rule::{acceleration, inject, Setting, State};
 use crate::sphere::{from_sphere, Sphere};
 use crate::{book, calendar, fixed, hour, moves, root, sine};
 
@@ -88,18 +90,23 @@ pub fn ask_pull(book: &[u8], f: &[&[u8]]) -> Option<String> {
     Some(told(acceleration(book, &setting, moment, centre, position).map(|a| all_shown(&a))))
 }
 
+pub fn ask_inject(book: &[u8], f: &[&[u8]]) -> Option<String> {
+    let (setting, state) = (setting(f.get(..SETTING)?)?, bare_state(f.get(SETTING..)?)?);
+    Some(told(inject(book, &setting, &state).map(|s| state_shown(&s))))
+}
+
 pub fn ask_move(book: &[u8], f: &[&[u8]]) -> Option<String> {
     let [.., new] = f else { return None };
     let (setting, state) = (setting(f.get(..SETTING)?)?, state(f.get(SETTING..f.len() - 1)?)?);
     Some(told(moves::moved(book, &setting, &state, decimal(new)?).map(|s| state_shown(&s))))
 }
 
-/// What a line of `fly` makes.
-pub fn flown(book: &[u8], f: &[&[u8]]) -> Option<Ran> {
+/// What a line of `fly` makes, from the state that it gives or from what is made of it.
+pub fn flown(book: &[u8], f: &[&[u8]], made: fn(&[u8], &Setting, &State) -> State) -> Option<Ran> {
     let (setting, state) = (setting(f.get(..SETTING)?)?, state(f.get(SETTING..SETTING + STATE)?)?);
     let [h, target, budget, guesses @ ..] = f.get(SETTING + STATE..)? else { return None };
     let (h, target, budget) = (small(h)?, decimal(target)?, small(budget)?);
-    Some(run(book, &setting, &state, h, target, budget, decimals(guesses)?))
+    Some(run(book, &setting, &made(book, &setting, &state), h, target, budget, decimals(guesses)?))
 }
 
 /// Outcome and steps, the state as it is told, and guesses.
@@ -114,24 +121,28 @@ pub fn ran_line(ran: &Ran, state: &str) -> String {
 }
 
 pub fn ask_fly(book: &[u8], f: &[&[u8]]) -> Option<String> {
-    let ran = flown(book, f)?;
+    let ran = flown(book, f, |_, _, s| *s)?;
     Some(ran_line(&ran, &state_shown(&ran.state)))
 }
 
-/// An old state as it is told has no centre.
+/// An old state has the acceleration that the rule gives; as it is told it has none, and no centre.
 pub fn ask_run(book: &[u8], f: &[&[u8]]) -> Option<String> {
-    let ran = flown(book, f)?;
+    let ran = flown(book, f, of_an_order)?;
     let s = &ran.state;
     Some(ran_line(&ran, &format!("{} {}", s.moment, all_shown(&two(s.position, s.velocity)))))
 }
 
-/// An old line means rule 0 and the Earth, with J, A and K zero: put in where the new line has them. A conic looks at no moment.
+/// An old line means rule 0 and the Earth, with J, A and K zero: put in where the new line has them. A conic looks at no moment,
+/// and neither it nor a turn at what is stored.
 pub const RULE: &[u8] = b"0";
 pub const CENTRE: &[u8] = b"1";
 pub const MOMENT: &[u8] = b"0";
 pub const ZERO: &[u8] = b"0000000000000000";
-/// What an old line of an acceleration or of a run lacks.
-pub const LACKING: [(usize, &[u8]); 5] = [(7, ZERO), (8, ZERO), (9, ZERO), (10, RULE), (12, CENTRE)];
+/// What an old line lacks: of a turn, of a conic, and of an acceleration or a run, which lacks its last three too.
+pub const OF_A_TURN: [(usize, &[u8]); 5] = [(0, RULE), (3, CENTRE), (10, ZERO), (11, ZERO), (12, ZERO)];
+pub const OF_A_CONIC: [(usize, &[u8]); 5] = [(1, MOMENT), (2, CENTRE), (9, ZERO), (10, ZERO), (11, ZERO)];
+pub const OF_A_PULL: [(usize, &[u8]); 5] = [(7, ZERO), (8, ZERO), (9, ZERO), (10, RULE), (12, CENTRE)];
+pub const OF_A_RUN: [(usize, &[u8]); 3] = [(19, ZERO), (20, ZERO), (21, ZERO)];
 
 /// The answer to one line, without line feeds; None when it is unreadable.
 pub fn readable(book: &[u8], line: &[u8]) -> Option<String> {
@@ -147,15 +158,16 @@ pub fn readable(book: &[u8], line: &[u8]) -> Option<String> {
         b"sidereal" => ask_sidereal(rest),
         b"date" => ask_date(rest),
         b"day" => ask_day(rest),
-        b"fixed" => ask_turn(&put_in(rest, &[(0, RULE), (3, CENTRE)])?),
+        b"fixed" => ask_turn(&put_in(rest, &OF_A_TURN)?),
         b"turn" => ask_turn(rest),
         b"sphere" => ask_sphere(rest),
-        b"conic" => ask_orbit(&put_in(rest, &[(1, MOMENT), (2, CENTRE)])?),
+        b"conic" => ask_orbit(&put_in(rest, &OF_A_CONIC)?),
         b"orbit" => ask_orbit(rest),
         b"body" => ask_body(book, rest),
-        b"accel" => ask_pull(book, &put_in(rest, &LACKING)?),
+        b"accel" => ask_pull(book, &put_in(rest, &OF_A_PULL)?),
         b"pull" => ask_pull(book, rest),
-        b"run" => ask_run(book, &put_in(rest, &LACKING)?),
+        b"inject" => ask_inject(book, rest),
+        b"run" => ask_run(book, &put_in(&put_in(rest, &OF_A_PULL)?, &OF_A_RUN)?),
         b"fly" => ask_fly(book, rest),
         b"move" => ask_move(book, rest),
         _ => None,

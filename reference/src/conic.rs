@@ -1,6 +1,6 @@
 //! Conic figures.
 
-use crate::motion::{State, CENTRES};
+use crate::rule::{State, CENTRES};
 use crate::root::root;
 use crate::vector::{cross, n};
 

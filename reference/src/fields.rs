@@ -1,7 +1,7 @@
 //! The fields of a question line and of its answer.
 
 use crate::extras::Extras;
-use crate::motion::{Setting, State};
+use crate::rule::{Setting, State};
 use crate::vector::Vector;
 
 /// One to twenty digits, no sign, within a u64.
@@ -96,7 +96,7 @@ pub fn signed(field: &[u8]) -> Option<i128> {
 
 /// How many fields a setting has, and a state.
 pub const SETTING: usize = 11;
-pub const STATE: usize = 8;
+pub const STATE: usize = 11;
 
 /// The fields of a setting: six coefficients, DUT, J, A and K, and the rule.
 pub fn setting(f: &[&[u8]]) -> Option<Setting> {
@@ -105,16 +105,23 @@ pub fn setting(f: &[&[u8]]) -> Option<Setting> {
     Some(Setting { coefficients: floats(&f[..6])?, dut: small(dut)?, extras: Extras { j, a, k }, rule: decimal(rule)? })
 }
 
-/// The fields of a state: moment, centre, position and velocity.
-pub fn state(f: &[&[u8]]) -> Option<State> {
+/// Eight fields of a state without its acceleration: moment, centre, position and velocity.
+pub fn bare_state(f: &[&[u8]]) -> Option<State> {
     let [moment, centre, six @ ..] = f else { return None };
     let (position, velocity) = halves(floats(six)?);
-    Some(State { moment: decimal(moment)?, centre: decimal(centre)?, position, velocity })
+    Some(State::bare(decimal(moment)?, decimal(centre)?, position, velocity))
+}
+
+/// The fields of a state: those, and the acceleration kept.
+pub fn state(f: &[&[u8]]) -> Option<State> {
+    let (bare, kept) = (f.get(..STATE - 3)?, f.get(STATE - 3..)?);
+    Some(State { acceleration: floats(kept)?, ..bare_state(bare)? })
 }
 
 /// A state as it is told.
 pub fn state_shown(s: &State) -> String {
-    format!("{} {} {}", s.moment, s.centre, all_shown(&two(s.position, s.velocity)))
+    let (six, kept) = (all_shown(&two(s.position, s.velocity)), all_shown(&s.acceleration));
+    format!("{} {} {six} {kept}", s.moment, s.centre)
 }
 
 /// The fields of an old line with others put in, each at its place in the new line; none where it does not reach so far.

@@ -1,7 +1,7 @@
 //! The Earth-fixed turn: precession from 1950.0 to the mean equator of date, then the turn.
 
 use crate::hour::{allowed, sidereal, universal, DAY};
-use crate::motion::{State, EARTH};
+use crate::rule::{State, EARTH};
 use crate::sine::{sine_cosine, C};
 use crate::vector::{finite, Vector};
 

@@ -16,6 +16,7 @@ pub mod parting;
 pub mod pull;
 pub mod repair;
 pub mod root;
+pub mod rule;
 pub mod sine;
 pub mod sphere;
 pub mod strip;

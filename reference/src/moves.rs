@@ -2,7 +2,7 @@
 
 use crate::book::{self, Motion};
 use crate::hour::END;
-use crate::motion::{centre_allowed, setting_allowed, Setting, State, EARTH};
+use crate::rule::{centre_allowed, ruled, setting_allowed, Setting, State, EARTH};
 use crate::vector::sub;
 
 /// The entry that covers a centre, or none where it is the Earth, which needs no cover; else 6.
@@ -21,7 +21,8 @@ pub fn stands(book: &[u8], entry: Option<usize>, t: u64) -> Result<Motion, u64> 
     }
 }
 
-/// The move call: 1, 4, 14 (the state's centre), 14 (the new one), 3, 7 (state), 6 (either centre), 7 (result).
+/// The move call: 1, 4, 14 (the state's centre), 14 (the new one), 3, 7 (state), 6 (either centre), 7 (result), then the rule's own
+/// 6 or 7 at the new state. What is stored is not read: it is handed back, or worked out anew.
 pub fn moved(book: &[u8], setting: &Setting, s: &State, new: u64) -> Result<State, u64> {
     book::check(book)?;
     setting_allowed(setting)?;
@@ -37,11 +38,9 @@ pub fn moved(book: &[u8], setting: &Setting, s: &State, new: u64) -> Result<Stat
     let entries = (cover(book, new, s.moment)?, cover(book, s.centre, s.moment)?);
     let there = stands(book, entries.0, s.moment)?;
     let here = stands(book, entries.1, s.moment)?;
-    let moved = State {
-        moment: s.moment,
-        centre: new,
-        position: sub(s.position, sub(there.place, here.place)),
-        velocity: sub(s.velocity, sub(there.speed, here.speed)),
-    };
-    moved.finite().map(|()| moved)
+    let position = sub(s.position, sub(there.place, here.place));
+    let velocity = sub(s.velocity, sub(there.speed, here.speed));
+    let moved = State::bare(s.moment, new, position, velocity);
+    moved.finite()?;
+    ruled(book, setting, &moved)
 }

@@ -4,7 +4,8 @@ use std::io::{self, Write};
 
 use crate::book::{bytes_at, float_at, LIMIT};
 use crate::extras::Extras;
-use crate::motion::{self, Setting, State, EARTH};
+use crate::motion;
+use crate::rule::{Setting, State, EARTH};
 
 /// Bytes of an order, and of one with J, A and K behind it.
 pub const ORDER: usize = 120;
@@ -25,12 +26,8 @@ pub fn read_order(input: &[u8]) -> Option<Order> {
         *value = float_at(input, 8 * i)?;
     }
     let three = |at| Some([float_at(input, at)?, float_at(input, at + 8)?, float_at(input, at + 16)?]);
-    let state = State {
-        moment: bytes_at(input, 48).map(u64::from_le_bytes)?,
-        centre: EARTH,
-        position: three(56)?,
-        velocity: three(80)?,
-    };
+    let moment = bytes_at(input, 48).map(u64::from_le_bytes)?;
+    let state = State::bare(moment, EARTH, three(56)?, three(80)?);
     let h = bytes_at(input, 104).map(u32::from_le_bytes)?;
     let dut = bytes_at(input, 108).map(u32::from_le_bytes)?;
     let target = bytes_at(input, 112).map(u64::from_le_bytes)?;
@@ -66,6 +63,7 @@ pub fn state_line(s: &State) -> String {
 }
 
 /// Header, states and outcome of an order under a book, written as they come; no order is one that the input was too short for.
+/// The injection is made from the order, and then refused as a run refuses it.
 pub fn listing_into(order: Option<Order>, book: &[u8], out: &mut impl Write) -> io::Result<()> {
     let Some(Order { setting, mut state, h, target }) = order else {
         return out.write_all(b"REFUSED 1\n");
@@ -73,6 +71,7 @@ pub fn listing_into(order: Option<Order>, book: &[u8], out: &mut impl Write) -> 
     if book.len() > LIMIT {
         return out.write_all(b"REFUSED 1\n");
     }
+    state = motion::of_an_order(book, &setting, &state);
     if let Err(number) = motion::start_checks(book, &setting, &state, h, target) {
         return writeln!(out, "REFUSED {number}");
     }

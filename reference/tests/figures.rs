@@ -7,7 +7,8 @@ use reference::conic::{conic, Kind};
 use reference::extras::Extras;
 use reference::fixed::{earth_fixed, precession, precession_by, turned, SINCE_1950_0};
 use reference::hour::{angle_at, angle_by, exact_1982, hour_angle, sidereal, CIRCLE, DAY, END, PART};
-use reference::motion::{acceleration, start_checks, run, Outcome, Setting, State, EARTH};
+use reference::motion::{of_an_order, run, start_checks, Outcome};
+use reference::rule::{acceleration, Setting, State, EARTH};
 use reference::root::root;
 use reference::sine::{sine_cosine, OCTANT};
 use reference::sphere::{from_sphere, Sphere};
@@ -39,7 +40,7 @@ const EMPTY: [u8; 8] = [8, 0, 0, 0, 0, 0, 0, 0];
 
 /// A state about the Earth.
 fn about_earth(moment: u64, position: [f64; 3], velocity: [f64; 3]) -> State {
-    State { moment, centre: EARTH, position, velocity }
+    State::bare(moment, EARTH, position, velocity)
 }
 
 fn earth_alone(m: f64) -> Setting {
@@ -250,7 +251,7 @@ fn rule_of_a_setting() {
     let state = about_earth(0, [2.0, 0.0, 0.0], [0.0, 4.0, 0.0]);
     for (rule, told) in [(0, None), (1, None), (2, Some(4)), (u64::MAX, Some(4))] {
         let setting = Setting { rule, ..earth_alone(8.0) };
-        let ran = run(&EMPTY, &setting, &state, 1000, 1000, 1, [0; 5]);
+        let ran = run(&EMPTY, &setting, &of_an_order(&EMPTY, &setting, &state), 1000, 1000, 1, [0; 5]);
         assert_eq!(ran.outcome, told.map_or(Outcome::Arrived, Outcome::Refused));
         assert_eq!(acceleration(&EMPTY, &setting, 0, EARTH, [2.0, 0.0, 0.0]).err(), told);
     }
@@ -323,6 +324,7 @@ fn conics() {
 fn steps_allowed() {
     let state = about_earth(0, [2.0, 0.0, 0.0], [0.0, 4.0, 0.0]);
     let setting = earth_alone(8.0);
+    let state = of_an_order(&EMPTY, &setting, &state);
     assert_eq!(start_checks(&EMPTY, &setting, &state, 3, 0), Err(2));
     assert_eq!(start_checks(&EMPTY, &setting, &state, 86_400_000, 86_400_000), Ok(()));
     let ran = run(&EMPTY, &setting, &state, 1000, 3000, 2, [9; 5]);

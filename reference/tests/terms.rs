@@ -2,7 +2,8 @@
 
 use reference::ask::answer;
 use reference::extras::Extras;
-use reference::motion::{acceleration, run, Outcome, Setting, State};
+use reference::motion::{of_an_order, run, Outcome};
+use reference::rule::{acceleration, Setting, State};
 use reference::moves::moved;
 use reference::strip::{strip, strip144};
 use reference::trial::books::{build, pieces, sun_at_home, Piece};
@@ -75,7 +76,7 @@ fn both_about_the_moon() {
 fn refused_by_4() {
     let mut bad: Vec<f64> = NOT_FINITE.iter().map(|&bits| f64::from_bits(bits)).collect();
     bad.extend([-1.0, -f64::MIN_POSITIVE, -f64::from_bits(1), -f64::MAX]);
-    let fine = State { moment: 50, centre: 1, position: [2.0, 0.0, 0.0], velocity: [0.0; 3] };
+    let fine = State::bare(50, 1, [2.0, 0.0, 0.0], [0.0; 3]);
     for x in bad {
         for extras in [[x, 0.0, 0.0], [0.0, x, 0.0], [0.0, 0.0, x], [1.0, x, 1.0]] {
             assert_eq!(at(EARTH, extras, 9, [f64::NAN; 3]), Err(4));
@@ -100,8 +101,8 @@ fn light_alone() {
     assert_eq!(number(&setting([8.0, 0.0, 1.0], [0.0, 0.0, 1.0]), 150, 1), Some(7));
     // On the Sun.
     assert_eq!(at(EARTH, [0.0, 0.0, 1.0], 1, [0.0, 8.0, 0.0]), Err(7));
-    let start = State { moment: 50, centre: 1, position: [2.0, 0.0, 0.0], velocity: [0.0; 3] };
-    let ran = |setting: &Setting, target| run(&book(), setting, &start, 50, target, 9, [7; 5]);
+    let start = State::bare(50, 1, [2.0, 0.0, 0.0], [0.0; 3]);
+    let ran = |setting: &Setting, target| run(&book(), setting, &of_an_order(&book(), setting, &start), 50, target, 9, [7; 5]);
     assert_eq!(ran(&lit, 100).guesses, [7, 2, 7, 7, 7]);
     assert_eq!(ran(&setting(EARTH, [1.0, 1.0, 0.0]), 100).guesses, [7; 5]);
     assert_eq!((ran(&lit, 250).outcome, ran(&lit, 250).steps), (Outcome::Refused(6), 2));
@@ -149,6 +150,7 @@ fn switched_off() {
             for (_, t) in make(&mut c, &w) {
                 let mut t = centred(&mut c, t);
                 t.setting.extras = Extras::NONE;
+                let t = t.kept(w.bytes());
                 let mut other = t.clone();
                 other.setting.extras = Extras { j: c.pick(&[0.0, -0.0]), a: value(&mut c), k: c.pick(&[0.0, -0.0]) };
                 let lines = |t: &Trip| [t.fly_line(), t.pull_line(), t.move_line(2)];
@@ -186,7 +188,7 @@ fn both_orders() {
     assert_eq!(seen, [true; 2]);
 }
 
-/// The lines with J, A and K: of 459 bytes and three floats more the longest is 510.
+/// The lines with J, A and K and the acceleration kept: the longest has 561 bytes.
 #[test]
 fn lines() {
     let say = |line: &str| answer(&book(), line.as_bytes());
@@ -197,9 +199,11 @@ fn lines() {
     assert_eq!(say(&format!("accel {m} 0 50 {p}")), floats(&[-2.0, -0.0, -0.0]));
     assert_eq!(say(&format!("pull {m} 0 0 50 1 {p}")), "UNREADABLE");
     assert_eq!(say(&format!("pull {m} 0 {terms} 0 0 50 1 {p}")), "UNREADABLE");
-    assert_eq!(say(&format!("move {m} 0 {terms} 0 50 1 {p} {v} 1")), format!("50 1 {p} {v}"));
+    let kept = floats(&[-6.0, -0.0, -0.0]);
+    assert_eq!(say(&format!("inject {m} 0 {terms} 0 50 1 {p} {v}")), format!("50 1 {p} {v} {kept}"));
+    assert_eq!(say(&format!("move {m} 0 {terms} 0 50 1 {p} {v} {p} 1")), format!("50 1 {p} {v} {p}"));
     let long = |x: u64| format!("{x:020}");
     let (dut, moment, end) = (long(0), format!("{} {}", long(50), long(1)), [2, 50, 0, 0, 0, 0, 0, 0].map(long).join(" "));
-    let longest = format!("fly {m} {dut} {terms} {dut} {moment} {p} {v} {end}");
-    assert_eq!((longest.len(), say(&longest)), (510, format!("ARRIVED 0 50 1 {p} {v} 0 0 0 0 0")));
+    let longest = format!("fly {m} {dut} {terms} {dut} {moment} {p} {v} {kept} {end}");
+    assert_eq!((longest.len(), say(&longest)), (561, format!("ARRIVED 0 50 1 {p} {v} {kept} 0 0 0 0 0")));
 }

@@ -7,7 +7,8 @@ use std::io::{self, Read, Write};
 use std::process::ExitCode;
 
 use bench::{race, thirty_days};
-use reference::motion::{start_checks, step, State};
+use reference::motion::{of_an_order, start_checks, step};
+use reference::rule::State;
 use reference::strip::{read_order, ORDER};
 
 /// Lines of a listing, gathered in a buffer as large as a pipe.
@@ -47,7 +48,8 @@ fn walk() -> io::Result<()> {
     let mut input = Vec::new();
     io::stdin().lock().read_to_end(&mut input)?;
     let Some(order) = read_order(&input) else { return Ok(()) };
-    let (book, mut state) = (&input[ORDER..], order.state);
+    let book = &input[ORDER..];
+    let mut state = of_an_order(book, &order.setting, &order.state);
     let mut lines = Lines { out: io::stdout().lock(), text: Vec::with_capacity(65_536) };
     if let Err(number) = start_checks(book, &order.setting, &state, order.h, order.target) {
         writeln!(lines.text, "REFUSED {number}")?;

@@ -1,4 +1,5 @@
-// The calls about a state and its motion. An old line is the new one about the Earth, with J, A and K zero, by the old rule.
+// The calls about a state and its motion. An old line is the new one about the Earth, with J, A and K zero, by the old rule, from the
+// acceleration that the rule gives.
 
 use crate::form::Numbers;
 use crate::form::reads;
@@ -7,12 +8,14 @@ use crate::put::put_floats;
 use crate::put::put_numbers;
 use crate::put::put_refused;
 use crate::values::guesses_from;
+use crate::values::injection_from;
 use crate::values::narrowed;
 use crate::values::nth_float;
 use crate::values::old_setting;
 use crate::values::setting_of;
 use crate::values::sphere_of;
 use crate::values::state_from;
+use crate::values::unkept_from;
 use crate::values::vector_from;
 use book::PositionAnswer;
 use centre::MoveAnswer;
@@ -20,6 +23,7 @@ use conic::Conic;
 use conic::ConicAnswer;
 use fixed::FixedAnswer;
 use gravity::AccelerationAnswer;
+use injection::InjectionAnswer;
 use motion::Outcome;
 use motion::RunAnswer;
 use sphere::SphereAnswer;
@@ -36,11 +40,12 @@ fn put_coordinates(out: &mut Out, at: usize, s: State) -> usize
 }
 
 fn put_state(out: &mut Out, from: usize, s: State) -> usize
-    requires { ⌜ from + 144 ≤ 65_536 ⌝ }
-    ensures { λ r. ⌜ Between from 1 144 r ⌝ }
+    requires { ⌜ from + 195 ≤ 65_536 ⌝ }
+    ensures { λ r. ⌜ Between from 1 195 r ⌝ }
 {
-    let at = put_numbers(out, from, &[s.moment, s.centre]);
-    put_coordinates(out, at, s)
+    let mut at = put_numbers(out, from, &[s.moment, s.centre]);
+    at = put_coordinates(out, at, s);
+    put_floats(out, at, &[s.ax, s.ay, s.az])
 }
 
 fn put_fixed(out: &mut Out, at: usize, answer: FixedAnswer) -> usize
@@ -60,7 +65,7 @@ fn put_injected(out: &mut Out, from: usize, answer: SphereAnswer) -> usize
     match answer {
         SphereAnswer::Injected(s) => {
             let at = put_numbers(out, from, &[s.moment]);
-            put_coordinates(out, at, s)
+            put_floats(out, at, &[s.x, s.y, s.z, s.vx, s.vy, s.vz])
         }
         SphereAnswer::Refused(number) => put_refused(out, from, number),
     }
@@ -107,7 +112,7 @@ fn fixed_answer(v: &Numbers, out: &mut Out, at: usize) -> usize
     requires { ⌜ at + 512 ≤ 65_536 ⌝ }
     ensures { λ r. ⌜ Between at 1 512 r ⌝ }
 {
-    let state = state_from(v, v[1], 1, 2);
+    let state = unkept_from(v, v[1], 2);
     put_fixed(out, at, fixed::earth_fixed(0, narrowed(v[0]), state))
 }
 
@@ -115,7 +120,7 @@ fn turn_answer(v: &Numbers, out: &mut Out, at: usize) -> usize
     requires { ⌜ at + 512 ≤ 65_536 ⌝ }
     ensures { λ r. ⌜ Between at 1 512 r ⌝ }
 {
-    let state = state_from(v, v[2], v[3], 4);
+    let state = state_from(v, 2);
     put_fixed(out, at, fixed::earth_fixed(v[0], narrowed(v[1]), state))
 }
 
@@ -134,7 +139,7 @@ fn conic_answer(v: &Numbers, out: &mut Out, at: usize) -> usize
     requires { ⌜ at + 512 ≤ 65_536 ⌝ }
     ensures { λ r. ⌜ Between at 1 512 r ⌝ }
 {
-    let state = state_from(v, 0, 1, 1);
+    let state = unkept_from(v, 0, 1);
     put_orbit(out, at, conic::conic_figures(nth_float(v, 0), state))
 }
 
@@ -142,7 +147,7 @@ fn orbit_answer(v: &Numbers, out: &mut Out, at: usize) -> usize
     requires { ⌜ at + 512 ≤ 65_536 ⌝ }
     ensures { λ r. ⌜ Between at 1 512 r ⌝ }
 {
-    let state = state_from(v, v[1], v[2], 3);
+    let state = state_from(v, 1);
     put_orbit(out, at, conic::conic_figures(nth_float(v, 0), state))
 }
 
@@ -151,11 +156,11 @@ pub fn state_call(book: &[u8], line: &[u8], out: &mut Out, at: usize) -> usize
     requires { ⌜ at + 512 ≤ 65_536 ⌝ }
     ensures { λ r. ⌜ Between at 1 512 r ⌝ }
 {
-    let mut v = [0u64; 27];
+    let mut v = [0u64; 30];
     if reads(line, b"fixed", b"SDFFFFFF", &mut v) {
         return fixed_answer(&v, out, at);
     }
-    if reads(line, b"turn", b"DSDDFFFFFF", &mut v) {
+    if reads(line, b"turn", b"DSDDFFFFFFFFF", &mut v) {
         return turn_answer(&v, out, at);
     }
     if reads(line, b"sphere", b"DSDFNDFND", &mut v) {
@@ -169,11 +174,11 @@ fn conic_call(book: &[u8], line: &[u8], out: &mut Out, at: usize) -> usize
     requires { ⌜ at + 512 ≤ 65_536 ⌝ }
     ensures { λ r. ⌜ Between at 1 512 r ⌝ }
 {
-    let mut v = [0u64; 27];
+    let mut v = [0u64; 30];
     if reads(line, b"conic", b"FFFFFFF", &mut v) {
         return conic_answer(&v, out, at);
     }
-    if reads(line, b"orbit", b"FDDFFFFFF", &mut v) {
+    if reads(line, b"orbit", b"FDDFFFFFFFFF", &mut v) {
         return orbit_answer(&v, out, at);
     }
     book_call(book, line, out, at)
@@ -244,7 +249,7 @@ fn put_run(out: &mut Out, from: usize, r: RunAnswer) -> usize
     put_entries(out, at, r)
 }
 
-// The same with the state's centre.
+// The same with the whole state.
 fn put_flight(out: &mut Out, from: usize, r: RunAnswer) -> usize
     requires { ⌜ from + 512 ≤ 65_536 ⌝ }
     ensures { λ q. ⌜ Between from 1 512 q ⌝ }
@@ -258,7 +263,7 @@ fn put_flight(out: &mut Out, from: usize, r: RunAnswer) -> usize
 
 // After the setting and the state, from a field on, come h, the target, the budget and the guesses.
 fn run_from(book: &[u8], v: &Numbers, setting: Setting, state: State, i: usize) -> RunAnswer
-    requires { ⌜ i + 8 ≤ 27 ⌝ }
+    requires { ⌜ i + 8 ≤ 30 ⌝ }
 {
     let guesses = guesses_from(v, i + 3);
     let h = narrowed(v[i]);
@@ -290,28 +295,48 @@ fn pull_answer(book: &[u8], v: &Numbers, out: &mut Out, at: usize) -> usize
     )
 }
 
+fn put_kept(out: &mut Out, at: usize, answer: InjectionAnswer) -> usize
+    requires { ⌜ at + 512 ≤ 65_536 ⌝ }
+    ensures { λ r. ⌜ Between at 1 512 r ⌝ }
+{
+    match answer {
+        InjectionAnswer::Injected(s) => put_state(out, at, s),
+        InjectionAnswer::Refused(number) => put_refused(out, at, number),
+    }
+}
+
+fn inject_answer(book: &[u8], v: &Numbers, out: &mut Out, at: usize) -> usize
+    requires { ⌜ at + 512 ≤ 65_536 ⌝ }
+    ensures { λ r. ⌜ Between at 1 512 r ⌝ }
+{
+    let injection = injection_from(v, v[11], v[12], 13);
+    put_kept(out, at, injection::inject(book, setting_of(v), injection))
+}
+
 fn move_answer(book: &[u8], v: &Numbers, out: &mut Out, at: usize) -> usize
     requires { ⌜ at + 512 ≤ 65_536 ⌝ }
     ensures { λ r. ⌜ Between at 1 512 r ⌝ }
 {
-    let state = state_from(v, v[11], v[12], 13);
-    put_moved(out, at, centre::move_to(book, setting_of(v), state, v[19]))
+    let state = state_from(v, 11);
+    put_moved(out, at, centre::move_to(book, setting_of(v), state, v[22]))
 }
 
 fn run_answer(book: &[u8], v: &Numbers, out: &mut Out, at: usize) -> usize
     requires { ⌜ at + 512 ≤ 65_536 ⌝ }
     ensures { λ r. ⌜ Between at 1 512 r ⌝ }
 {
-    let state = state_from(v, v[7], 1, 8);
-    put_run(out, at, run_from(book, v, old_setting(v), state, 14))
+    let setting = old_setting(v);
+    let injection = injection_from(v, v[7], 1, 8);
+    let state = injection::launch(book, setting, injection);
+    put_run(out, at, run_from(book, v, setting, state, 14))
 }
 
 fn fly_answer(book: &[u8], v: &Numbers, out: &mut Out, at: usize) -> usize
     requires { ⌜ at + 512 ≤ 65_536 ⌝ }
     ensures { λ r. ⌜ Between at 1 512 r ⌝ }
 {
-    let state = state_from(v, v[11], v[12], 13);
-    put_flight(out, at, run_from(book, v, setting_of(v), state, 19))
+    let state = state_from(v, 11);
+    put_flight(out, at, run_from(book, v, setting_of(v), state, 22))
 }
 
 // body, accel or run, or a call with the whole setting.
@@ -319,7 +344,7 @@ fn book_call(book: &[u8], line: &[u8], out: &mut Out, at: usize) -> usize
     requires { ⌜ at + 512 ≤ 65_536 ⌝ }
     ensures { λ r. ⌜ Between at 1 512 r ⌝ }
 {
-    let mut v = [0u64; 27];
+    let mut v = [0u64; 30];
     if reads(line, b"body", b"DD", &mut v) {
         return body_answer(book, &v, out, at);
     }
@@ -332,19 +357,22 @@ fn book_call(book: &[u8], line: &[u8], out: &mut Out, at: usize) -> usize
     centred_call(book, line, out, at)
 }
 
-// pull, move or fly, whose first eleven numbers are the setting, or none of the calls.
+// pull, inject, move or fly, whose first eleven numbers are the setting, or none of the calls.
 fn centred_call(book: &[u8], line: &[u8], out: &mut Out, at: usize) -> usize
     requires { ⌜ at + 512 ≤ 65_536 ⌝ }
     ensures { λ r. ⌜ Between at 1 512 r ⌝ }
 {
-    let mut v = [0u64; 27];
+    let mut v = [0u64; 30];
     if reads(line, b"pull", b"FFFFFFSFFFDDDFFF", &mut v) {
         return pull_answer(book, &v, out, at);
     }
-    if reads(line, b"move", b"FFFFFFSFFFDDDFFFFFFD", &mut v) {
+    if reads(line, b"inject", b"FFFFFFSFFFDDDFFFFFF", &mut v) {
+        return inject_answer(book, &v, out, at);
+    }
+    if reads(line, b"move", b"FFFFFFSFFFDDDFFFFFFFFFD", &mut v) {
         return move_answer(book, &v, out, at);
     }
-    if reads(line, b"fly", b"FFFFFFSFFFDDDFFFFFFSDSDDDDD", &mut v) {
+    if reads(line, b"fly", b"FFFFFFSFFFDDDFFFFFFFFFSDSDDDDD", &mut v) {
         return fly_answer(book, &v, out, at);
     }
     text::known::put_bytes(out, at, b"UNREADABLE ")

@@ -83,7 +83,7 @@ fn time_call(book: &[u8], line: &[u8], out: &mut Out, at: usize) -> usize
     requires { ⌜ at + 512 ≤ 65_536 ⌝ }
     ensures { λ r. ⌜ Between at 1 512 r ⌝ }
 {
-    let mut v = [0u64; 27];
+    let mut v = [0u64; 30];
     if reads(line, b"hour", b"DS", &mut v) {
         return hour_answer(&v, out, at);
     }
@@ -104,7 +104,7 @@ fn any_call(book: &[u8], line: &[u8], out: &mut Out, at: usize) -> usize
     requires { ⌜ at + 512 ≤ 65_536 ⌝ }
     ensures { λ r. ⌜ Between at 1 512 r ⌝ }
 {
-    let mut v = [0u64; 27];
+    let mut v = [0u64; 30];
     if reads(line, b"root", b"F", &mut v) {
         return root_answer(&v, out, at);
     }

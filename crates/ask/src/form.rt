@@ -7,7 +7,7 @@ ghost use lib.ListN.{length, take};
 ghost use Rattle.ask.specs.Call.{below32, cap, aboveZero, belowZero, readSigned, fieldAt, fieldsFrom, startsWith, callOf, told};
 
 // As many as the longest call has. A float stands as its bits.
-pub type Numbers = [u64; 27];
+pub type Numbers = [u64; 30];
 
 fn starts_with(line: &[u8], name: &[u8]) -> bool
     ensures { λ r. ⌜ r ≡ startsWith (now (line .entry)) (now (name .entry)) ⌝ }
@@ -113,7 +113,7 @@ fn fields_from(line: &[u8], from: usize, kinds: &[u8], numbers: &mut [u64]) -> b
 
 // Whether the line is a call of that name with fields of these kinds, whose numbers it reads.
 pub fn reads(line: &[u8], name: &[u8], kinds: &[u8], numbers: &mut Numbers) -> bool
-    requires { ⌜ length (now kinds) ≤ 27 ⌝ }
+    requires { ⌜ length (now kinds) ≤ 30 ⌝ }
     ensures { λ r. ⌜ told r (take (length (now (kinds .entry))) (now (numbers .exit))) ≡ callOf (now (line .entry)) (now (name .entry)) (now (kinds .entry)) ⌝ }
 {
     if starts_with(line, name) {

@@ -4,6 +4,7 @@ use crate::form::Numbers;
 use gravity::Guesses;
 use sphere::Signed;
 use sphere::Sphere;
+use state::Injection;
 use state::Setting;
 use state::State;
 use state::Vector;
@@ -15,13 +16,13 @@ pub fn narrowed(number: u64) -> u32 {
 }
 
 pub fn nth_float(v: &Numbers, i: usize) -> f64
-    requires { ⌜ i + 1 ≤ 27 ⌝ }
+    requires { ⌜ i + 1 ≤ 30 ⌝ }
 {
     text::float_of_bits(v[i])
 }
 
 pub fn vector_from(v: &Numbers, i: usize) -> Vector
-    requires { ⌜ i + 3 ≤ 27 ⌝ }
+    requires { ⌜ i + 3 ≤ 30 ⌝ }
 {
     Vector {
         x: nth_float(v, i),
@@ -31,12 +32,12 @@ pub fn vector_from(v: &Numbers, i: usize) -> Vector
 }
 
 // Position and velocity from a field on.
-pub fn state_from(v: &Numbers, moment: u64, centre: u64, i: usize) -> State
-    requires { ⌜ i + 6 ≤ 27 ⌝ }
+pub fn injection_from(v: &Numbers, moment: u64, centre: u64, i: usize) -> Injection
+    requires { ⌜ i + 6 ≤ 30 ⌝ }
 {
     let p = vector_from(v, i);
     let w = vector_from(v, i + 3);
-    State {
+    Injection {
         moment,
         centre,
         x: p.x,
@@ -46,6 +47,26 @@ pub fn state_from(v: &Numbers, moment: u64, centre: u64, i: usize) -> State
         vy: w.y,
         vz: w.z,
     }
+}
+
+// A whole state from a field on: moment, centre, position, velocity and acceleration.
+pub fn state_from(v: &Numbers, i: usize) -> State
+    requires { ⌜ i + 11 ≤ 30 ⌝ }
+{
+    let injection = injection_from(v, v[i], v[i + 1], i + 2);
+    state::carrying(injection, vector_from(v, i + 8))
+}
+
+// For a call that does not read the acceleration: an old line has none, and zero stands for it.
+pub fn unkept_from(v: &Numbers, moment: u64, i: usize) -> State
+    requires { ⌜ i + 6 ≤ 30 ⌝ }
+{
+    let none = Vector {
+        x: 0.0,
+        y: 0.0,
+        z: 0.0,
+    };
+    state::carrying(injection_from(v, moment, 1, i), none)
 }
 
 // The first seven numbers are six coefficients and DUT. An old line has no more of a setting: J, A and K are zero, and the rule is 0.
@@ -76,7 +97,7 @@ pub fn setting_of(v: &Numbers) -> Setting {
 }
 
 pub fn guesses_from(v: &Numbers, i: usize) -> Guesses
-    requires { ⌜ i + 5 ≤ 27 ⌝ }
+    requires { ⌜ i + 5 ≤ 30 ⌝ }
 {
     Guesses {
         moon: v[i],

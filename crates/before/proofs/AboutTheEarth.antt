@@ -32,7 +32,7 @@ use Rattle.gravity.specs.Acceleration.{Body, Sky, Bodies, Hidden, Listed, stand
 use Rattle.gravity.specs.declared.AccelerationAnswer.{AccelerationAnswer}
 use Rattle.gravity.specs.declared.AccelerationAnswer.the-variants.{Refused}
 use Rattle.start.specs.Start.{stepAllowed, withinSteps, startRefusal}
-use Rattle.motion.specs.Step.{Moved, stage1, step}
+use Rattle.injection.specs.Injection.{orderRefusal}
 use Rattle.book.proofs.Below.{left, right}
 use Rattle.before.specs.Acceleration.{finishedBefore, withoutTerms, bodiesBefore, accelerationBefore, answerBefore, startBefore}
 use Rattle.before.proofs.LessZero.{less-zero}
@@ -183,14 +183,8 @@ answer-as-before b s t P flat dark =
     ∙ ap (λ (x : AccelerationAnswer). if not (settingAllowed s) then Refused 4 else if not (isMoment t) then Refused 3 else if not (finiteVector P) then Refused 7 else x)
     (about-the-earth s flat dark b t P))
 
+-- a state about the Earth that is in order starts as it did
 module _ (b : List ℕ) (setting : Setting) (s : State) (h : ℕ) (earth : s .centre ≡ 1) where
-  pub start-as-before : (target : ℕ) → startRefusal b setting s h target ≡ startBefore b setting s h target
+  pub start-as-before : orderRefusal b setting s ≡ 0 → (target : ℕ) → startRefusal b setting s h target ≡ startBefore b setting s h target
   unfolding startRefusal startBefore
-  start-as-before target = rw earth (ap (λ (k : ℕ). if not (passes b) then 1 else k) (no-fourteen setting 4 14 _))
-
-  -- and so every step
-  pub step-as-before : used (setting .j) ≡ false → used (setting .k) ≡ false → step b setting h s ≡ stage1 (accelerationBefore b setting) h s
-  unfolding step
-  step-as-before flat dark =
-      ap (λ (c : ℕ). stage1 (accelerationAt b setting c) h s) earth
-      ∙ ap (λ (acc : ℕ → Vector → AccelerationAnswer). stage1 acc h s) (λ i t P. about-the-earth setting flat dark b t P i)
+  start-as-before ordered target = rw (ordered, earth) (ap (λ (k : ℕ). if not (passes b) then 1 else k) (no-fourteen setting 4 14 _))

@@ -1,2 +1,3 @@
 pub mod LessZero
 pub mod AboutTheEarth
+pub mod Recomputed

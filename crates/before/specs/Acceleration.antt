@@ -48,7 +48,7 @@ answerBefore b s t P =
     if not (finiteVector P) then Refused 7 else
     accelerationBefore b s t P
 
--- "Run call order: 1, 4, 3 (state, then target), 7 (state), 2, 5"
+-- "Run call order: 1, 4, 3 (state, then target), 7 (state), 2, 5": before R-8 nothing was asked of what is stored with a state
 unfoldable pub startBefore : List ℕ → Setting → State → ℕ → ℕ → ℕ
 startBefore b setting s h target =
     if not (passes b) then 1 else

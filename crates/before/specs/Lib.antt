@@ -1,1 +1,2 @@
 pub mod Acceleration
+pub mod Step

@@ -61,7 +61,7 @@ firstOf (acceleration.Is a) = a .x
 firstOf (acceleration.Refused k) = nan
 
 abbrev pub moving : ℕ → ℕ → State
-moving vx vy = record { moment = 0; centre = 1; x = whole 2; y = whole 0; z = whole 0; vx = whole vx; vy = whole vy; vz = whole 0 }
+moving vx vy = record { moment = 0; centre = 1; x = whole 2; y = whole 0; z = whole 0; vx = whole vx; vy = whole vy; vz = whole 0; ax = whole 0; ay = whole 0; az = whole 0 }
 
 abbrev pub Right : Case → Type 0
 Right (day d answer) = dateAnswer d ≡ answer

@@ -1,13 +1,14 @@
--- Document 02, R-6: "A separate call moves a state to another centre".
+-- Document 02, R-6: "A separate call moves a state to another centre", and R-8: "a move to another centre works it out anew".
 use mathlib.Core.Bool.{not}
 use mathlib.Core.List.{List}
 use Prim.Native.Nat.{ℕ}
 use Rattle.basis.specs.Choice.{if_then_else_, _=?_}
 use Rattle.basis.specs.Floats.{_⊖_}
 use Rattle.basis.specs.Limits.{isMoment}
-use Rattle.state.specs.State.{position, velocity, finiteState, settingAllowed, centreAllowed}
+use Rattle.state.specs.State.{position, velocity, injectionAt, finiteInjection, finiteState, settingAllowed, centreAllowed}
 use Rattle.state.specs.declared.Vector.{Vector}
 use Rattle.state.specs.declared.State.{State}
+use Rattle.state.specs.declared.Injection.{Injection}
 use Rattle.state.specs.declared.Setting.{Setting}
 use Rattle.book.specs.Passes.{passes}
 use Rattle.book.specs.Lookup.{lookup}
@@ -19,6 +20,9 @@ use Rattle.book.specs.declared.Lookup.{Lookup}
 use Rattle.book.specs.declared.Lookup.the-variants.{Entry, Nothing}
 use Rattle.gravity.specs.Pull.{minus}
 use Rattle.gravity.specs.Acceleration.{atRest}
+use Rattle.injection.specs.Injection.{kept}
+use Rattle.injection.specs.declared.InjectionAnswer.{InjectionAnswer}
+use Rattle.injection.specs.declared.InjectionAnswer.the-variants as injection
 use Rattle.centre.specs.declared.Seen.{Seen}
 use Rattle.centre.specs.declared.Seen.the-variants.{Covered, Uncovered}
 use Rattle.centre.specs.declared.MoveAnswer.{MoveAnswer}
@@ -40,27 +44,31 @@ abbrev pub velocityApart : Velocity → Velocity → Vector
 velocityApart old new = record { x = new .x ⊖ old .x; y = new .y ⊖ old .y; z = new .z ⊖ old .z }
 
 -- "by subtracting" them
-unfoldable pub shifted : State → ℕ → Motion → Motion → State
+unfoldable pub shifted : State → ℕ → Motion → Motion → Injection
 shifted s centre old new =
-    let p = minus (position s) (apart (old .place) (new .place)) in
-    let v = minus (velocity s) (velocityApart (old .velocity) (new .velocity)) in
-    record { moment = s .moment; centre = centre; x = p .x; y = p .y; z = p .z; vx = v .x; vy = v .y; vz = v .z }
+    injectionAt (s .moment) centre (minus (position s) (apart (old .place) (new .place)))
+    (minus (velocity s) (velocityApart (old .velocity) (new .velocity)))
+
+-- R-8: "the rule's own 6 or 7 at its new state, after 7 (result)"
+abbrev pub movedBy : InjectionAnswer → MoveAnswer
+movedBy (injection.Injected s) = Moved s
+movedBy (injection.Refused k) = Refused k
 
 -- "7 (result)"
-abbrev pub finiteOr7 : State → MoveAnswer
-finiteOr7 s = if finiteState s then Moved s else Refused 7
+abbrev pub keptOr7 : List ℕ → Setting → Injection → MoveAnswer
+keptOr7 b setting i = if finiteInjection i then movedBy (kept b setting i) else Refused 7
 
 -- 6: both covers come before the result
-abbrev pub moveBy : State → ℕ → Seen → Seen → MoveAnswer
-moveBy s centre (Covered old) (Covered new) = finiteOr7 (shifted s centre old new)
-moveBy s centre (Covered old) Uncovered = Refused 6
-moveBy s centre Uncovered to = Refused 6
+abbrev pub moveBy : List ℕ → Setting → State → ℕ → Seen → Seen → MoveAnswer
+moveBy b setting s centre (Covered old) (Covered new) = keptOr7 b setting (shifted s centre old new)
+moveBy b setting s centre (Covered old) Uncovered = Refused 6
+moveBy b setting s centre Uncovered to = Refused 6
 
--- "moving to the centre it has changes nothing and looks nothing up"
-unfoldable pub moveOf : List ℕ → State → ℕ → MoveAnswer
-moveOf b s centre =
+-- "moving to the centre it has changes nothing and looks nothing up"; R-8: "a move does not read" what is stored
+unfoldable pub moveOf : List ℕ → Setting → State → ℕ → MoveAnswer
+moveOf b setting s centre =
     if s .centre =? centre then Moved s else
-    moveBy s centre (motionOf b (s .centre) (s .moment)) (motionOf b centre (s .moment))
+    moveBy b setting s centre (motionOf b (s .centre) (s .moment)) (motionOf b centre (s .moment))
 
 -- 1, 4, "14, directly after 4", of the centre that it has and of the new one; "a move then gives 3, 7 (state)"; 0 where none of these comes
 unfoldable pub moveRefusal : List ℕ → Setting → State → ℕ → ℕ
@@ -76,4 +84,4 @@ moveRefusal b setting s centre =
 unfoldable pub moveAnswer : List ℕ → Setting → State → ℕ → MoveAnswer
 moveAnswer b setting s centre =
     let k = moveRefusal b setting s centre in
-    if k =? 0 then moveOf b s centre else Refused k
+    if k =? 0 then moveOf b setting s centre else Refused k

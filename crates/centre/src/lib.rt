@@ -1,4 +1,4 @@
-// (02, R-6) A state moved to another centre.
+// (02, R-6) A state moved to another centre, (02, R-8) with the acceleration that the rule gives it there.
 
 use basis::END_OF_TIME;
 use basis::unless;
@@ -7,14 +7,18 @@ use book::Motion;
 use book::Place;
 use book::Velocity;
 use gravity::known::difference;
+use injection::InjectionAnswer;
+use injection::known::kept_at;
+use state::Injection;
 use state::Setting;
 use state::State;
 use state::Vector;
 ghost use mathlib.Core.Bool.{true};
 ghost use mathlib.Core.Path.{_≡_};
+ghost use Rattle.state.specs.State.{centreAllowed};
 ghost use Rattle.book.specs.Passes.{passes};
 ghost use Rattle.gravity.specs.Acceleration.{atRest};
-ghost use Rattle.centre.specs.Move.{motionOf, apart, velocityApart, shifted, finiteOr7, moveBy, moveOf, moveRefusal, moveAnswer};
+ghost use Rattle.centre.specs.Move.{motionOf, apart, velocityApart, shifted, movedBy, keptOr7, moveBy, moveOf, moveRefusal, moveAnswer};
 
 pub enum MoveAnswer {
     Moved(State),
@@ -81,7 +85,7 @@ fn velocity_apart(old: Velocity, new: Velocity) -> Vector
     }
 }
 
-fn shifted_state(s: State, centre: u64, old: Motion, new: Motion) -> State
+fn shifted_state(s: State, centre: u64, old: Motion, new: Motion) -> Injection
     ensures { λ r. ⌜ r ≡ shifted s centre old new ⌝ }
 {
     let p = difference(state::position_of(s), apart_by(old.place, new.place));
@@ -89,7 +93,7 @@ fn shifted_state(s: State, centre: u64, old: Motion, new: Motion) -> State
         state::velocity_of(s),
         velocity_apart(old.velocity, new.velocity),
     );
-    State {
+    Injection {
         moment: s.moment,
         centre,
         x: p.x,
@@ -101,18 +105,30 @@ fn shifted_state(s: State, centre: u64, old: Motion, new: Motion) -> State
     }
 }
 
-fn finite_or_7(s: State) -> MoveAnswer
-    ensures { λ r. ⌜ r ≡ finiteOr7 s ⌝ }
+fn moved_by(answer: InjectionAnswer) -> MoveAnswer
+    ensures { λ r. ⌜ r ≡ movedBy answer ⌝ }
 {
-    if state::state_is_finite(s) {
-        return MoveAnswer::Moved(s);
+    match answer {
+        InjectionAnswer::Injected(s) => MoveAnswer::Moved(s),
+        InjectionAnswer::Refused(k) => MoveAnswer::Refused(k),
+    }
+}
+
+fn kept_or_7(book: &[u8], setting: Setting, i: Injection) -> MoveAnswer
+    requires { ⌜ (passes (now book) ≡ true) × (centreAllowed setting (i .centre) ≡ true) ⌝ }
+    ensures { λ r. ⌜ r ≡ keptOr7 (now (book .entry)) setting i ⌝ }
+{
+    if state::injection_is_finite(i) {
+        let answer = kept_at(book, setting, i);
+        return moved_by(answer);
     }
     MoveAnswer::Refused(7)
 }
 
 // Both centres have to be covered before anything is worked out.
-fn move_by(s: State, centre: u64, from: Seen, to: Seen) -> MoveAnswer
-    ensures { λ r. ⌜ r ≡ moveBy s centre from to ⌝ }
+fn move_by(book: &[u8], setting: Setting, s: State, centre: u64, from: Seen, to: Seen) -> MoveAnswer
+    requires { ⌜ (passes (now book) ≡ true) × (centreAllowed setting centre ≡ true) ⌝ }
+    ensures { λ r. ⌜ r ≡ moveBy (now (book .entry)) setting s centre from to ⌝ }
 {
     let Seen::Covered(old) = from else {
         return MoveAnswer::Refused(6);
@@ -120,20 +136,20 @@ fn move_by(s: State, centre: u64, from: Seen, to: Seen) -> MoveAnswer
     let Seen::Covered(new) = to else {
         return MoveAnswer::Refused(6);
     };
-    finite_or_7(shifted_state(s, centre, old, new))
+    kept_or_7(book, setting, shifted_state(s, centre, old, new))
 }
 
-// The move itself, in a book that is known to pass: where the centre stays, nothing is looked up.
-fn moved(book: &[u8], s: State, centre: u64) -> MoveAnswer
-    requires { ⌜ passes (now book) ≡ true ⌝ }
-    ensures { λ r. ⌜ r ≡ moveOf (now (book .entry)) s centre ⌝ }
+// The move itself, in a book that is known to pass, to a centre that is one: where the centre stays, nothing is looked up.
+fn moved(book: &[u8], setting: Setting, s: State, centre: u64) -> MoveAnswer
+    requires { ⌜ (passes (now book) ≡ true) × (centreAllowed setting centre ≡ true) ⌝ }
+    ensures { λ r. ⌜ r ≡ moveOf (now (book .entry)) setting s centre ⌝ }
 {
     if s.centre == centre {
         return MoveAnswer::Moved(s);
     }
     let from = motion_of(book, s.centre, s.moment);
     let to = motion_of(book, centre, s.moment);
-    move_by(s, centre, from, to)
+    move_by(book, setting, s, centre, from, to)
 }
 
 // The number of the first check that fails, 0 where none does: made first and then put in order, the last one first.
@@ -160,7 +176,7 @@ pub fn move_to(book: &[u8], setting: Setting, state: State, centre: u64) -> Move
 {
     let refusal = move_refusal(book, setting, state, centre);
     if refusal == 0 {
-        return moved(book, state, centre);
+        return moved(book, setting, state, centre);
     }
     MoveAnswer::Refused(refusal)
 }

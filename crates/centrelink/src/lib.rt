@@ -3,13 +3,14 @@
 
 ghost use mathlib.Core.Path.{_≡_};
 ghost use Rattle.gravity.specs.Acceleration.{accelerationAnswer};
+ghost use Rattle.injection.specs.Injection.{injectionAnswer};
 ghost use Rattle.motion.specs.Run.{runAnswer};
 ghost use Rattle.centre.specs.Move.{moveAnswer};
 ghost use Rattle.fixed.specs.Fixed.{fixedAnswer};
 ghost use Rattle.conic.specs.Conic.{conicAnswer};
 ghost use Rattle.handed.specs.Handed.{handed, answered};
-ghost use Rattle.lent.specs.Lent.{settingOf, vectorOf, stateOf, guessesOf, bothIn};
-ghost use Rattle.lent.specs.Answers.{ofAcceleration, ofMove, ofFixed, ofConic, handedBack, ofRun};
+ghost use Rattle.lent.specs.Lent.{settingOf, vectorOf, injectionOf, stateOf, unkeptOf, guessesOf, bothIn};
+ghost use Rattle.lent.specs.Answers.{ofAcceleration, ofInjection, ofMove, ofFixed, ofConic, handedBack, ofFlight};
 
 #[no_mangle]
 pub extern "C" fn belfry_pull(
@@ -40,6 +41,36 @@ pub extern "C" fn belfry_pull(
     )
 }
 
+// (02, R-8) The state with the acceleration that the rule gives it.
+#[no_mangle]
+pub extern "C" fn belfry_inject(
+    book: &[u8],
+    coefficients: &[f64; 6],
+    extras: &[f64; 3],
+    dut: u32,
+    rule: u64,
+    moment: u64,
+    centre: u64,
+    coordinates: &[f64; 6],
+    state: &mut [f64; 9],
+) -> u64
+    ensures { λ r. ⌜ handed r (now (state .exit)) ≡ answered (now (state .entry))
+        (ofInjection (injectionAnswer (now (book .entry)) (settingOf (now (coefficients .entry)) (now (extras .entry)) dut rule)
+        (injectionOf moment centre (now (coordinates .entry))))) ⌝ }
+{
+    lent::calls::inject(
+        book,
+        coefficients,
+        extras,
+        dut,
+        rule,
+        moment,
+        centre,
+        coordinates,
+        state,
+    )
+}
+
 // What is read and what is written stand apart: the next call reads what this one wrote. The centre is the one given.
 #[no_mangle]
 pub extern "C" fn belfry_fly(
@@ -50,17 +81,17 @@ pub extern "C" fn belfry_fly(
     rule: u64,
     moment: u64,
     centre: u64,
-    coordinates: &[f64; 6],
+    coordinates: &[f64; 9],
     h: u32,
     target: u64,
     budget: u32,
     guesses: &[u64; 5],
     reached: &mut u64,
-    there: &mut [f64; 6],
+    there: &mut [f64; 9],
     entries: &mut [u64; 5],
     steps: &mut u32,
 ) -> u64
-    ensures { λ r. ⌜ handedBack r (now (reached .exit)) (now (there .exit)) (now (entries .exit)) (now (steps .exit)) ≡ ofRun
+    ensures { λ r. ⌜ handedBack r (now (reached .exit)) (now (there .exit)) (now (entries .exit)) (now (steps .exit)) ≡ ofFlight
         (runAnswer (now (book .entry)) (settingOf (now (coefficients .entry)) (now (extras .entry)) dut rule)
         (stateOf moment centre (now (coordinates .entry))) h target budget (guessesOf (now (guesses .entry)))) ⌝ }
 {
@@ -93,9 +124,9 @@ pub extern "C" fn belfry_move(
     rule: u64,
     moment: u64,
     centre: u64,
-    coordinates: &[f64; 6],
+    coordinates: &[f64; 9],
     new: u64,
-    moved: &mut [f64; 6],
+    moved: &mut [f64; 9],
 ) -> u64
     ensures { λ r. ⌜ handed r (now (moved .exit)) ≡ answered (now (moved .entry))
         (ofMove (moveAnswer (now (book .entry)) (settingOf (now (coefficients .entry)) (now (extras .entry)) dut rule)
@@ -126,7 +157,7 @@ pub extern "C" fn belfry_turn(
     turned: &mut [f64; 6],
 ) -> u64
     ensures { λ r. ⌜ handed r (now (turned .exit)) ≡ answered (now (turned .entry))
-        (ofFixed (fixedAnswer rule dut (stateOf moment centre (now (coordinates .entry))))) ⌝ }
+        (ofFixed (fixedAnswer rule dut (unkeptOf moment centre (now (coordinates .entry))))) ⌝ }
 {
     lent::calls::turned(rule, dut, moment, centre, coordinates, turned)
 }
@@ -141,7 +172,7 @@ pub extern "C" fn belfry_orbit(
     figures: &mut [f64; 5],
 ) -> u64
     ensures { λ r. ⌜ handed r (bothIn (now (names .exit)) (now (figures .exit))) ≡ answered (bothIn (now (names .entry)) (now (figures .entry)))
-        (ofConic (conicAnswer m (stateOf moment centre (now (coordinates .entry))))) ⌝ }
+        (ofConic (conicAnswer m (unkeptOf moment centre (now (coordinates .entry))))) ⌝ }
 {
     lent::calls::orbit(m, moment, centre, coordinates, names, figures)
 }

@@ -14,22 +14,25 @@ use lib.Ieee.Fits.{add-fits}
 use lib.Ieee.Scale.{finite}
 use Rattle.basis.specs.Choice.{if_then_else_}
 use Rattle.basis.specs.Limits.{endOfTime}
-use Rattle.state.specs.State.{position, velocity, finiteVector, finiteState}
+use Rattle.state.specs.State.{position, velocity, acceleration, injectionAt, carrying, bare, finiteVector, finiteState}
 use Rattle.state.specs.declared.Vector.{Vector}
 use Rattle.state.specs.declared.State.{State}
+use Rattle.state.specs.declared.Injection.{Injection}
 use Rattle.state.specs.declared.Setting.{Setting}
 use Rattle.gravity.specs.Acceleration.{accelerationAt}
 use Rattle.gravity.specs.declared.AccelerationAnswer.{AccelerationAnswer}
 use Rattle.gravity.specs.declared.AccelerationAnswer.the-variants.{Is, Refused}
+use Rattle.injection.specs.Injection.{keptBy, launched}
+use Rattle.injection.proofs.Launched.{launched-bare}
 use Rattle.start.specs.Start.{startRefusal}
 use Rattle.start.proofs.Passed.{passed}
-use Rattle.motion.specs.Step.{Moved, On, Off, andThen, stateAt, arrive, along, weighed, stepH, half, sixth, velocity2, velocity3, velocity4, lastly, stage2, stage3, stage4, step}
+use Rattle.motion.specs.Step.{Moved, On, Off, andThen, arrive, along, weighed, stepH, half, sixth, velocity2, velocity3, velocity4, lastly, stage2, stage3, stage4, movedBy, keeping, step}
 use Rattle.motion.proofs.OneStep.{done}
 use Rattle.motion.proofs.Start.{mayWalk}
 use Rattle.listing.specs.Lines.{stripWord, arrivedWord, refusedWord, headerLine, stateLine, arrivedLine, refusedLine, loneRefusal}
 use Rattle.orders.specs.Order.{orderLength, orderOf, readOrder}
-use Rattle.listing.specs.Strip.{orderText, stripText}
-use Rattle.listing.specs.Course.{afterStep, courseText, startOf}
+use Rattle.listing.specs.Strip.{stepsTo, orderText, stripText}
+use Rattle.listing.specs.Course.{afterStep, courseText}
 use Rattle.orders.specs.declared.Form.{Form}
 use Rattle.orders.specs.declared.Order.{Order}
 use Rattle.listing.proofs.Courses.{starts}
@@ -47,7 +50,7 @@ use Rattle.compared.proofs.Lines.{Fine, FineVector, FineState, rowFor, 
 
 -- ---- floats of a state that a step leads to
 
-pub record Fits (s : State) : Type 0 where
+pub record Fits (s : Injection) : Type 0 where
   pub x : T (fits binary64 (s .x))
   pub y : T (fits binary64 (s .y))
   pub z : T (fits binary64 (s .z))
@@ -55,32 +58,38 @@ pub record Fits (s : State) : Type 0 where
   pub vy : T (fits binary64 (s .vy))
   pub vz : T (fits binary64 (s .vz))
 
-arrived-fits : (t o : ℕ) (b : Vector) (f : Float) (d c : Vector) (g : Float) (e : Vector) (next : State) → arrive t o (along b f d) (along c g e) ≡ On next → Fits next
+kept-fits : (i : Injection) (q : AccelerationAnswer) (next : State) → Fits i → movedBy (keptBy i q) ≡ On next → Fits (bare next)
+kept-fits i (Is a) next f e = let is : carrying i a ≡ next = cc in subst (λ (s : State). Fits (bare s)) is f
+kept-fits i (Refused k) next f e = let z : _≡_ {A = ℕ} 0 1 = cc in absurd (omega arith)
+
+arrived-fits : (acc : ℕ → Vector → AccelerationAnswer) (t o : ℕ) (b : Vector) (f : Float) (d c : Vector) (g : Float) (e : Vector) (next : State)
+    → arrive (keeping acc) t o (along b f d) (along c g e) ≡ On next → Fits (bare next)
 unfolding along
-arrived-fits t o b f d c g e next = go (finiteVector (along b f d) && finiteVector (along c g e))
+arrived-fits acc t o b f d c g e next = go (finiteVector (along b f d) && finiteVector (along c g e))
   where
-    go : (ok : Bool) → (if ok then On (stateAt t o (along b f d) (along c g e)) else Off 7) ≡ On next → Fits next
+    go : (ok : Bool) → (if ok then keeping acc (injectionAt t o (along b f d) (along c g e)) else Off 7) ≡ On next → Fits (bare next)
     go true q =
-        let is : stateAt t o (along b f d) (along c g e) ≡ next = cc in
-        subst Fits is (record { x = add-fits binary64 _ _; y = add-fits binary64 _ _; z = add-fits binary64 _ _; vx = add-fits binary64 _ _; vy = add-fits binary64 _ _; vz = add-fits binary64 _ _ })
+        kept-fits (injectionAt t o (along b f d) (along c g e)) (acc t (along b f d)) next
+        (record { x = add-fits binary64 _ _; y = add-fits binary64 _ _; z = add-fits binary64 _ _; vx = add-fits binary64 _ _; vy = add-fits binary64 _ _; vz = add-fits binary64 _ _ })
+        q
     go false q = let z : _≡_ {A = ℕ} 0 1 = cc in absurd (omega arith)
 
-peel : (q : AccelerationAnswer) (rest : Vector → Moved) (next : State) → ((a : Vector) → rest a ≡ On next → Fits next) → andThen q rest ≡ On next → Fits next
+peel : (q : AccelerationAnswer) (rest : Vector → Moved) (next : State) → ((a : Vector) → rest a ≡ On next → Fits (bare next)) → andThen q rest ≡ On next → Fits (bare next)
 peel (Is a) rest next k e = k a e
 peel (Refused n) rest next k e = let z : _≡_ {A = ℕ} 0 1 = cc in absurd (omega arith)
 
-step-fits : (b : List ℕ) (setting : Setting) (h : ℕ) (s next : State) → step b setting h s ≡ On next → Fits next
+step-fits : (b : List ℕ) (setting : Setting) (h : ℕ) (s next : State) → step b setting h s ≡ On next → Fits (bare next)
 unfolding step
 step-fits b setting h s next =
     let acc = accelerationAt b setting (s .centre) in
-    peel (acc (s .moment) (position s)) (stage2 acc h s) next
-    (λ a1.
-    peel (acc (s .moment + h / 2) (along (position s) (half h) (velocity s))) (stage3 acc h s a1) next
+    let ends = keeping acc in
+    let a1 = acceleration s in
+    peel (acc (s .moment + h / 2) (along (position s) (half h) (velocity s))) (stage3 acc ends h s a1) next
     (λ a2.
-    peel (acc (s .moment + h / 2) (along (position s) (half h) (velocity2 h s a1))) (stage4 acc h s a1 a2) next
+    peel (acc (s .moment + h / 2) (along (position s) (half h) (velocity2 h s a1))) (stage4 acc ends h s a1 a2) next
     (λ a3.
-    peel (acc (s .moment + h) (along (position s) (stepH h) (velocity3 h s a2))) (lastly h s a1 a2 a3) next
-    (λ a4 e. arrived-fits (s .moment + h) (s .centre) (position s) (sixth h) _ (velocity s) (sixth h) _ next e))))
+    peel (acc (s .moment + h) (along (position s) (stepH h) (velocity3 h s a2))) (lastly ends h s a1 a2 a3) next
+    (λ a4 e. arrived-fits acc (s .moment + h) (s .centre) (position s) (sixth h) _ (velocity s) (sixth h) _ next e)))
 
 both-true : (p q : Bool) → (p && q) ≡ true → (p ≡ true) × (q ≡ true)
 both-true true q e = (refl, e)
@@ -96,7 +105,7 @@ fine-vector v e x y z =
       z-fine = record { is-finite = xy .1; is-fit = z };
     }
 
-fine-state : (s : State) → s .moment < endOfTime → finiteState s ≡ true → Fits s → FineState s
+fine-state : (s : State) → s .moment < endOfTime → finiteState s ≡ true → Fits (bare s) → FineState s
 fine-state s h e f =
     let two = both-true (finiteVector (position s)) (finiteVector (velocity s)) e in
     record {
@@ -184,37 +193,40 @@ module _ (b : List ℕ) (setting : Setting) (h : ℕ) (some : 1 ≤ h) where
           ∙ state-on (s .moment) n next (kindsOf (courseText (step b setting h) left (did + 1) next)) (omega arith)
           ∙ later (did + 1) (n + 1) next (omega arith)
 
-order-form : (b : List ℕ) (o : Order) → Fits (o .state) → startRefusal b (o .setting) (o .state) (o .h) (o .target) ≡ 0 → formRefusal (orderText b o) ≡ 0
+order-form : (b : List ℕ) (o : Order) → Fits (o .injection) → startRefusal b (o .setting) (launched b (o .setting) (o .injection)) (o .h) (o .target) ≡ 0
+    → formRefusal (orderText b o) ≡ 0
 unfolding formRefusal
 order-form b o f e =
-    let may = mayWalk b (o .setting) (o .state) (o .h) (o .target) e in
+    let s = launched b (o .setting) (o .injection) in
+    let may = mayWalk b (o .setting) s (o .h) (o .target) e in
     let long = may .long in
-    let p = passed b (o .setting) (o .state) (o .h) (o .target) e in
-    let inside = starts b o may .inside in
-    let fine = fine-state (o .state) (ltb-true (o .state .moment) endOfTime (p .begins)) (p .finite) f in
-    let course = courseText (step b (o .setting) (o .h)) (startOf b o .left) 0 (o .state) in
+    let p = passed b (o .setting) s (o .h) (o .target) e in
+    let inside = starts b (o .setting) s (o .h) (o .target) may .inside in
+    let fits-there = subst Fits (sym (launched-bare b (o .setting) (o .injection))) f in
+    let fine = fine-state s (ltb-true (s .moment) endOfTime (p .begins)) (p .finite) fits-there in
+    let course = courseText (step b (o .setting) (o .h)) (stepsTo s (o .h) (o .target)) 0 s in
     ap (λ (t : List ℕ). refusedFrom Top 1 (kindsOf t)) (order-course b o e)
-    ∙ ap (refusedFrom Top 1) (kinds-header (o .h) (stateLine (o .state) ++ course) ∙ ap (λ (ls : List Line). line.Header ∷ ls) (kinds-state (o .state) course fine))
-    ∙ header-first (line.State (rowFor (o .state)) ∷ kindsOf course)
-    ∙ state-first 2 (o .state) (kindsOf course)
-    ∙ course-form b (o .setting) (o .h) (omega arith) (startOf b o .left) 0 (2 + 1) (o .state) inside
+    ∙ ap (refusedFrom Top 1) (kinds-header (o .h) (stateLine s ++ course) ∙ ap (λ (ls : List Line). line.Header ∷ ls) (kinds-state s course fine))
+    ∙ header-first (line.State (rowFor s) ∷ kindsOf course)
+    ∙ state-first 2 s (kindsOf course)
+    ∙ course-form b (o .setting) (o .h) (omega arith) (stepsTo s (o .h) (o .target)) 0 (2 + 1) s inside
 
 lone-form : (k : ℕ) → formRefusal (loneRefusal k) ≡ 0
 unfolding formRefusal
 lone-form k = ap (refusedFrom Top 1) (kinds-lone k) ∙ lone-ends
 
-order-fits : (form : Form) (input : List ℕ) → Fits (orderOf form input .state)
+order-fits : (form : Form) (input : List ℕ) → Fits (orderOf form input .injection)
 order-fits form input = record { x = ofBits-fits binary64 _; y = ofBits-fits binary64 _; z = ofBits-fits binary64 _; vx = ofBits-fits binary64 _; vy = ofBits-fits binary64 _; vz = ofBits-fits binary64 _ }
 
-not-started : (b : List ℕ) (o : Order) → eqb (startRefusal b (o .setting) (o .state) (o .h) (o .target)) 0 ≡ false
-    → orderText b o ≡ loneRefusal (startRefusal b (o .setting) (o .state) (o .h) (o .target))
+not-started : (b : List ℕ) (o : Order) → eqb (startRefusal b (o .setting) (launched b (o .setting) (o .injection)) (o .h) (o .target)) 0 ≡ false
+    → orderText b o ≡ loneRefusal (startRefusal b (o .setting) (launched b (o .setting) (o .injection)) (o .h) (o .target))
 unfolding orderText
 not-started b o e = rw e
 
-any-order : (b : List ℕ) (o : Order) → Fits (o .state) → formRefusal (orderText b o) ≡ 0
-any-order b o f = go (eqb (startRefusal b (o .setting) (o .state) (o .h) (o .target)) 0) refl
+any-order : (b : List ℕ) (o : Order) → Fits (o .injection) → formRefusal (orderText b o) ≡ 0
+any-order b o f = go (eqb (startRefusal b (o .setting) (launched b (o .setting) (o .injection)) (o .h) (o .target)) 0) refl
   where
-    go : (t : Bool) → eqb (startRefusal b (o .setting) (o .state) (o .h) (o .target)) 0 ≡ t → formRefusal (orderText b o) ≡ 0
+    go : (t : Bool) → eqb (startRefusal b (o .setting) (launched b (o .setting) (o .injection)) (o .h) (o .target)) 0 ≡ t → formRefusal (orderText b o) ≡ 0
     go true e = order-form b o f (eqb-true _ 0 e)
     go false e = ap formRefusal (not-started b o e) ∙ lone-form _
 

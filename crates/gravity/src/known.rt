@@ -24,8 +24,12 @@ use sight::known::found;
 use sight::refusal_of;
 use state::Setting;
 use state::Vector;
+ghost use mathlib.Core.Bool.{true};
 ghost use mathlib.Core.Path.{_≡_};
+ghost use Rattle.state.specs.State.{centreAllowed};
+ghost use Rattle.book.specs.Passes.{passes};
 ghost use Rattle.book.specs.Calm.{Ready};
+ghost use Rattle.gravity.specs.Acceleration.{accelerationAt};
 ghost use Rattle.sight.specs.Looked.{foundIn};
 ghost use Rattle.gravity.specs.Sight.{otherBy, otherOf, othersOf, entriesOf, sights, settledBy, accelerationBy};
 
@@ -189,4 +193,26 @@ pub fn acceleration_under(bodies: Sights, setting: Setting, p: Vector) -> Accele
         return settle(sunlit_sum(setting, bodies.sun, p, with_earth));
     }
     AccelerationAnswer::Refused(bodies.refusal)
+}
+
+// The rule itself, in a book that is known to pass, about a centre that is known to be one.
+pub fn rule(
+    book: &[u8],
+    setting: Setting,
+    centre: u64,
+    moment: u64,
+    position: Vector,
+) -> AccelerationAnswer
+    requires { ⌜ (passes (now book) ≡ true) × (centreAllowed setting centre ≡ true) ⌝ }
+    ensures { λ r. ⌜ r ≡ accelerationAt (now (book .entry)) setting centre moment position ⌝ }
+{
+    let g = Guesses {
+        moon: 0,
+        sun: 0,
+        venus: 0,
+        mars: 0,
+        jupiter: 0,
+    };
+    let bodies = sights_at(book, setting, centre, moment, g, false);
+    acceleration_under(bodies, setting, position)
 }

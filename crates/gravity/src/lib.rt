@@ -7,11 +7,8 @@ use basis::unless;
 use pull::Other;
 use state::Setting;
 use state::Vector;
-ghost use mathlib.Core.Bool.{true};
 ghost use mathlib.Core.Path.{_≡_};
-ghost use Rattle.state.specs.State.{centreAllowed};
-ghost use Rattle.book.specs.Passes.{passes};
-ghost use Rattle.gravity.specs.Acceleration.{accelerationAt, accelerationAnswer};
+ghost use Rattle.gravity.specs.Acceleration.{accelerationAnswer};
 
 pub enum AccelerationAnswer {
     Is(Vector),
@@ -67,29 +64,7 @@ pub fn acceleration(
     let after_book = unless(allowed, 4, after_setting);
     let refusal = unless(passes, 1, after_book);
     if refusal == 0 {
-        return rule(book, setting, centre, moment, position);
+        return known::rule(book, setting, centre, moment, position);
     }
     AccelerationAnswer::Refused(refusal)
-}
-
-// The rule itself, in a book that is known to pass, about a centre that is known to be one.
-fn rule(
-    book: &[u8],
-    setting: Setting,
-    centre: u64,
-    moment: u64,
-    position: Vector,
-) -> AccelerationAnswer
-    requires { ⌜ (passes (now book) ≡ true) × (centreAllowed setting centre ≡ true) ⌝ }
-    ensures { λ r. ⌜ r ≡ accelerationAt (now (book .entry)) setting centre moment position ⌝ }
-{
-    let g = Guesses {
-        moon: 0,
-        sun: 0,
-        venus: 0,
-        mars: 0,
-        jupiter: 0,
-    };
-    let bodies = known::sights_at(book, setting, centre, moment, g, false);
-    known::acceleration_under(bodies, setting, position)
 }

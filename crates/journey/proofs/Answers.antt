@@ -7,11 +7,15 @@ use native.Mathlib.Nat.{mul-mod-left}
 use native.Mathlib.Omega.{arith}
 use borrow.Author.Tests.{lt-ltb, le-leb, ltb-true, ne-eqb}
 use Rattle.basis.specs.Limits.{endOfTime}
-use Rattle.state.specs.State.{finiteState, centreAllowed}
+use Rattle.state.specs.State.{position, acceleration, finiteState, centreAllowed}
 use Rattle.state.specs.declared.State.{State}
 use Rattle.state.specs.declared.Setting.{Setting}
+use Rattle.gravity.specs.Acceleration.{accelerationAt}
+use Rattle.gravity.specs.declared.AccelerationAnswer.the-variants.{Is}
 use Rattle.gravity.specs.Sight.{sights}
 use Rattle.gravity.specs.declared.Guesses.{Guesses}
+use Rattle.injection.specs.Injection.{orderRefusal}
+use Rattle.injection.proofs.Order.{carries-rule, order-passes}
 use Rattle.motion.specs.Step.{Moved, On, Off, step}
 use Rattle.motion.specs.Walk.{onward, walk}
 use Rattle.start.specs.Start.{withinSteps, startRefusal}
@@ -37,9 +41,11 @@ stillWithin t h left target e =
     let apart : target - t ≡ left * h = omega arith in
     rw (le-leb t target ahead, apart, mul-mod-left left h)
 
--- what a step leaves true of its new state: its components are finite, and every used body was seen at its moment, if its centre is one
+-- what a step leaves true of its new state: its components are finite, it is in order, and every used body was seen at its moment, if its
+-- centre is one
 pub record Left (b : List ℕ) (setting : Setting) (s : State) : Type 0 where
   pub finite : finiteState s ≡ true
+  pub rule : accelerationAt b setting (s .centre) (s .moment) (position s) ≡ Is (acceleration s)
   pub clear : centreAllowed setting (s .centre) ≡ true → sights b setting (s .centre) (s .moment) .refusal ≡ 0
 
 module _ (b : List ℕ) (setting : Setting) (h target : ℕ) where
@@ -51,6 +57,7 @@ module _ (b : List ℕ) (setting : Setting) (h target : ℕ) where
       let d = done b setting h s next e in
       record {
         finite = d .finite;
+        rule = d .rule;
         clear = λ ok.
             ap (λ (c : ℕ). sights b setting c (next .moment) .refusal) (d .centre)
             ∙ ap (λ (t : ℕ). sights b setting (s .centre) t .refusal) (d .moment)
@@ -87,13 +94,19 @@ module _ (b : List ℕ) (setting : Setting) (h target : ℕ) where
         centred = ap (centreAllowed setting) (centreStays (q .steps) s (q .state) (r .walked)) ∙ p .centred;
         begins = lt-ltb _ _ here;
         ends = p .ends;
-        finite = go (q .steps) refl;
+        finite = finiteThere (q .steps) refl;
+        ordered = orderedThere (q .steps) refl;
         length = p .length;
         reachable = stillWithin _ h (r .left) target reach;
       }
     where
-      go : (n : ℕ) → runTo (step b setting h) target budget s .steps ≡ n → finiteState (runTo (step b setting h) target budget s .state) ≡ true
-      go zero none =
-          ap finiteState (stays (step b setting h) h target (Left b setting) moves leaves s (runTo (step b setting h) target budget s) (runFrom s budget p .walked) none)
-          ∙ p .finite
-      go (suc n) some = runFrom s budget p .seen (omega arith) .finite
+      same : runTo (step b setting h) target budget s .steps ≡ 0 → runTo (step b setting h) target budget s .state ≡ s
+      same none = stays (step b setting h) h target (Left b setting) moves leaves s (runTo (step b setting h) target budget s) (runFrom s budget p .walked) none
+
+      finiteThere : (n : ℕ) → runTo (step b setting h) target budget s .steps ≡ n → finiteState (runTo (step b setting h) target budget s .state) ≡ true
+      finiteThere zero none = ap finiteState (same none) ∙ p .finite
+      finiteThere (suc n) some = runFrom s budget p .seen (omega arith) .finite
+
+      orderedThere : (n : ℕ) → runTo (step b setting h) target budget s .steps ≡ n → orderRefusal b setting (runTo (step b setting h) target budget s .state) ≡ 0
+      orderedThere zero none = ap (orderRefusal b setting) (same none) ∙ p .ordered
+      orderedThere (suc n) some = order-passes b setting _ (carries-rule b setting _ (runFrom s budget p .seen (omega arith) .rule))

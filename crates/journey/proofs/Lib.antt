@@ -6,3 +6,4 @@ pub mod Enough
 pub mod Guessed
 pub mod Refused
 pub mod Wrong
+pub mod Order

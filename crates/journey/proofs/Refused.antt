@@ -8,9 +8,10 @@ use borrow.Author.Tests.{eqb-true}
 use Rattle.basis.specs.Choice.{if_then_else_, _=?_}
 use Rattle.basis.specs.Limits.{isMoment}
 use Rattle.basis.proofs.Cases.{by-if}
-use Rattle.state.specs.State.{position, velocity, finiteVector, finiteState, settingAllowed, centreAllowed}
+use Rattle.state.specs.State.{position, velocity, acceleration, injectionAt, bare, sameVector, finiteVector, finiteState, settingAllowed, centreAllowed}
 use Rattle.state.specs.declared.Vector.{Vector}
 use Rattle.state.specs.declared.State.{State}
+use Rattle.state.specs.declared.Injection.{Injection}
 use Rattle.state.specs.declared.Setting.{Setting}
 use Rattle.book.specs.Passes.{passes}
 use Rattle.gravity.specs.Acceleration.{accelerationAt}
@@ -18,8 +19,9 @@ use Rattle.gravity.specs.declared.AccelerationAnswer.{AccelerationAnswer}
 use Rattle.gravity.specs.declared.AccelerationAnswer.the-variants.{Is, Refused}
 use Rattle.gravity.specs.declared.Guesses.{Guesses}
 use Rattle.gravity.proofs.Refused.{refusedBy, rule-refused}
+use Rattle.injection.specs.Injection.{ruleAt, keptBy, orderRefusalBy, orderRefusal}
 use Rattle.start.specs.Start.{stepAllowed, withinSteps, startRefusal}
-use Rattle.motion.specs.Step.{Moved, On, Off, andThen, along, weighed, half, sixth, stepH, velocity2, velocity3, velocity4, arrive, lastly, stage1, stage2, stage3, stage4, step}
+use Rattle.motion.specs.Step.{Moved, On, Off, andThen, along, weighed, half, sixth, stepH, velocity2, velocity3, velocity4, arrive, lastly, stage2, stage3, stage4, movedBy, keeping, step}
 use Rattle.motion.specs.Run.{Reached, atTarget, afterwards, runTo, withGuesses, refusedAtOnce, runAnswer}
 use Rattle.motion.specs.declared.Outcome.{Outcome}
 use Rattle.motion.specs.declared.Outcome.the-variants as outcome
@@ -40,35 +42,36 @@ module _ (ok : ℕ → Bool) (six : ok 6 ≡ true) (seven : ok 7 ≡ true) where
   then-off (Is v) next first rest = rest v
   then-off (Refused k) next first rest = first
 
-  arrive-off : (t c : ℕ) (p v : Vector) → offBy ok (arrive t c p v) ≡ true
-  arrive-off t c p v = by-if (offBy ok) (finiteVector p && finiteVector v) refl seven
+  kept-off : (i : Injection) (a : AccelerationAnswer) → refusedBy ok a ≡ true → offBy ok (movedBy (keptBy i a)) ≡ true
+  kept-off i (Is a) e = refl
+  kept-off i (Refused k) e = e
 
   module _ (acc : ℕ → Vector → AccelerationAnswer) (each : (t : ℕ) (P : Vector) → refusedBy ok (acc t P) ≡ true) (h : ℕ) (s : State) where
-    stage4-off : (a1 a2 a3 : Vector) → offBy ok (stage4 acc h s a1 a2 a3) ≡ true
+    arrive-off : (t c : ℕ) (p v : Vector) → offBy ok (arrive (keeping acc) t c p v) ≡ true
+    arrive-off t c p v = by-if (offBy ok) (finiteVector p && finiteVector v) (kept-off (injectionAt t c p v) (acc t p) (each t p)) seven
+
+    stage4-off : (a1 a2 a3 : Vector) → offBy ok (stage4 acc (keeping acc) h s a1 a2 a3) ≡ true
     stage4-off a1 a2 a3 =
         let P = along (position s) (stepH h) (velocity3 h s a2) in
-        then-off (acc (s .moment + h) P) (lastly h s a1 a2 a3) (each (s .moment + h) P)
+        then-off (acc (s .moment + h) P) (lastly (keeping acc) h s a1 a2 a3) (each (s .moment + h) P)
         (λ a4.
         arrive-off (s .moment + h) (s .centre)
         (along (position s) (sixth h) (weighed (velocity s) (velocity2 h s a1) (velocity3 h s a2) (velocity4 h s a3)))
         (along (velocity s) (sixth h) (weighed a1 a2 a3 a4)))
 
-    stage3-off : (a1 a2 : Vector) → offBy ok (stage3 acc h s a1 a2) ≡ true
+    stage3-off : (a1 a2 : Vector) → offBy ok (stage3 acc (keeping acc) h s a1 a2) ≡ true
     stage3-off a1 a2 =
         let P = along (position s) (half h) (velocity2 h s a1) in
-        then-off (acc (s .moment + h / 2) P) (stage4 acc h s a1 a2) (each (s .moment + h / 2) P) (stage4-off a1 a2)
+        then-off (acc (s .moment + h / 2) P) (stage4 acc (keeping acc) h s a1 a2) (each (s .moment + h / 2) P) (stage4-off a1 a2)
 
-    stage2-off : (a1 : Vector) → offBy ok (stage2 acc h s a1) ≡ true
+    stage2-off : (a1 : Vector) → offBy ok (stage2 acc (keeping acc) h s a1) ≡ true
     stage2-off a1 =
         let P = along (position s) (half h) (velocity s) in
-        then-off (acc (s .moment + h / 2) P) (stage3 acc h s a1) (each (s .moment + h / 2) P) (stage3-off a1)
-
-    stage1-off : offBy ok (stage1 acc h s) ≡ true
-    stage1-off = then-off (acc (s .moment) (position s)) (stage2 acc h s) (each (s .moment) (position s)) stage2-off
+        then-off (acc (s .moment + h / 2) P) (stage3 acc (keeping acc) h s a1) (each (s .moment + h / 2) P) (stage3-off a1)
 
   pub step-off : (b : List ℕ) (setting : Setting) (h : ℕ) (s : State) → offBy ok (step b setting h s) ≡ true
   unfolding step
-  step-off b setting h s = stage1-off (accelerationAt b setting (s .centre)) (rule-refused ok six seven b setting (s .centre)) h s
+  step-off b setting h s = stage2-off (accelerationAt b setting (s .centre)) (rule-refused ok six seven b setting (s .centre)) h s (acceleration s)
 
   module _ (f : State → Moved) (steps : (s : State) → offBy ok (f s) ≡ true) (target : ℕ) where
     after-off : (rest : State → Reached) (s : State) (m : Moved) → ((next : State) → outcomeBy ok (rest next .outcome) ≡ true) → offBy ok m ≡ true
@@ -83,7 +86,20 @@ module _ (ok : ℕ → Bool) (six : ok 6 ≡ true) (seven : ok 7 ≡ true) where
         by-if (λ (r : Reached). outcomeBy ok (r .outcome)) (atTarget target s) refl
         (after-off (runTo f target budget) s (f s) (run-off budget) (steps s))
 
-  module _ (one : ok 1 ≡ true) (four : ok 4 ≡ true) (fourteen : ok 14 ≡ true) (three : ok 3 ≡ true) (two : ok 2 ≡ true) (five : ok 5 ≡ true) where
+  module _ (one : ok 1 ≡ true) (four : ok 4 ≡ true) (fourteen : ok 14 ≡ true) (three : ok 3 ≡ true) (fifteen : ok 15 ≡ true) (two : ok 2 ≡ true)
+      (five : ok 5 ≡ true) where
+    or-right : (a b : Bool) → b ≡ true → (a || b) ≡ true
+    or-right true b e = refl
+    or-right false b e = e
+
+    order-by-off : (s : State) (a : AccelerationAnswer) → refusedBy ok a ≡ true → ((orderRefusalBy s a =? 0) || ok (orderRefusalBy s a)) ≡ true
+    order-by-off s (Is a) e = let p : ℕ → Bool = λ k. (k =? 0) || ok k in by-if p (sameVector a (acceleration s)) refl fifteen
+    order-by-off s (Refused k) e = or-right (k =? 0) (ok k) e
+
+    order-off : (b : List ℕ) (setting : Setting) (s : State) → ((orderRefusal b setting s =? 0) || ok (orderRefusal b setting s)) ≡ true
+    unfolding orderRefusal
+    order-off b setting s = order-by-off s (ruleAt b setting (bare s)) (rule-refused ok six seven b setting (s .centre) (s .moment) (position s))
+
     -- 0, or a number of the checks
     start-off : (b : List ℕ) (setting : Setting) (s : State) (h target : ℕ)
         → ((startRefusal b setting s h target =? 0) || ok (startRefusal b setting s h target)) ≡ true
@@ -96,9 +112,11 @@ module _ (ok : ℕ → Bool) (six : ok 6 ≡ true) (seven : ok 7 ≡ true) where
         (by-if p (not (isMoment (s .moment))) three
         (by-if p (not (isMoment target)) three
         (by-if p (not (finiteState s)) seven
-        (by-if p (not (stepAllowed h)) two (by-if p (not (withinSteps (s .moment) h target)) five refl)))))))
+        (by-if p (orderRefusal b setting s =? 0)
+        (by-if p (not (stepAllowed h)) two (by-if p (not (withinSteps (s .moment) h target)) five refl))
+        (order-off b setting s)))))))
 
-    -- a run by 1, 4, 14, 3, 7, 2, 5 and 6 alone
+    -- a run by 1, 4, 14, 3, 7, 6, 15, 2 and 5 alone
     pub run-refused : (b : List ℕ) (setting : Setting) (s : State) (h target budget : ℕ) (given : Guesses)
         → outcomeBy ok (runAnswer b setting s h target budget given .outcome) ≡ true
     unfolding runAnswer

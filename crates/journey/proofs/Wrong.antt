@@ -4,9 +4,9 @@ use mathlib.Core.List.{List, [], _∷_}
 use mathlib.Core.Path.{_≡_, refl, sym, ap, _∙_}
 use Prim.Native.Nat.{ℕ, zero, suc, _+_, _*_, _≤_}
 use native.Mathlib.Omega.{arith}
-use lib.Ieee.{Float, neg, add, sub, mul, div, lt, eq, ofBits, ofInt, ofFields, odd, size}
+use lib.Ieee.{Float, neg, add, sub, mul, div, lt, eq, ofBits, toBits, ofInt, ofFields, odd, size}
 use Rattle.basis.specs.Floats.{whole}
-use Rattle.state.specs.State.{position, velocity, settingAllowed, coefficientsAllowed, termsAllowed, coefficientOf, centreAllowed, n}
+use Rattle.state.specs.State.{position, velocity, settingAllowed, coefficientsAllowed, termsAllowed, coefficientOf, centreAllowed, sameVector, n}
 use Rattle.state.specs.declared.Vector.{Vector}
 use Rattle.state.specs.declared.State.{State}
 use Rattle.state.specs.declared.Setting.{Setting}
@@ -16,6 +16,7 @@ use Rattle.root.specs.Root.{rootOf}
 use Rattle.gravity.specs.Pull.{g, sound, r3}
 use Rattle.gravity.specs.Acceleration.{sky, accelerationAt}
 use Rattle.gravity.specs.declared.Guesses.{Guesses}
+use Rattle.injection.specs.Injection.{orderRefusal}
 use Rattle.start.specs.Start.{startRefusal}
 use Rattle.motion.specs.Step.{Moved, On, Off, stepH, along, weighed, half, sixth, step}
 use Rattle.motion.specs.Run.{Reached, ended, counted, runTo, withGuesses, runAnswer}
@@ -29,14 +30,19 @@ use Rattle.journey.specs.Wrong.{RunCall, Promised, RefusesEverything, An
 use Rattle.journey.proofs.Answers.{answerIs}
 use Rattle.journey.proofs.Portions.{clockAlways}
 
--- the example passes the checks, with a target at hand, one step on and two steps on
+-- the example is in order
+ordered : orderRefusal exampleBook exampleSetting exampleState ≡ 0
+unfolding orderRefusal sameVector accelerationAt coefficientOf sky g sound r3 n rootOf neg add sub mul div lt eq ofBits ofInt toBits
+ordered = refl
+
+-- it passes the checks, with a target at hand, one step on and two steps on
 passesHere : startRefusal exampleBook exampleSetting exampleState exampleH 0 ≡ 0
 unfolding startRefusal passes settingAllowed coefficientsAllowed termsAllowed centreAllowed coefficientOf u16At u32At u64At lt ofBits ofInt
-passesHere = refl
+passesHere = rw ordered
 
 passesThere : startRefusal exampleBook exampleSetting exampleState exampleH 2000 ≡ 0
 unfolding startRefusal passes settingAllowed coefficientsAllowed termsAllowed centreAllowed coefficientOf u16At u32At u64At lt ofBits ofInt
-passesThere = refl
+passesThere = rw ordered
 
 abbrev f : State → Moved
 f = step exampleBook exampleSetting exampleH

@@ -3,6 +3,7 @@
 use mathlib.Core.List.{List, [], _∷_}
 use mathlib.Core.Path.{_≡_}
 use Prim.Native.Nat.{ℕ, _+_, _*_, _≤_}
+use lib.Ieee.{neg}
 use Rattle.basis.specs.Floats.{whole}
 use Rattle.state.specs.State.{position, velocity}
 use Rattle.state.specs.declared.State.{State}
@@ -76,8 +77,9 @@ abbrev pub exampleSetting : Setting
 exampleSetting =
     record { earth = whole 8; moon = whole 0; sun = whole 0; venus = whole 0; mars = whole 0; jupiter = whole 0; dut = 0; j = whole 0; a = whole 0; k = whole 0; rule = 0 }
 
+-- with the acceleration that the rule gives it
 abbrev pub exampleState : State
-exampleState = record { moment = 0; centre = 1; x = whole 2; y = whole 0; z = whole 0; vx = whole 0; vy = whole 4; vz = whole 0 }
+exampleState = record { moment = 0; centre = 1; x = whole 2; y = whole 0; z = whole 0; vx = whole 0; vy = whole 4; vz = whole 0; ax = neg (whole 2); ay = neg (whole 0); az = neg (whole 0) }
 
 abbrev pub exampleH : ℕ
 exampleH = 1000

@@ -3,6 +3,7 @@ use Prim.Native.Nat.{ℕ}
 use mathlib.Core.List.{List}
 use lib.Ieee.{Float}
 use Rattle.gravity.specs.declared.AccelerationAnswer.{AccelerationAnswer}
+use Rattle.injection.specs.declared.InjectionAnswer.{InjectionAnswer}
 use Rattle.motion.specs.declared.Outcome.{Outcome}
 use Rattle.motion.specs.declared.RunAnswer.{RunAnswer}
 use Rattle.fixed.specs.declared.FixedAnswer.{FixedAnswer}
@@ -10,7 +11,7 @@ use Rattle.sphere.specs.declared.SphereAnswer.{SphereAnswer}
 use Rattle.conic.specs.declared.ConicAnswer.{ConicAnswer}
 use Rattle.centre.specs.declared.MoveAnswer.{MoveAnswer}
 use Rattle.handed.specs.Handed.{Answer, Accepted, Refused}
-use Rattle.lent.specs.Lent.{vectorIn, coordinatesIn, guessesIn, fixedIn, Both, bothIn, namesIn, figuresIn}
+use Rattle.lent.specs.Lent.{vectorIn, startIn, coordinatesIn, wholeIn, guessesIn, fixedIn, Both, bothIn, namesIn, figuresIn}
 
 abbrev pub ofAcceleration : AccelerationAnswer → Answer (List Float)
 ofAcceleration (AccelerationAnswer.Is a) = Accepted (vectorIn a)
@@ -18,11 +19,16 @@ ofAcceleration (AccelerationAnswer.Refused k) = Refused k
 
 -- a move leaves the moment as it was, and the new centre was given
 abbrev pub ofMove : MoveAnswer → Answer (List Float)
-ofMove (MoveAnswer.Moved s) = Accepted (coordinatesIn s)
+ofMove (MoveAnswer.Moved s) = Accepted (wholeIn s)
 ofMove (MoveAnswer.Refused k) = Refused k
 
+-- so does an injection, and its centre was given
+abbrev pub ofInjection : InjectionAnswer → Answer (List Float)
+ofInjection (InjectionAnswer.Injected s) = Accepted (wholeIn s)
+ofInjection (InjectionAnswer.Refused k) = Refused k
+
 abbrev pub ofSphere : SphereAnswer → Answer (List Float)
-ofSphere (SphereAnswer.Injected s) = Accepted (coordinatesIn s)
+ofSphere (SphereAnswer.Injected i) = Accepted (startIn i)
 ofSphere (SphereAnswer.Refused k) = Refused k
 
 abbrev pub ofFixed : FixedAnswer → Answer (List Float)
@@ -55,7 +61,14 @@ abbrev pub handedBack : ℕ → ℕ → List Float → List ℕ → ℕ → RunM
 handedBack returned moment coordinates guesses steps =
     record { returned = returned; moment = moment; coordinates = coordinates; guesses = guesses; steps = steps }
 
+-- the state as these coordinates
+abbrev pub ofRunIn : List Float → RunAnswer → RunMemory
+ofRunIn coordinates answer =
+    handedBack (outcomeNumber (answer .outcome)) (answer .state .moment) coordinates (guessesIn (answer .guesses)) (answer .steps)
+
+-- an old call has no place for the acceleration
 abbrev pub ofRun : RunAnswer → RunMemory
-ofRun answer =
-    handedBack (outcomeNumber (answer .outcome)) (answer .state .moment) (coordinatesIn (answer .state))
-    (guessesIn (answer .guesses)) (answer .steps)
+ofRun answer = ofRunIn (coordinatesIn (answer .state)) answer
+
+abbrev pub ofFlight : RunAnswer → RunMemory
+ofFlight answer = ofRunIn (wholeIn (answer .state)) answer

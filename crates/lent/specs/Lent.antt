@@ -8,8 +8,11 @@ use lib.Ieee.{Float, nan}
 use Rattle.basis.specs.Choice.{if_then_else_, _<?_}
 use Rattle.basis.specs.Floats.{zero64}
 use Rattle.state.specs.declared.Vector.{Vector}
+use Rattle.state.specs.State.{carrying}
 use Rattle.state.specs.declared.State.{State}
+use Rattle.state.specs.declared.Injection.{Injection}
 use Rattle.state.specs.declared.Setting.{Setting}
+use Rattle.gravity.specs.Acceleration.{nowhere}
 use Rattle.gravity.specs.declared.Guesses.{Guesses}
 use Rattle.fixed.specs.declared.EarthFixed.{EarthFixed}
 use Rattle.sphere.specs.declared.Signed.{Signed}
@@ -61,9 +64,9 @@ sphereOf sizes angles =
 abbrev pub vectorOf : List Float → Vector
 vectorOf v = record { x = getD v 0 nan; y = getD v 1 nan; z = getD v 2 nan }
 
--- read: a state's coordinates are its position and then its velocity, beside its moment and (02, R-6) its centre
-abbrev pub stateOf : ℕ → ℕ → List Float → State
-stateOf moment centre c =
+-- read: the coordinates of an injection are its position and then its velocity, beside its moment and (02, R-6) its centre
+abbrev pub injectionOf : ℕ → ℕ → List Float → Injection
+injectionOf moment centre c =
     record {
       moment = moment;
       centre = centre;
@@ -75,6 +78,15 @@ stateOf moment centre c =
       vz = getD c 5 nan;
     }
 
+-- read: (02, R-8) those of a state have its acceleration behind them
+abbrev pub stateOf : ℕ → ℕ → List Float → State
+stateOf moment centre c =
+    carrying (injectionOf moment centre c) (record { x = getD c 6 nan; y = getD c 7 nan; z = getD c 8 nan })
+
+-- read: a call that does not read the acceleration is lent none, and zero stands for it
+abbrev pub unkeptOf : ℕ → ℕ → List Float → State
+unkeptOf moment centre c = carrying (injectionOf moment centre c) nowhere
+
 -- read: "one guess a body, 2 to 6"
 abbrev pub guessesOf : List ℕ → Guesses
 guessesOf g = record { moon = getD g 0 0; sun = getD g 1 0; venus = getD g 2 0; mars = getD g 3 0; jupiter = getD g 4 0 }
@@ -83,8 +95,15 @@ guessesOf g = record { moon = getD g 0 0; sun = getD g 1 0; venus = getD g 2 0; 
 abbrev pub vectorIn : Vector → List Float
 vectorIn v = v .x ∷ v .y ∷ v .z ∷ []
 
+abbrev pub startIn : Injection → List Float
+startIn i = i .x ∷ i .y ∷ i .z ∷ i .vx ∷ i .vy ∷ i .vz ∷ []
+
+-- written: a state's coordinates for an old call, which has no place for the acceleration, and the whole of them
 abbrev pub coordinatesIn : State → List Float
 coordinatesIn s = s .x ∷ s .y ∷ s .z ∷ s .vx ∷ s .vy ∷ s .vz ∷ []
+
+abbrev pub wholeIn : State → List Float
+wholeIn s = s .x ∷ s .y ∷ s .z ∷ s .vx ∷ s .vy ∷ s .vz ∷ s .ax ∷ s .ay ∷ s .az ∷ []
 
 abbrev pub guessesIn : Guesses → List ℕ
 guessesIn g = g .moon ∷ g .sun ∷ g .venus ∷ g .mars ∷ g .jupiter ∷ []

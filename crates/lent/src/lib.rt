@@ -8,12 +8,13 @@ use motion::Outcome;
 use motion::RunAnswer;
 use sphere::Signed;
 use sphere::Sphere;
+use state::Injection;
 use state::Setting;
 use state::State;
 use state::Vector;
 ghost use mathlib.Core.Path.{_≡_};
-ghost use Rattle.lent.specs.Lent.{settingOf, signedOf, sphereOf, vectorOf, stateOf, guessesOf, kindOf, figuresOf};
-ghost use Rattle.lent.specs.Answers.{outcomeNumber, handedBack, ofRun};
+ghost use Rattle.lent.specs.Lent.{settingOf, signedOf, sphereOf, vectorOf, injectionOf, stateOf, unkeptOf, guessesOf, kindOf, figuresOf};
+ghost use Rattle.lent.specs.Answers.{outcomeNumber, handedBack, ofRun, ofFlight};
 
 const GOING: u64 = 100;
 
@@ -76,7 +77,22 @@ pub fn vector_of(v: [f64; 3]) -> Vector
     }
 }
 
-pub fn state_of(moment: u64, centre: u64, c: [f64; 6]) -> State
+pub fn injection_of(moment: u64, centre: u64, c: [f64; 6]) -> Injection
+    ensures { λ r. ⌜ r ≡ injectionOf moment centre c ⌝ }
+{
+    Injection {
+        moment,
+        centre,
+        x: c[0],
+        y: c[1],
+        z: c[2],
+        vx: c[3],
+        vy: c[4],
+        vz: c[5],
+    }
+}
+
+pub fn state_of(moment: u64, centre: u64, c: [f64; 9]) -> State
     ensures { λ r. ⌜ r ≡ stateOf moment centre c ⌝ }
 {
     State {
@@ -88,6 +104,28 @@ pub fn state_of(moment: u64, centre: u64, c: [f64; 6]) -> State
         vx: c[3],
         vy: c[4],
         vz: c[5],
+        ax: c[6],
+        ay: c[7],
+        az: c[8],
+    }
+}
+
+// For a call that does not read the acceleration.
+pub fn unkept_of(moment: u64, centre: u64, c: [f64; 6]) -> State
+    ensures { λ r. ⌜ r ≡ unkeptOf moment centre c ⌝ }
+{
+    State {
+        moment,
+        centre,
+        x: c[0],
+        y: c[1],
+        z: c[2],
+        vx: c[3],
+        vy: c[4],
+        vz: c[5],
+        ax: 0.0,
+        ay: 0.0,
+        az: 0.0,
     }
 }
 
@@ -145,6 +183,27 @@ pub fn hand_back(
     let state = answer.state;
     *reached = state.moment;
     *there = [state.x, state.y, state.z, state.vx, state.vy, state.vz];
+    let g = answer.guesses;
+    *entries = [g.moon, g.sun, g.venus, g.mars, g.jupiter];
+    *steps = answer.steps;
+    let outcome = answer.outcome;
+    outcome_number(outcome)
+}
+
+// The same with the whole state.
+pub fn hand_back_whole(
+    answer: RunAnswer,
+    reached: &mut u64,
+    there: &mut [f64; 9],
+    entries: &mut [u64; 5],
+    steps: &mut u32,
+) -> u64
+    ensures { λ r. ⌜ handedBack r (now (reached .exit)) (now (there .exit)) (now (entries .exit)) (now (steps .exit))
+        ≡ ofFlight answer ⌝ }
+{
+    let s = answer.state;
+    *reached = s.moment;
+    *there = [s.x, s.y, s.z, s.vx, s.vy, s.vz, s.ax, s.ay, s.az];
     let g = answer.guesses;
     *entries = [g.moon, g.sun, g.venus, g.mars, g.jupiter];
     *steps = answer.steps;

@@ -1,16 +1,17 @@
 // The calls of document 01 about a state and its motion, for C and Rust, over numbers and memory that the caller lends.
-// An old call means an old order: centre 1, J, A and K zero, and rule 0; the calls with the whole of it are `centrelink`'s.
+// An old call means an old order: centre 1, J, A and K zero, rule 0 and the acceleration that the rule gives; the calls with the whole of it are `centrelink`'s.
 // Each returns 0 where it is accepted, else the number of the refusal. A run that is still going returns 100.
 
 use sphere::SphereAnswer;
 ghost use mathlib.Core.Path.{_≡_};
 ghost use Rattle.gravity.specs.Acceleration.{accelerationAnswer};
+ghost use Rattle.injection.specs.Injection.{launched};
 ghost use Rattle.motion.specs.Run.{runAnswer, singleStepAnswer};
 ghost use Rattle.fixed.specs.Fixed.{fixedAnswer};
 ghost use Rattle.sphere.specs.Sphere.{sphereAnswer};
 ghost use Rattle.conic.specs.Conic.{conicAnswer};
 ghost use Rattle.handed.specs.Handed.{handed, answered};
-ghost use Rattle.lent.specs.Lent.{settingOf, noExtras, vectorOf, stateOf, guessesOf, bothIn, sphereOf};
+ghost use Rattle.lent.specs.Lent.{settingOf, noExtras, vectorOf, injectionOf, unkeptOf, guessesOf, bothIn, sphereOf};
 ghost use Rattle.lent.specs.Answers.{ofAcceleration, ofFixed, ofConic, handedBack, ofRun, ofSphere};
 
 #[no_mangle]
@@ -59,27 +60,16 @@ pub extern "C" fn belfry_run(
 ) -> u64
     ensures { λ r. ⌜ handedBack r (now (reached .exit)) (now (there .exit)) (now (entries .exit)) (now (steps .exit)) ≡ ofRun
         (runAnswer (now (book .entry)) (settingOf (now (coefficients .entry)) noExtras dut 0)
-        (stateOf moment 1 (now (coordinates .entry))) h target budget (guessesOf (now (guesses .entry)))) ⌝ }
+        (launched (now (book .entry)) (settingOf (now (coefficients .entry)) noExtras dut 0)
+        (injectionOf moment 1 (now (coordinates .entry)))) h target budget (guessesOf (now (guesses .entry)))) ⌝ }
 {
     let none = [0.0, 0.0, 0.0];
-    lent::calls::fly(
-        book,
-        coefficients,
-        &none,
-        dut,
-        0,
-        moment,
-        1,
-        coordinates,
-        h,
-        target,
-        budget,
-        guesses,
-        reached,
-        there,
-        entries,
-        steps,
-    )
+    let setting = lent::setting_of(*coefficients, none, dut, 0);
+    let injection = lent::injection_of(moment, 1, *coordinates);
+    let state = injection::launch(book, setting, injection);
+    let given = lent::guesses_of(*guesses);
+    let answer = motion::run(book, setting, state, h, target, budget, given);
+    lent::hand_back(answer, reached, there, entries, steps)
 }
 
 #[no_mangle]
@@ -98,11 +88,13 @@ pub extern "C" fn belfry_single_step(
 ) -> u64
     ensures { λ r. ⌜ handedBack r (now (reached .exit)) (now (there .exit)) (now (entries .exit)) (now (steps .exit)) ≡ ofRun
         (singleStepAnswer (now (book .entry)) (settingOf (now (coefficients .entry)) noExtras dut 0)
-        (stateOf moment 1 (now (coordinates .entry))) h (guessesOf (now (guesses .entry)))) ⌝ }
+        (launched (now (book .entry)) (settingOf (now (coefficients .entry)) noExtras dut 0)
+        (injectionOf moment 1 (now (coordinates .entry)))) h (guessesOf (now (guesses .entry)))) ⌝ }
 {
     let none = [0.0, 0.0, 0.0];
     let setting = lent::setting_of(*coefficients, none, dut, 0);
-    let state = lent::state_of(moment, 1, *coordinates);
+    let injection = lent::injection_of(moment, 1, *coordinates);
+    let state = injection::launch(book, setting, injection);
     let given = lent::guesses_of(*guesses);
     let answer = motion::single_step(book, setting, state, h, given);
     lent::hand_back(answer, reached, there, entries, steps)
@@ -116,7 +108,7 @@ pub extern "C" fn belfry_earth_fixed(
     turned: &mut [f64; 6],
 ) -> u64
     ensures { λ r. ⌜ handed r (now (turned .exit)) ≡ answered (now (turned .entry))
-        (ofFixed (fixedAnswer 0 dut (stateOf moment 1 (now (coordinates .entry))))) ⌝ }
+        (ofFixed (fixedAnswer 0 dut (unkeptOf moment 1 (now (coordinates .entry))))) ⌝ }
 {
     lent::calls::turned(0, dut, moment, 1, coordinates, turned)
 }
@@ -151,7 +143,7 @@ pub extern "C" fn belfry_conic(
     figures: &mut [f64; 5],
 ) -> u64
     ensures { λ r. ⌜ handed r (bothIn (now (names .exit)) (now (figures .exit))) ≡ answered (bothIn (now (names .entry)) (now (figures .entry)))
-        (ofConic (conicAnswer m (stateOf moment 1 (now (coordinates .entry))))) ⌝ }
+        (ofConic (conicAnswer m (unkeptOf moment 1 (now (coordinates .entry))))) ⌝ }
 {
     lent::calls::orbit(m, moment, 1, coordinates, names, figures)
 }

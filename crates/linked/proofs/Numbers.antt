@@ -10,8 +10,9 @@ use Rattle.basis.specs.Choice.{if_then_else_, _<?_, _≤?_, _=?_}
 use Rattle.basis.specs.Limits.{isMoment, isDUT, lastDay, circle}
 use Rattle.basis.proofs.Cases.{by-if}
 use Rattle.basis.specs.Floats.{zero64, above0}
-use Rattle.state.specs.State.{finiteState, isBody}
+use Rattle.state.specs.State.{finiteState, finiteInjection, isBody}
 use Rattle.state.specs.declared.State.{State}
+use Rattle.state.specs.declared.Injection.{Injection}
 use Rattle.state.specs.declared.Setting.{Setting}
 use Rattle.state.specs.declared.Vector.{Vector}
 use Rattle.calendar.specs.Gregorian.{ymd, isDate}
@@ -27,6 +28,9 @@ use Rattle.gravity.specs.Acceleration.{accelerationAnswer}
 use Rattle.gravity.proofs.Refused as gravity
 use Rattle.gravity.specs.declared.AccelerationAnswer.{AccelerationAnswer}
 use Rattle.gravity.specs.declared.Guesses.{Guesses}
+use Rattle.injection.specs.Injection.{injectionAnswer as injection-answer}
+use Rattle.injection.specs.declared.InjectionAnswer.{InjectionAnswer}
+use Rattle.injection.proofs.Refused as injection
 use Rattle.motion.specs.Run.{runAnswer, singleStepAnswer}
 use Rattle.motion.specs.declared.Outcome.{Outcome}
 use Rattle.journey.proofs.Refused as journey
@@ -43,7 +47,7 @@ use Rattle.fixed.specs.Fixed.{afterHour, finiteFixed, finiteAnswer, fixedAnswer
 use Rattle.conic.specs.Conic.{unfit, _before_, refusal, orbitAnswer, orbit, figuresAbout, conicAnswer}
 use Rattle.conic.specs.declared.ConicAnswer.{ConicAnswer}
 use Rattle.almanaclink.specs.Answers.{ofDate, ofDay, ofJulian, ofHour, ofRoot, ofSineCosine, ofPosition}
-use Rattle.lent.specs.Answers.{ofAcceleration, ofMove, ofFixed, ofSphere, ofConic}
+use Rattle.lent.specs.Answers.{ofAcceleration, ofInjection, ofMove, ofFixed, ofSphere, ofConic}
 use Rattle.linked.specs.Table.{tabled, told, outcomeTold}
 
 -- 0 for none, or a number of the table
@@ -108,6 +112,14 @@ move-is-told (MoveAnswer.Refused k) by = by
 pub move-told : (b : List ℕ) (setting : Setting) (s : State) (c : ℕ) → told (ofMove (moveAnswer b setting s c)) ≡ true
 move-told b setting s c = move-is-told (moveAnswer b setting s c) (centre.move-refused tabled refl refl refl refl refl refl b setting s c)
 
+injection-is-told : (a : InjectionAnswer) → injection.refusedBy tabled a ≡ true → told (ofInjection a) ≡ true
+injection-is-told (InjectionAnswer.Injected s) by = refl
+injection-is-told (InjectionAnswer.Refused k) by = by
+
+pub injection-told : (b : List ℕ) (setting : Setting) (i : Injection) → told (ofInjection (injection-answer b setting i)) ≡ true
+injection-told b setting i =
+    injection-is-told (injection-answer b setting i) (injection.injection-refused tabled refl refl refl refl refl refl b setting i)
+
 outcome-is-told : (o : Outcome) → journey.outcomeBy tabled o ≡ true → outcomeTold o ≡ true
 outcome-is-told Outcome.Arrived by = refl
 outcome-is-told Outcome.Going by = refl
@@ -117,7 +129,7 @@ pub run-told : (b : List ℕ) (setting : Setting) (s : State) (h target budget :
     → outcomeTold (runAnswer b setting s h target budget given .outcome) ≡ true
 run-told b setting s h target budget given =
     outcome-is-told (runAnswer b setting s h target budget given .outcome)
-    (journey.run-refused tabled refl refl refl refl refl refl refl refl b setting s h target budget given)
+    (journey.run-refused tabled refl refl refl refl refl refl refl refl refl b setting s h target budget given)
 
 pub single-step-told : (b : List ℕ) (setting : Setting) (s : State) (h : ℕ) (given : Guesses)
     → outcomeTold (singleStepAnswer b setting s h given .outcome) ≡ true
@@ -151,7 +163,7 @@ sphere-told : (s : Sphere) (rule moment dut : ℕ) → told (ofSphere (injection
 unfolding injectionAnswer
 sphere-told s rule moment dut =
     let p : SphereAnswer → Bool = λ a. told (ofSphere a) in
-    by-if p (not (anglesAllowed s)) refl (by-if p (not (sizesAllowed s)) refl (by-if p (finiteState (injected s rule moment dut)) refl refl))
+    by-if p (not (anglesAllowed s)) refl (by-if p (not (sizesAllowed s)) refl (by-if p (finiteInjection (injected s rule moment dut)) refl refl))
 
 sphere-after-hour :
     (hour : HourAnswer) (answer : SphereAnswer)

@@ -15,14 +15,15 @@ use Rattle.sine.specs.Sine.{sineCosineAnswer}
 use Rattle.book.specs.Passes.{passes}
 use Rattle.book.specs.Position.{positionAnswer}
 use Rattle.gravity.specs.Acceleration.{accelerationAnswer}
+use Rattle.injection.specs.Injection.{injectionAnswer, launched}
 use Rattle.motion.specs.Run.{runAnswer, singleStepAnswer}
 use Rattle.fixed.specs.Fixed.{fixedAnswer}
 use Rattle.sphere.specs.Sphere.{sphereAnswer}
 use Rattle.conic.specs.Conic.{conicAnswer}
 use Rattle.handed.specs.Handed.{Handed, handed, answered}
 use Rattle.almanaclink.specs.Answers.{ofDate, ofDay, ofJulian, ofHour, ofRoot, ofSineCosine, ofPosition}
-use Rattle.lent.specs.Lent.{settingOf, noExtras, vectorOf, stateOf, guessesOf, Both, bothIn, sphereOf}
-use Rattle.lent.specs.Answers.{ofAcceleration, ofMove, ofFixed, ofConic, RunMemory, handedBack, ofRun, ofSphere}
+use Rattle.lent.specs.Lent.{settingOf, noExtras, vectorOf, injectionOf, stateOf, unkeptOf, guessesOf, Both, bothIn, sphereOf}
+use Rattle.lent.specs.Answers.{ofAcceleration, ofInjection, ofMove, ofFixed, ofConic, RunMemory, handedBack, ofRun, ofFlight, ofSphere}
 use Rattle.almanaclink.proofs.belfry_date as date
 use Rattle.almanaclink.proofs.belfry_day as day
 use Rattle.almanaclink.proofs.belfry_twice_julian_date as twice-julian-date
@@ -36,6 +37,7 @@ use Rattle.link.proofs.belfry_from_sphere as from-sphere
 use Rattle.almanaclink.proofs.belfry_sidereal as sidereal
 use Rattle.centrelink.proofs.belfry_turn as turn
 use Rattle.centrelink.proofs.belfry_pull as pull
+use Rattle.centrelink.proofs.belfry_inject as inject
 use Rattle.centrelink.proofs.belfry_fly as fly
 use Rattle.centrelink.proofs.belfry_move as move
 use Rattle.centrelink.proofs.belfry_orbit as orbit
@@ -132,7 +134,7 @@ tell-earth-fixed κs r after = handed r (now (after .1 .1 .1 .0))
 pub earth-fixed-answers-once : OneOutcome earth-fixed.ended (λ M. earth-fixed.clauses) (λ κs. Handed (List Float)) tell-earth-fixed
 earth-fixed-answers-once =
     one-outcome (λ κs. Handed (List Float)) tell-earth-fixed
-    (λ κs inputs. answered (now (inputs .1 .1 .1 .0)) (ofFixed (fixedAnswer 0 (inputs .1 .1 .0) (stateOf (inputs .0) 1 (now (inputs .1 .0))))))
+    (λ κs inputs. answered (now (inputs .1 .1 .1 .0)) (ofFixed (fixedAnswer 0 (inputs .1 .1 .0) (unkeptOf (inputs .0) 1 (now (inputs .1 .0))))))
     (λ M 𝓤 H A mem run″ κs inputs g r after. refl)
 
 abbrev tell-sidereal : Tell sidereal.ended (λ κs. Handed (ℕ))
@@ -150,7 +152,7 @@ tell-turn κs r after = handed r (now (after .1 .1 .1 .1 .1 .0))
 pub turn-answers-once : OneOutcome turn.ended (λ M. turn.clauses) (λ κs. Handed (List Float)) tell-turn
 turn-answers-once =
     one-outcome (λ κs. Handed (List Float)) tell-turn
-    (λ κs inputs. answered (now (inputs .1 .1 .1 .1 .1 .0)) (ofFixed (fixedAnswer (inputs .0) (inputs .1 .0) (stateOf (inputs .1 .1 .0) (inputs .1 .1 .1 .0) (now (inputs .1 .1 .1 .1 .0))))))
+    (λ κs inputs. answered (now (inputs .1 .1 .1 .1 .1 .0)) (ofFixed (fixedAnswer (inputs .0) (inputs .1 .0) (unkeptOf (inputs .1 .1 .0) (inputs .1 .1 .1 .0) (now (inputs .1 .1 .1 .1 .0))))))
     (λ M 𝓤 H A mem run″ κs inputs g r after. refl)
 
 abbrev tell-pull : Tell pull.ended (λ κs. Handed (List Float))
@@ -162,6 +164,17 @@ pull-answers-once =
     (λ κs inputs.
     answered (now (inputs .1 .1 .1 .1 .1 .1 .1 .1 .0))
     (ofAcceleration (accelerationAnswer (now (inputs .0)) (settingOf (now (inputs .1 .0)) (now (inputs .1 .1 .0)) (inputs .1 .1 .1 .0) (inputs .1 .1 .1 .1 .0)) (inputs .1 .1 .1 .1 .1 .1 .0) (inputs .1 .1 .1 .1 .1 .0) (vectorOf (now (inputs .1 .1 .1 .1 .1 .1 .1 .0))))))
+    (λ M 𝓤 H A mem run″ κs inputs g r after. refl)
+
+abbrev tell-inject : Tell inject.ended (λ κs. Handed (List Float))
+tell-inject κs r after = handed r (now (after .1 .1 .1 .1 .1 .1 .1 .1 .0))
+
+pub inject-answers-once : OneOutcome inject.ended (λ M. inject.clauses) (λ κs. Handed (List Float)) tell-inject
+inject-answers-once =
+    one-outcome (λ κs. Handed (List Float)) tell-inject
+    (λ κs inputs.
+    answered (now (inputs .1 .1 .1 .1 .1 .1 .1 .1 .0))
+    (ofInjection (injectionAnswer (now (inputs .0)) (settingOf (now (inputs .1 .0)) (now (inputs .1 .1 .0)) (inputs .1 .1 .1 .0) (inputs .1 .1 .1 .1 .0)) (injectionOf (inputs .1 .1 .1 .1 .1 .0) (inputs .1 .1 .1 .1 .1 .1 .0) (now (inputs .1 .1 .1 .1 .1 .1 .1 .0))))))
     (λ M 𝓤 H A mem run″ κs inputs g r after. refl)
 
 abbrev tell-move : Tell move.ended (λ κs. Handed (List Float))
@@ -184,7 +197,7 @@ fly-answers-once =
     one-outcome (λ κs. RunMemory) tell-fly
     (λ κs inputs.
     let rest = inputs .1 .1 .1 .1 .1 .1 .1 .1 in
-    ofRun
+    ofFlight
     (runAnswer (now (inputs .0)) (settingOf (now (inputs .1 .0)) (now (inputs .1 .1 .0)) (inputs .1 .1 .1 .0) (inputs .1 .1 .1 .1 .0)) (stateOf (inputs .1 .1 .1 .1 .1 .0) (inputs .1 .1 .1 .1 .1 .1 .0) (now (inputs .1 .1 .1 .1 .1 .1 .1 .0))) (rest .0)
     (rest .1 .0) (rest .1 .1 .0) (guessesOf (now (rest .1 .1 .1 .0)))))
     (λ M 𝓤 H A mem run″ κs inputs g r after. refl)
@@ -196,7 +209,7 @@ pub orbit-answers-once : OneOutcome orbit.ended (λ M. orbit.clauses) (λ κs. H
 orbit-answers-once =
     one-outcome (λ κs. Handed Both) tell-orbit
     (λ κs inputs.
-    answered (bothIn (now (inputs .1 .1 .1 .1 .0)) (now (inputs .1 .1 .1 .1 .1 .0))) (ofConic (conicAnswer (inputs .0) (stateOf (inputs .1 .0) (inputs .1 .1 .0) (now (inputs .1 .1 .1 .0))))))
+    answered (bothIn (now (inputs .1 .1 .1 .1 .0)) (now (inputs .1 .1 .1 .1 .1 .0))) (ofConic (conicAnswer (inputs .0) (unkeptOf (inputs .1 .0) (inputs .1 .1 .0) (now (inputs .1 .1 .1 .0))))))
     (λ M 𝓤 H A mem run″ κs inputs g r after. refl)
 
 abbrev tell-conic : Tell conic.ended (λ κs. Handed Both)
@@ -206,7 +219,7 @@ pub conic-answers-once : OneOutcome conic.ended (λ M. conic.clauses) (λ κs. H
 conic-answers-once =
     one-outcome (λ κs. Handed Both) tell-conic
     (λ κs inputs.
-    answered (bothIn (now (inputs .1 .1 .1 .0)) (now (inputs .1 .1 .1 .1 .0))) (ofConic (conicAnswer (inputs .0) (stateOf (inputs .1 .0) 1 (now (inputs .1 .1 .0))))))
+    answered (bothIn (now (inputs .1 .1 .1 .0)) (now (inputs .1 .1 .1 .1 .0))) (ofConic (conicAnswer (inputs .0) (unkeptOf (inputs .1 .0) 1 (now (inputs .1 .1 .0))))))
     (λ M 𝓤 H A mem run″ κs inputs g r after. refl)
 
 pub book-passes-answers-once : OneAnswer book-passes.ended (λ M. book-passes.clauses)
@@ -223,8 +236,9 @@ run-answers-once =
     one-outcome (λ κs. RunMemory) tell-run
     (λ κs inputs.
     let rest = inputs .1 .1 .1 .1 .1 in
+    let setting = settingOf (now (inputs .1 .0)) noExtras (inputs .1 .1 .0) 0 in
     ofRun
-    (runAnswer (now (inputs .0)) (settingOf (now (inputs .1 .0)) noExtras (inputs .1 .1 .0) 0) (stateOf (inputs .1 .1 .1 .0) 1 (now (inputs .1 .1 .1 .1 .0))) (rest .0)
+    (runAnswer (now (inputs .0)) setting (launched (now (inputs .0)) setting (injectionOf (inputs .1 .1 .1 .0) 1 (now (inputs .1 .1 .1 .1 .0)))) (rest .0)
     (rest .1 .0) (rest .1 .1 .0) (guessesOf (now (rest .1 .1 .1 .0)))))
     (λ M 𝓤 H A mem run″ κs inputs g r after. refl)
 
@@ -237,7 +251,8 @@ single-step-answers-once =
     one-outcome (λ κs. RunMemory) tell-single-step
     (λ κs inputs.
     let rest = inputs .1 .1 .1 .1 .1 in
+    let setting = settingOf (now (inputs .1 .0)) noExtras (inputs .1 .1 .0) 0 in
     ofRun
-    (singleStepAnswer (now (inputs .0)) (settingOf (now (inputs .1 .0)) noExtras (inputs .1 .1 .0) 0) (stateOf (inputs .1 .1 .1 .0) 1 (now (inputs .1 .1 .1 .1 .0))) (rest .0)
+    (singleStepAnswer (now (inputs .0)) setting (launched (now (inputs .0)) setting (injectionOf (inputs .1 .1 .1 .0) 1 (now (inputs .1 .1 .1 .1 .0)))) (rest .0)
     (guessesOf (now (rest .1 .0)))))
     (λ M 𝓤 H A mem run″ κs inputs g r after. refl)

@@ -2,10 +2,11 @@
 use mathlib.Core.List.{List, [], _∷_}
 use Prim.Native.Nat.{ℕ}
 use lib.Ieee.{Float}
+use Rattle.injection.specs.Injection.{launched}
 use Rattle.motion.specs.Run.{runAnswer}
 use Rattle.journey.specs.Journey.{Call}
-use Rattle.lent.specs.Lent.{settingOf, stateOf, guessesOf}
-use Rattle.lent.specs.Answers.{RunMemory, ofRun}
+use Rattle.lent.specs.Lent.{settingOf, noExtras, injectionOf, stateOf, guessesOf}
+use Rattle.lent.specs.Answers.{RunMemory, ofRun, ofFlight}
 
 -- one call, with its guesses as they lie in memory
 pub record LinkedCall : Type 0 where
@@ -19,5 +20,14 @@ asCall call = record { budget = call .budget; guesses = guessesOf (call .guesses
 abbrev pub linkedJourney : List ℕ → List Float → List Float → ℕ → ℕ → ℕ → ℕ → ℕ → ℕ → List Float → List LinkedCall → List RunMemory
 linkedJourney b m extras dut rule centre h target moment coordinates [] = []
 linkedJourney b m extras dut rule centre h target moment coordinates (call ∷ calls) =
-    let left = ofRun (runAnswer b (settingOf m extras dut rule) (stateOf moment centre coordinates) h target (call .budget) (guessesOf (call .guesses))) in
+    let left = ofFlight (runAnswer b (settingOf m extras dut rule) (stateOf moment centre coordinates) h target (call .budget) (guessesOf (call .guesses))) in
     left ∷ linkedJourney b m extras dut rule centre h target (left .moment) (left .coordinates) calls
+
+-- the same through the old call, which has no place for the acceleration: each call means the one that the rule gives
+abbrev pub oldJourney : List ℕ → List Float → ℕ → ℕ → ℕ → ℕ → List Float → List LinkedCall → List RunMemory
+oldJourney b m dut h target moment coordinates [] = []
+oldJourney b m dut h target moment coordinates (call ∷ calls) =
+    let setting = settingOf m noExtras dut 0 in
+    let s = launched b setting (injectionOf moment 1 coordinates) in
+    let left = ofRun (runAnswer b setting s h target (call .budget) (guessesOf (call .guesses))) in
+    left ∷ oldJourney b m dut h target (left .moment) (left .coordinates) calls

@@ -10,11 +10,10 @@ use Rattle.basis.specs.Limits.{endOfTime}
 use Rattle.state.specs.State.{centreAllowed}
 use Rattle.state.specs.declared.State.{State}
 use Rattle.state.specs.declared.Setting.{Setting}
-use Rattle.gravity.specs.Sight.{sights}
-use Rattle.gravity.specs.declared.Sights.{Sights}
+use Rattle.gravity.specs.declared.Guesses.{Guesses}
 use Rattle.motion.specs.Step.{Moved, On, Off, step}
 use Rattle.start.specs.Start.{withinSteps}
-use Rattle.motion.specs.Kept.{kept, bodiesAfter, MayStep, MayWalk}
+use Rattle.motion.specs.Kept.{kept, entriesAfter, MayStep, MayWalk}
 use Rattle.motion.specs.declared.Outcome.{Outcome}
 use Rattle.motion.specs.declared.Outcome.the-variants.{Arrived, Going, Refused}
 use Rattle.motion.specs.declared.Stepped.the-variants as stepped
@@ -27,7 +26,6 @@ use Rattle.listing.specs.Lines.{stateLine, outcomeLine}
 use Rattle.listing.specs.Strip.{stepsTo}
 use Rattle.listing.specs.Course.{courseText, remains, OnCourse, longestLine, Advanced, portionOf, startOf}
 use Rattle.listing.specs.declared.Course.{Course}
-use Rattle.orders.specs.declared.Order.{Order}
 use Rattle.listing.proofs.Lengths.{line-fits}
 
 -- ---- the text at a place of a run
@@ -51,22 +49,22 @@ module _ (f : State → Moved) (did : ℕ) (s : State) where
 -- ---- the loop: at bytes are written, and the rest starts from now
 
 module _ (b : List ℕ) (setting : Setting) (h : ℕ) (from : Course) (before : List ℕ) where
-  pub record Listing (out : List ℕ) (now : State) (sighted : Sights) (left did at : ℕ) : Type 0 where
+  pub record Listing (out : List ℕ) (now : State) (entries : Guesses) (left did at : ℕ) : Type 0 where
     pub text : courseText (step b setting h) (from .left) (from .done) (from .state) ≡ take at out ++ courseText (step b setting h) left did now
-    pub on : OnCourse b setting h (record { state = now; sights = sighted; left = left; done = did })
+    pub on : OnCourse b setting h (record { state = now; entries = entries; left = left; done = did })
     pub within : at ≤ length out
     pub rest : drop at out ≡ drop at before
     pub least : left ≤ from .left
     pub moved : left ≡ from .left → at ≡ 0
 
-  pub begins : OnCourse b setting h from → Listing before (from .state) (from .sights) (from .left) (from .done) 0
+  pub begins : OnCourse b setting h from → Listing before (from .state) (from .entries) (from .left) (from .done) 0
   begins on = record { text = refl; on = on; within = omega arith; rest = refl; least = omega arith; moved = λ e. refl }
 
-  module _ (out : List ℕ) (now : State) (sighted : Sights) (left did at : ℕ) (l : Listing out now sighted left did at) where
+  module _ (out : List ℕ) (now : State) (entries : Guesses) (left did at : ℕ) (l : Listing out now entries left did at) where
     pub stands : MayStep setting now
     stands = (let i = l .on .inside in omega arith, l .on .centred)
 
-    pub ends : (o : Outcome) → courseText (step b setting h) left did now ≡ remains (step b setting h) (record { state = now; sights = sighted; left = left; done = did }) o → (o ≡ Going → length out < at + longestLine) → Advanced b setting h from before out (portionOf o now sighted left did at)
+    pub ends : (o : Outcome) → courseText (step b setting h) left did now ≡ remains (step b setting h) (record { state = now; entries = entries; left = left; done = did }) o → (o ≡ Going → length out < at + longestLine) → Advanced b setting h from before out (portionOf o now entries left did at)
     ends o rest full =
         record {
           text = l .text ∙ ap (λ (r : List ℕ). take at out ++ r) rest;
@@ -83,12 +81,12 @@ module _ (b : List ℕ) (setting : Setting) (h : ℕ) (from : Course) (before : 
             omega arith
 
     module _ (some : left ≡ 0 → ⊥) where
-      pub refuses : (k : ℕ) → stepped.Off k ≡ kept (bodiesAfter b setting h now) (step b setting h now) → Advanced b setting h from before out (portionOf (Refused k) now sighted left did at)
+      pub refuses : (k : ℕ) → stepped.Off k ≡ kept (entriesAfter b setting h now) (step b setting h now) → Advanced b setting h from before out (portionOf (Refused k) now entries left did at)
       refuses k e = ends (Refused k) (text-refused (step b setting h) did now left k some (handedOff _ _ k e)) (λ z. let c : _≡_ {A = ℕ} 0 1 = cc in absurd (omega arith))
 
-      pub goes-on : (next : State) (seen : Sights) (after : List ℕ) (r : ℕ) → stepped.On next seen ≡ kept (bodiesAfter b setting h now) (step b setting h now) → Wrote out at (stateLine next) after r → at + longestLine ≤ length out → length after ≡ length out → Listing after next seen (left - 1) (did + 1) r
+      pub goes-on : (next : State) (seen : Guesses) (after : List ℕ) (r : ℕ) → stepped.On next seen ≡ kept (entriesAfter b setting h now) (step b setting h now) → Wrote out at (stateLine next) after r → at + longestLine ≤ length out → length after ≡ length out → Listing after next seen (left - 1) (did + 1) r
       goes-on next seen after r e w room same =
-          let handed = handedOn (bodiesAfter b setting h now) (step b setting h now) next seen e in
+          let handed = handedOn (entriesAfter b setting h now) (step b setting h now) next seen e in
           let did′ = done b setting h now next (handed .on) in
           let moment = did′ .moment in
           let inside = l .on .inside in
@@ -107,10 +105,6 @@ module _ (b : List ℕ) (setting : Setting) (h : ℕ) (from : Course) (before : 
                 record {
                   pass = l .on .pass;
                   centred = ap (centreAllowed setting) (did′ .centre) ∙ l .on .centred;
-                  seen =
-                      handed .at
-                      ∙ ap (λ (c : ℕ). sights b setting c (now .moment + h)) (sym (did′ .centre))
-                      ∙ ap (sights b setting (next .centre)) (sym moment);
                   inside = omega arith;
                   counts = omega arith;
                 };
@@ -127,10 +121,10 @@ module _ (b : List ℕ) (setting : Setting) (h : ℕ) (from : Course) (before : 
 pub not-before : (t h target : ℕ) → withinSteps t h target ≡ true → t ≤ target
 not-before t h target e = let reach = away t h target e in omega arith
 
--- the run of an order that passed the checks starts on course
-pub starts : (b : List ℕ) (o : Order) → MayWalk b (o .setting) (o .state) (o .h) (o .target) → OnCourse b (o .setting) (o .h) (startOf b o)
-starts b o may =
-    let reach = away (o .state .moment) (o .h) (o .target) (may .reachable) in
+-- a run that passed the checks starts on course
+pub starts : (b : List ℕ) (setting : Setting) (s : State) (h target : ℕ) → MayWalk b setting s h target → OnCourse b setting h (startOf s h target)
+starts b setting s h target may =
+    let reach = away (s .moment) h target (may .reachable) in
     let ends = may .ends in
-    let few : stepsTo (o .state) (o .h) (o .target) ≤ o .target - o .state .moment = div-le-self (o .target - o .state .moment) (o .h) in
-    record { pass = may .pass; centred = may .centred; seen = refl; inside = omega arith; counts = omega arith }
+    let few : stepsTo s h target ≤ target - s .moment = div-le-self (target - s .moment) h in
+    record { pass = may .pass; centred = may .centred; inside = omega arith; counts = omega arith }

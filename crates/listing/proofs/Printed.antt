@@ -1,11 +1,20 @@
 -- The example that document 01 prints, byte for byte. Assumes nothing.
 use Prim.Native.Nat.{ℕ}
 use mathlib.Core.List.{List, [], _∷_}
-use mathlib.Core.Path.{_≡_, refl}
-use lib.Ieee.{ofBits, ofFields, odd, toBits, size, lt}
+use mathlib.Core.Path.{_≡_, refl, _∙_}
+use lib.Ieee.{binary64, neg, add, sub, mul, div, ofBits, ofInt, ofFields, odd, toBits, size, lt, eq}
+use Rattle.basis.specs.Floats.{zero64}
+use Rattle.root.specs.Root.{rootOf}
 use Rattle.book.specs.Bytes.{u16At, u32At, u64At}
 use Rattle.book.specs.Passes.{passes}
-use Rattle.state.specs.State.{settingAllowed, coefficientsAllowed, termsAllowed, centreAllowed, coefficientOf}
+use Rattle.state.specs.State.{carrying, sameVector, n, settingAllowed, coefficientsAllowed, termsAllowed, centreAllowed, coefficientOf}
+use Rattle.state.specs.declared.State.{State}
+use Rattle.state.specs.declared.Injection.{Injection}
+use Rattle.state.specs.declared.Setting.{Setting}
+use Rattle.pull.specs.Pull.{g, sound, r3}
+use Rattle.gravity.specs.Acceleration.{accelerationAt}
+use Rattle.sight.specs.Sky.{sky}
+use Rattle.injection.specs.Injection.{kept, injectionRefusal, injectionAnswer, launched, orderRefusal}
 use Rattle.start.specs.Start.{startRefusal}
 use Rattle.motion.specs.Run.{runTo}
 use Rattle.text.specs.Numerals.{digits, shortest, decimalOf, floatText}
@@ -34,6 +43,35 @@ printed =
     ∷ 48 ∷ 32 ∷ 48 ∷ 48 ∷ 48 ∷ 48 ∷ 48 ∷ 48 ∷ 48 ∷ 48 ∷ 48 ∷ 48 ∷ 48 ∷ 48 ∷ 48 ∷ 48 ∷ 48 ∷ 48 ∷ 10 ∷ 65 ∷ 82 ∷ 82 ∷ 73 ∷ 86
     ∷ 69 ∷ 68 ∷ 32 ∷ 48 ∷ 10 ∷ []
 
+-- what it reads: the order, its book, and the state with the acceleration that the rule gives, (-2, -0, -0)
+abbrev book : List ℕ
+book = 8 ∷ 0 ∷ 0 ∷ 0 ∷ 0 ∷ 0 ∷ 0 ∷ 0 ∷ []
+
+abbrev setting : Setting
+setting =
+    record { earth = ofBits binary64 0x4020_0000_0000_0000; moon = zero64; sun = zero64; venus = zero64; mars = zero64; jupiter = zero64; dut = 0; j = zero64; a = zero64; k = zero64; rule = 0 }
+
+abbrev injection : Injection
+injection = record { moment = 0; centre = 1; x = ofBits binary64 0x4000_0000_0000_0000; y = zero64; z = zero64; vx = zero64; vy = ofBits binary64 0x4010_0000_0000_0000; vz = zero64 }
+
+abbrev state : State
+state = carrying injection (record { x = neg (ofBits binary64 0x4000_0000_0000_0000); y = neg (zero64); z = neg (zero64) })
+
+order-read : stripText Plain given ≡ orderText book (record { setting = setting; injection = injection; h = 1000; target = 0 })
+unfolding stripText readOrder u16At u32At u64At given
+order-read = refl
+
+launched-there : launched book setting injection ≡ state
+unfolding launched injectionAnswer injectionRefusal kept passes settingAllowed coefficientsAllowed termsAllowed centreAllowed coefficientOf u16At u32At u64At accelerationAt sky g sound r3 n rootOf neg add sub mul div lt eq ofBits ofInt
+launched-there = refl
+
+in-order : orderRefusal book setting state ≡ 0
+unfolding orderRefusal sameVector coefficientOf accelerationAt sky g sound r3 n rootOf neg add sub mul div lt eq ofBits ofInt toBits
+in-order = refl
+
+order-printed : orderText book (record { setting = setting; injection = injection; h = 1000; target = 0 }) ≡ printed
+unfolding orderText startRefusal passes settingAllowed coefficientsAllowed termsAllowed centreAllowed coefficientOf runTo statesAfter stateLines headerLine stateLine vectorText arrivedLine decimalOf shortest digits floatText u16At u32At u64At ofBits ofInt ofFields odd toBits size lt printed
+order-printed = rw (launched-there, in-order)
+
 pub example : stripText Plain given ≡ printed
-unfolding stripText readOrder orderText startRefusal passes settingAllowed coefficientsAllowed termsAllowed centreAllowed coefficientOf runTo statesAfter stateLines headerLine stateLine vectorText arrivedLine decimalOf shortest digits floatText u16At u32At u64At ofBits ofFields odd toBits size lt given printed
-example = refl
+example = order-read ∙ order-printed

@@ -17,6 +17,7 @@ use Rattle.state.specs.declared.State.{State}
 use Rattle.book.specs.Passes.{longestBook, passes}
 use Rattle.motion.specs.Step.{Moved, On, Off, step}
 use Rattle.motion.specs.Walk.{walk}
+use Rattle.injection.specs.Injection.{launched}
 use Rattle.start.specs.Start.{startRefusal}
 use Rattle.motion.specs.Run.{Reached, counted, runTo}
 use Rattle.start.proofs.Allowed.{away}
@@ -27,7 +28,7 @@ use Rattle.motion.proofs.Start.{mayWalk}
 use Rattle.listing.specs.Lines.{headerLine, stateLine, outcomeLine, loneRefusal}
 use Rattle.orders.specs.Order.{orderLength, orderOf, readOrder}
 use Rattle.listing.specs.Strip.{andThen, statesAfter, stateLines, runText, stepsTo, orderText, stripText}
-use Rattle.listing.specs.Course.{courseText, startOf}
+use Rattle.listing.specs.Course.{courseText}
 use Rattle.orders.specs.declared.Form.{Form}
 use Rattle.orders.specs.declared.Form.the-variants.{Plain, Whole}
 use Rattle.orders.specs.declared.Order.{Order}
@@ -90,14 +91,18 @@ module _ (f : State → Moved) (h target : ℕ) (some : 1 ≤ h) (clock : (s nex
       ∙ ap (λ (t : List ℕ). stateLine s ++ t) (sym (course-run n 0 s reach ∙ ap (λ (k : ℕ). stateLines (statesAfter f (r .steps) s) ++ outcomeLine (r .outcome) k) (zero-add (r .steps))))
 
 -- what strip prints for an order that passes: the header, the injection, and the text of its course, which the portions write
-pub order-course : (b : List ℕ) (o : Order) → startRefusal b (o .setting) (o .state) (o .h) (o .target) ≡ 0
-    → orderText b o ≡ headerLine (o .h) ++ (stateLine (o .state) ++ courseText (step b (o .setting) (o .h)) (startOf b o .left) (startOf b o .done) (o .state))
+pub order-course : (b : List ℕ) (o : Order) → startRefusal b (o .setting) (launched b (o .setting) (o .injection)) (o .h) (o .target) ≡ 0
+    → orderText b o
+    ≡ headerLine (o .h)
+    ++ (stateLine (launched b (o .setting) (o .injection))
+    ++ courseText (step b (o .setting) (o .h)) (stepsTo (launched b (o .setting) (o .injection)) (o .h) (o .target)) 0 (launched b (o .setting) (o .injection)))
 unfolding orderText
 order-course b o e =
-    let may = mayWalk b (o .setting) (o .state) (o .h) (o .target) e in
+    let s = launched b (o .setting) (o .injection) in
+    let may = mayWalk b (o .setting) s (o .h) (o .target) e in
     let long = may .long in
     rw e (ap (λ (t : List ℕ). headerLine (o .h) ++ t)
-    (run-course (step b (o .setting) (o .h)) (o .h) (o .target) (omega arith) (λ s next d. done b (o .setting) (o .h) s next d .moment) (stepsTo (o .state) (o .h) (o .target)) (o .state) (away (o .state .moment) (o .h) (o .target) (may .reachable))))
+    (run-course (step b (o .setting) (o .h)) (o .h) (o .target) (omega arith) (λ s next d. done b (o .setting) (o .h) s next d .moment) (stepsTo s (o .h) (o .target)) s (away (s .moment) (o .h) (o .target) (may .reachable))))
 
 -- ---- an input longer than an order and the longest book need not be read to its end
 

@@ -9,14 +9,12 @@ use Rattle.state.specs.State.{centreAllowed}
 use Rattle.state.specs.declared.State.{State}
 use Rattle.state.specs.declared.Setting.{Setting}
 use Rattle.book.specs.Passes.{passes}
-use Rattle.gravity.specs.Sight.{sights}
-use Rattle.gravity.specs.declared.Sights.{Sights}
+use Rattle.gravity.specs.declared.Guesses.{Guesses}
 use Rattle.motion.specs.Step.{Moved, On, Off, step}
 use Rattle.motion.specs.declared.Outcome.{Outcome}
 use Rattle.motion.specs.declared.Outcome.the-variants.{Arrived, Going, Refused}
 use Rattle.listing.specs.Lines.{stateLine, outcomeLine}
 use Rattle.listing.specs.Strip.{stepsTo}
-use Rattle.orders.specs.declared.Order.{Order}
 use Rattle.listing.specs.declared.Course.{Course}
 use Rattle.listing.specs.declared.Portion.{Portion}
 
@@ -35,11 +33,10 @@ remains f c Going = courseText f (c .left) (c .done) (c .state)
 remains f c Arrived = outcomeLine Arrived (c .done)
 remains f c (Refused k) = outcomeLine (Refused k) (c .done)
 
--- the bodies of the state are known, and the steps left end before the end of time
+-- the steps left end before the end of time
 pub record OnCourse (b : List ℕ) (setting : Setting) (h : ℕ) (c : Course) : Type 0 where
   pub pass : passes b ≡ true
   pub centred : centreAllowed setting (c .state .centre) ≡ true
-  pub seen : c .sights ≡ sights b setting (c .state .centre) (c .state .moment)
   pub inside : c .state .moment + c .left * h < endOfTime
   pub counts : c .done + c .left < endOfTime
 
@@ -55,16 +52,11 @@ pub record Advanced (b : List ℕ) (setting : Setting) (h : ℕ) (c : Course) (b
   pub onward : OnCourse b setting h (p .course)
   pub nearer : p .outcome ≡ Going → longestLine ≤ length out → p .course .left < c .left
 
-abbrev pub portionOf : Outcome → State → Sights → ℕ → ℕ → ℕ → Portion
-portionOf outcome s sighted left done written =
-    record { outcome = outcome; course = record { state = s; sights = sighted; left = left; done = done }; written = written }
+abbrev pub portionOf : Outcome → State → Guesses → ℕ → ℕ → ℕ → Portion
+portionOf outcome s entries left done written =
+    record { outcome = outcome; course = record { state = s; entries = entries; left = left; done = done }; written = written }
 
--- where the run of an order starts
-abbrev pub startOf : List ℕ → Order → Course
-startOf b o =
-    record {
-      state = o .state;
-      sights = sights b (o .setting) (o .state .centre) (o .state .moment);
-      left = stepsTo (o .state) (o .h) (o .target);
-      done = 0;
-    }
+-- where a run of steps of h starts: nothing is known yet of where the bodies are found
+abbrev pub startOf : State → ℕ → ℕ → Course
+startOf s h target =
+    record { state = s; entries = record { moon = 0; sun = 0; venus = 0; mars = 0; jupiter = 0 }; left = stepsTo s h target; done = 0 }

@@ -5,6 +5,7 @@ use lib.ListN.{drop}
 use Rattle.basis.specs.Choice.{if_then_else_, _=?_}
 use Rattle.state.specs.declared.State.{State}
 use Rattle.motion.specs.Step.{Moved, On, Off, step}
+use Rattle.injection.specs.Injection.{launched}
 use Rattle.start.specs.Start.{startRefusal}
 use Rattle.motion.specs.Run.{Reached, runTo}
 use Rattle.listing.specs.Lines.{headerLine, stateLine, outcomeLine, loneRefusal}
@@ -36,12 +37,14 @@ runText f target budget s =
 abbrev pub stepsTo : State → ℕ → ℕ → ℕ
 stepsTo s h target = (target - s .moment) / h
 
--- "if the order or book is refused, only REFUSED and the number"
+-- "if the order or book is refused, only REFUSED and the number"; document 02, R-8: the order's injection with the acceleration that the rule
+-- gives it, and "an injection without an acceleration is refused at once .. (strip prints the lone `REFUSED`)"
 unfoldable pub orderText : List ℕ → Order → List ℕ
 orderText book o =
-    let k = startRefusal book (o .setting) (o .state) (o .h) (o .target) in
+    let s = launched book (o .setting) (o .injection) in
+    let k = startRefusal book (o .setting) s (o .h) (o .target) in
     if k =? 0
-    then headerLine (o .h) ++ runText (step book (o .setting) (o .h)) (o .target) (stepsTo (o .state) (o .h) (o .target)) (o .state)
+    then headerLine (o .h) ++ runText (step book (o .setting) (o .h)) (o .target) (stepsTo s (o .h) (o .target)) s
     else loneRefusal k
 
 abbrev pub answerText : List ℕ → OrderAnswer → List ℕ

@@ -5,37 +5,34 @@ use crate::Portion;
 use crate::lines::LONGEST_LINE;
 use crate::lines::put_state;
 use gravity::Guesses;
-use gravity::Sights;
-use gravity::known::sights_at;
 use motion::Outcome;
 use motion::Stepped;
 use motion::known::step_under;
-use orders::Order;
 use state::Setting;
 use state::State;
+ghost use mathlib.Core.Bool.{true};
 ghost use mathlib.Core.Path.{_≡_};
-ghost use Rattle.motion.specs.Kept.{MayWalk};
+ghost use Prim.Native.Nat.{_≤_};
+ghost use Rattle.start.specs.Start.{withinSteps};
 ghost use Rattle.listing.specs.Course.{OnCourse, Advanced, startOf, portionOf};
 
-// The place from which the run of an order starts.
-pub fn start(book: &[u8], order: Order) -> Course
-    requires { ⌜ MayWalk (now book) (order .setting) (order .state) (order .h) (order .target) ⌝ }
-    ensures { λ r. ⌜ r ≡ startOf (now (book .entry)) order ⌝ }
+// The place from which a run of steps of h starts.
+pub fn start(state: State, h: u32, target: u64) -> Course
+    requires { ⌜ (2 ≤ h) × (withinSteps (state .moment) h target ≡ true) ⌝ }
+    ensures { λ r. ⌜ r ≡ startOf state h target ⌝ }
 {
-    let g = Guesses {
+    let entries = Guesses {
         moon: 0,
         sun: 0,
         venus: 0,
         mars: 0,
         jupiter: 0,
     };
-    let setting = order.setting;
-    let state = order.state;
     let moment = state.moment;
     Course {
         state,
-        sights: sights_at(book, setting, state.centre, moment, g, false),
-        left: (order.target - moment) / (order.h as u64),
+        entries,
+        left: (target - moment) / (h as u64),
         done: 0,
     }
 }
@@ -43,16 +40,16 @@ pub fn start(book: &[u8], order: Order) -> Course
 fn portion_of(
     outcome: Outcome,
     state: State,
-    sighted: Sights,
+    entries: Guesses,
     left: u64,
     done: u64,
     written: usize,
 ) -> Portion
-    ensures { λ r. ⌜ r ≡ portionOf outcome state sighted left done written ⌝ }
+    ensures { λ r. ⌜ r ≡ portionOf outcome state entries left done written ⌝ }
 {
     let course = Course {
         state,
-        sights: sighted,
+        entries,
         left,
         done,
     };
@@ -70,28 +67,28 @@ pub fn portion(book: &[u8], setting: Setting, h: u32, from: Course, out: &mut [u
 {
     let calm = book::known::book_calm(book);
     let mut now = from.state;
-    let mut sighted = from.sights;
+    let mut entries = from.entries;
     let mut left = from.left;
     let mut done = from.done;
     let mut at: usize = 0;
     while at + LONGEST_LINE <= out.len() {
         if left == 0 {
-            return portion_of(Outcome::Arrived, now, sighted, left, done, at);
+            return portion_of(Outcome::Arrived, now, entries, left, done, at);
         }
         // where each body was found last is where to look for it first
-        let stepped = step_under(book, setting, now, h, sighted.entries, calm, sighted);
+        let stepped = step_under(book, setting, now, h, entries, calm);
         match stepped {
             Stepped::On(next, seen) => {
                 at = put_state(out, at, next);
                 now = next;
-                sighted = seen;
+                entries = seen;
                 left -= 1;
                 done += 1;
             }
             Stepped::Off(k) => {
-                return portion_of(Outcome::Refused(k), now, sighted, left, done, at);
+                return portion_of(Outcome::Refused(k), now, entries, left, done, at);
             }
         }
     }
-    portion_of(Outcome::Going, now, sighted, left, done, at)
+    portion_of(Outcome::Going, now, entries, left, done, at)
 }

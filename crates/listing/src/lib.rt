@@ -3,14 +3,14 @@
 pub mod known;
 pub mod lines;
 
-use gravity::Sights;
+use gravity::Guesses;
 use motion::Outcome;
 use state::State;
 
-// A place of a run: the state with the bodies at its moment, the steps left to the target and the steps done.
+// A place of a run: the state, the entries in which to look for the bodies first, the steps left to the target and the steps done.
 pub struct Course {
     pub state: State,
-    pub sights: Sights,
+    pub entries: Guesses,
     pub left: u64,
     pub done: u64,
 }

@@ -11,12 +11,11 @@ use Rattle.state.specs.State.{used, centreAllowed}
 use Rattle.state.specs.declared.State.{State}
 use Rattle.state.specs.declared.Setting.{Setting}
 use Rattle.gravity.specs.Sight.{sights, foundIn, refusalIn}
-use Rattle.gravity.specs.declared.Sights.{Sights}
 use Rattle.gravity.specs.declared.Guesses.{Guesses}
 use Rattle.gravity.proofs.Under.{allClear, seenEntry}
 use Rattle.motion.specs.Step.{Moved, On, Off, step}
 use Rattle.motion.specs.Run.{Reached, ended, runTo, guessesAt, guessesAfter, handedBack, withGuesses}
-use Rattle.motion.specs.Kept.{kept, bodiesAfter, guessesFrom, countedBy, MayStep, MayWalk, Walking}
+use Rattle.motion.specs.Kept.{kept, entriesAfter, guessesFrom, countedBy, MayStep, MayWalk, Walking}
 use Rattle.motion.specs.declared.RunAnswer.{RunAnswer}
 use Rattle.motion.specs.declared.Outcome.{Outcome}
 use Rattle.motion.specs.declared.Outcome.the-variants.{Arrived, Going, Refused}
@@ -35,7 +34,7 @@ oneLess t h (suc left) target short e = (left, let m = suc-mul left h in omega a
 -- ---- the guesses after a step
 
 pub guessesSeen : (b : List ℕ) (s : Setting) (c t : ℕ) (given : Guesses) → sights b s c t .refusal ≡ 0
-    → guessesFrom s (sights b s c t) given ≡ guessesAt b s t given
+    → guessesFrom s (sights b s c t .entries) given ≡ guessesAt b s t given
 unfolding sights foundIn refusalIn guessesAt
 guessesSeen b s c t given clear =
     let all = allClear _ clear in
@@ -50,33 +49,31 @@ guessesSeen b s c t given clear =
 
 -- ---- what a step handed back
 
-pub record HandedOn (bodies : Sights) (m : Moved) (next : State) (seen : Sights) : Type 0 where
+pub record HandedOn (entries : Guesses) (m : Moved) (next : State) (seen : Guesses) : Type 0 where
   pub on : m ≡ On next
-  pub at : seen ≡ bodies
+  pub at : seen ≡ entries
 
-pub handedOn : (bodies : Sights) (m : Moved) (next : State) (seen : Sights) → stepped.On next seen ≡ kept bodies m → HandedOn bodies m next seen
-handedOn bodies (On s) next seen e = record { on = cc; at = cc }
-handedOn bodies (Off k) next seen e = let z : _≡_ {A = ℕ} 0 1 = cc in absurd (omega arith)
+pub handedOn : (entries : Guesses) (m : Moved) (next : State) (seen : Guesses) → stepped.On next seen ≡ kept entries m → HandedOn entries m next seen
+handedOn entries (On s) next seen e = record { on = cc; at = cc }
+handedOn entries (Off k) next seen e = let z : _≡_ {A = ℕ} 0 1 = cc in absurd (omega arith)
 
-pub handedOff : (bodies : Sights) (m : Moved) (k : ℕ) → stepped.Off k ≡ kept bodies m → m ≡ Off k
-handedOff bodies (On s) k e = let z : _≡_ {A = ℕ} 0 1 = cc in absurd (omega arith)
-handedOff bodies (Off j) k e = cc
+pub handedOff : (entries : Guesses) (m : Moved) (k : ℕ) → stepped.Off k ≡ kept entries m → m ≡ Off k
+handedOff entries (On s) k e = let z : _≡_ {A = ℕ} 0 1 = cc in absurd (omega arith)
+handedOff entries (Off j) k e = cc
 
 module _ (b : List ℕ) (setting : Setting) (start : State) (h target budget : ℕ) (given : Guesses) where
-  pub walkStarts : MayWalk b setting start h target → (bodies : Sights) → bodies ≡ sights b setting (start .centre) (start .moment)
-      → Walking b setting start h target budget given start bodies given 0
-  walkStarts may bodies e =
+  pub walkStarts : MayWalk b setting start h target → Walking b setting start h target budget given start given 0
+  walkStarts may =
       record {
         within = omega arith;
         rest = countNone _ ∙ ap (λ (k : ℕ). countedBy 0 (runTo (step b setting h) target k start)) (omega arith);
         centred = may .centred;
-        seen = e;
         guess = refl;
         left = (target - start .moment) / h;
         reach = away (start .moment) h target (may .reachable);
       }
 
-  module _ (now : State) (bodies : Sights) (guesses : Guesses) (n : ℕ) (w : Walking b setting start h target budget given now bodies guesses n) where
+  module _ (now : State) (guesses : Guesses) (n : ℕ) (w : Walking b setting start h target budget given now guesses n) where
     pub walkIn : target < endOfTime → MayStep setting now
     walkIn e = (let r = w .reach in omega arith, w .centred)
 
@@ -87,11 +84,11 @@ module _ (b : List ℕ) (setting : Setting) (start : State) (h target budget : �
         (ap (withGuesses b setting given) (w .rest ∙ ap (countedBy n) e ∙ countEnded n (ended o now) refl)
         ∙ ap (handedBack o n now) (sym (w .guess)))
 
-    pub walkGoesOn : (next : State) (seen : Sights) → n < budget → (now .moment ≡ target → ⊥)
-        → stepped.On next seen ≡ kept (bodiesAfter b setting h now) (step b setting h now)
-        → Walking b setting start h target budget given next seen (guessesFrom setting seen given) (n + 1)
+    pub walkGoesOn : (next : State) (seen : Guesses) → n < budget → (now .moment ≡ target → ⊥)
+        → stepped.On next seen ≡ kept (entriesAfter b setting h now) (step b setting h now)
+        → Walking b setting start h target budget given next (guessesFrom setting seen given) (n + 1)
     walkGoesOn next seen room short e =
-        let handed = handedOn (bodiesAfter b setting h now) (step b setting h now) next seen e in
+        let handed = handedOn (entriesAfter b setting h now) (step b setting h now) next seen e in
         let did = done b setting h now next (handed .on) in
         let k = oneLess (now .moment) h (w .left) target short (w .reach) in
         record {
@@ -102,12 +99,8 @@ module _ (b : List ℕ) (setting : Setting) (start : State) (h target budget : �
               ∙ ap (countedBy n) (runOn (step b setting h) target now short (budget - (n + 1)) next (handed .on))
               ∙ countOne n (runTo (step b setting h) target (budget - (n + 1)) next);
           centred = ap (centreAllowed setting) (did .centre) ∙ w .centred;
-          seen =
-              handed .at
-              ∙ ap (λ (c : ℕ). sights b setting c (now .moment + h)) (sym (did .centre))
-              ∙ ap (sights b setting (next .centre)) (sym (did .moment));
           guess =
-              ap (λ (s : Sights). guessesFrom setting s given) (handed .at)
+              ap (λ (entries : Guesses). guessesFrom setting entries given) (handed .at)
               ∙ guessesSeen b setting (now .centre) (now .moment + h) given (did .clear (w .centred))
               ∙ ap (λ (t : ℕ). guessesAt b setting t given) (sym (did .moment))
               ∙ sym (rw (ne-eqb (n + 1) 0 (λ z. absurd (omega arith))));

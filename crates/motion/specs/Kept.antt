@@ -1,4 +1,4 @@
--- What the code hands from one step to the next beside the state: the bodies at the new moment, which are the next step's first.
+-- What the code hands from one step to the next beside the state: the entries in which the bodies were found at the new moment.
 use mathlib.Core.Bool.{Bool, true, false}
 use mathlib.Core.List.{List}
 use mathlib.Core.Path.{_≡_}
@@ -7,24 +7,30 @@ use Rattle.basis.specs.Choice.{if_then_else_}
 use Rattle.basis.specs.Limits.{endOfTime}
 use Rattle.book.specs.Passes.{passes}
 use lib.Ieee.{Float}
-use Rattle.state.specs.State.{used, centreAllowed, lookedUp}
+use Rattle.state.specs.State.{used, startingPosition, centreAllowed, lookedUp}
 use Rattle.state.specs.declared.Setting.{Setting}
 use Rattle.state.specs.declared.State.{State}
-use Rattle.gravity.specs.Sight.{sights}
+use Rattle.state.specs.declared.Injection.{Injection}
+use Rattle.gravity.specs.Sight.{sights, accelerationBy}
 use Rattle.gravity.specs.declared.Sights.{Sights}
 use Rattle.gravity.specs.declared.Guesses.{Guesses}
-use Rattle.motion.specs.Step.{Moved, On, Off, step}
+use Rattle.injection.specs.Injection.{keptBy}
+use Rattle.motion.specs.Step.{Moved, On, Off, movedBy, step}
 use Rattle.start.specs.Start.{withinSteps}
 use Rattle.motion.specs.Run.{Reached, runTo, guessesAfter}
 use Rattle.motion.specs.declared.Stepped.{Stepped}
 use Rattle.motion.specs.declared.Stepped.the-variants as stepped
 
-abbrev pub kept : Sights → Moved → Stepped
-kept bodies (On s) = stepped.On s bodies
-kept bodies (Off k) = stepped.Off k
+abbrev pub kept : Guesses → Moved → Stepped
+kept entries (On s) = stepped.On s entries
+kept entries (Off k) = stepped.Off k
 
-abbrev pub bodiesAfter : List ℕ → Setting → ℕ → State → Sights
-bodiesAfter b setting h s = sights b setting (s .centre) (s .moment + h)
+abbrev pub entriesAfter : List ℕ → Setting → ℕ → State → Guesses
+entriesAfter b setting h s = sights b setting (s .centre) (s .moment + h) .entries
+
+-- the acceleration of the new state, under the bodies that are known at its moment
+abbrev pub keepingUnder : Sights → Setting → Injection → Moved
+keepingUnder bodies setting i = movedBy (keptBy i (accelerationBy bodies setting (startingPosition i)))
 
 -- what a step may lean on
 abbrev pub MayStep : Setting → State → Type 0
@@ -33,14 +39,14 @@ MayStep setting s = (s .moment < endOfTime) × (centreAllowed setting (s .centre
 abbrev pub guessFrom : Float → Bool → ℕ → ℕ → ℕ
 guessFrom m lit entry given = if lookedUp m lit then entry else given
 
-abbrev pub guessesFrom : Setting → Sights → Guesses → Guesses
-guessesFrom setting s given =
+abbrev pub guessesFrom : Setting → Guesses → Guesses → Guesses
+guessesFrom setting entries given =
     record {
-      moon = guessFrom (setting .moon) false (s .entries .moon) (given .moon);
-      sun = guessFrom (setting .sun) (used (setting .k)) (s .entries .sun) (given .sun);
-      venus = guessFrom (setting .venus) false (s .entries .venus) (given .venus);
-      mars = guessFrom (setting .mars) false (s .entries .mars) (given .mars);
-      jupiter = guessFrom (setting .jupiter) false (s .entries .jupiter) (given .jupiter);
+      moon = guessFrom (setting .moon) false (entries .moon) (given .moon);
+      sun = guessFrom (setting .sun) (used (setting .k)) (entries .sun) (given .sun);
+      venus = guessFrom (setting .venus) false (entries .venus) (given .venus);
+      mars = guessFrom (setting .mars) false (entries .mars) (given .mars);
+      jupiter = guessFrom (setting .jupiter) false (entries .jupiter) (given .jupiter);
     }
 
 -- a run's outcome after n steps more
@@ -56,11 +62,10 @@ pub record MayWalk (b : List ℕ) (setting : Setting) (s : State) (h target : �
   pub ends : target < endOfTime
 
 -- where the loop stands after n steps: the rest of the run starts from now
-pub record Walking (b : List ℕ) (setting : Setting) (start : State) (h target budget : ℕ) (given : Guesses) (now : State) (bodies : Sights) (guesses : Guesses) (n : ℕ) : Type 0 where
+pub record Walking (b : List ℕ) (setting : Setting) (start : State) (h target budget : ℕ) (given : Guesses) (now : State) (guesses : Guesses) (n : ℕ) : Type 0 where
   pub within : n ≤ budget
   pub rest : runTo (step b setting h) target budget start ≡ countedBy n (runTo (step b setting h) target (budget - n) now)
   pub centred : centreAllowed setting (now .centre) ≡ true
-  pub seen : bodies ≡ sights b setting (now .centre) (now .moment)
   pub guess : guesses ≡ guessesAfter b setting n (now .moment) given
   pub left : ℕ
   pub reach : now .moment + left * h ≡ target

@@ -6,7 +6,6 @@ mod walking;
 
 use basis::END_OF_TIME;
 use gravity::Guesses;
-use gravity::Sights;
 use state::Setting;
 use state::State;
 ghost use mathlib.Core.Path.{_≡_};
@@ -25,9 +24,9 @@ pub struct RunAnswer {
     pub guesses: Guesses,
 }
 
-// A step done, with the bodies at its end, or the number by which it is refused.
+// A step done, with the entries in which the bodies were found at its end, or the number by which it is refused.
 pub enum Stepped {
-    On(State, Sights),
+    On(State, Guesses),
     Off(u64),
 }
 

@@ -5,8 +5,6 @@ use crate::RunAnswer;
 use crate::Stepped;
 use crate::known::step_under;
 use gravity::Guesses;
-use gravity::Sights;
-use gravity::known::sights_at;
 use state::Setting;
 use state::State;
 ghost use mathlib.Core.Path.{_≡_};
@@ -23,10 +21,9 @@ fn guess_from(m: f64, lit: bool, entry: u64, given: u64) -> u64
     given
 }
 
-fn guesses_from(setting: Setting, bodies: Sights, given: Guesses) -> Guesses
-    ensures { λ r. ⌜ r ≡ guessesFrom setting bodies given ⌝ }
+fn guesses_from(setting: Setting, entries: Guesses, given: Guesses) -> Guesses
+    ensures { λ r. ⌜ r ≡ guessesFrom setting entries given ⌝ }
 {
-    let entries = bodies.entries;
     let shines = state::sun_shines(setting);
     Guesses {
         moon: guess_from(setting.moon, false, entries.moon, given.moon),
@@ -48,7 +45,7 @@ fn handed_back(outcome: Outcome, steps: u32, state: State, guesses: Guesses) -> 
     }
 }
 
-// The bodies at the end of a step are those at the beginning of the next.
+// Where each body was found at the end of a step is where to look for it first in the next.
 pub fn walk_on(
     book: &[u8],
     setting: Setting,
@@ -62,7 +59,6 @@ pub fn walk_on(
     ensures { λ r. ⌜ r ≡ withGuesses (now (book .entry)) setting given (runTo (step (now (book .entry)) setting h) target budget start) ⌝ }
 {
     let calm = book::known::book_calm(book);
-    let mut bodies = sights_at(book, setting, start.centre, start.moment, given, calm);
     let mut now = start;
     let mut guesses = given;
     let mut n: u32 = 0;
@@ -70,12 +66,11 @@ pub fn walk_on(
         if now.moment == target {
             return handed_back(Outcome::Arrived, n, now, guesses);
         }
-        let stepped = step_under(book, setting, now, h, guesses, calm, bodies);
+        let stepped = step_under(book, setting, now, h, guesses, calm);
         match stepped {
-            Stepped::On(next, seen) => {
+            Stepped::On(next, entries) => {
                 now = next;
-                bodies = seen;
-                guesses = guesses_from(setting, seen, given);
+                guesses = guesses_from(setting, entries, given);
                 n += 1;
             }
             Stepped::Off(k) => {

@@ -6,7 +6,7 @@ use mathlib.Core.List.{List}
 use lib.ListN.{length}
 use Rattle.basis.specs.Choice.{if_then_else_, _<?_}
 use Rattle.basis.specs.Floats.{zero64}
-use Rattle.state.specs.declared.State.{State}
+use Rattle.state.specs.declared.Injection.{Injection}
 use Rattle.state.specs.declared.Setting.{Setting}
 use Rattle.book.specs.Bytes.{u32At, u64At, floatAt}
 use Rattle.orders.specs.declared.Form.{Form}
@@ -42,8 +42,9 @@ settingOf b terms =
       rule = 0;
     }
 
-abbrev pub stateOf : List ℕ → State
-stateOf b =
+-- R-8: an order gives no acceleration
+abbrev pub injectionOf : List ℕ → Injection
+injectionOf b =
     record {
       moment = u64At b 48;
       centre = 1;
@@ -57,7 +58,7 @@ stateOf b =
 
 abbrev pub orderOf : Form → List ℕ → Order
 orderOf form b =
-    record { setting = settingOf b (termsOf form b); state = stateOf b; h = u32At b 104; target = u64At b 112 }
+    record { setting = settingOf b (termsOf form b); injection = injectionOf b; h = u32At b 104; target = u64At b 112 }
 
 -- "Input below 120 bytes .. is 1", and below 144 where that is the order's length
 unfoldable pub readOrder : Form → List ℕ → OrderAnswer

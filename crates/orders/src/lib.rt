@@ -5,12 +5,12 @@ mod bytes;
 use book::bytes::u32_at;
 use book::bytes::u64_at;
 use bytes::float_at;
+use state::Injection;
 use state::Setting;
-use state::State;
 ghost use mathlib.Core.Path.{_≡_};
 ghost use Prim.Native.Nat.{_≤_};
 ghost use lib.ListN.{length};
-ghost use Rattle.orders.specs.Order.{orderLength, termsOf, settingOf, stateOf, orderOf, readOrder};
+ghost use Rattle.orders.specs.Order.{orderLength, termsOf, settingOf, injectionOf, orderOf, readOrder};
 
 // Which order an input begins with: `Plain` has 120 bytes, `Whole` 144.
 pub enum Form {
@@ -27,7 +27,7 @@ pub struct Terms {
 
 pub struct Order {
     pub setting: Setting,
-    pub state: State,
+    pub injection: Injection,
     pub h: u32,
     pub target: u64,
 }
@@ -87,11 +87,11 @@ fn setting_of(order: &[u8], terms: Terms) -> Setting
     }
 }
 
-fn state_of(order: &[u8]) -> State
+fn injection_of(order: &[u8]) -> Injection
     requires { ⌜ 120 ≤ length (now order) ⌝ }
-    ensures { λ r. ⌜ r ≡ stateOf (now (order .entry)) ⌝ }
+    ensures { λ r. ⌜ r ≡ injectionOf (now (order .entry)) ⌝ }
 {
-    State {
+    Injection {
         moment: u64_at(order, 48),
         centre: 1,
         x: float_at(order, 56),
@@ -110,7 +110,7 @@ fn order_of(form: Form, order: &[u8]) -> Order
     let terms = terms_of(form, order);
     Order {
         setting: setting_of(order, terms),
-        state: state_of(order),
+        injection: injection_of(order),
         h: u32_at(order, 104),
         target: u64_at(order, 112),
     }

@@ -4,7 +4,7 @@ use mathlib.Core.Path.{_≡_, refl}
 use Prim.Native.Nat.{ℕ}
 use native.Mathlib.Omega.{arith}
 use Rattle.basis.specs.Choice.{if_then_else_}
-use Rattle.state.specs.State.{finiteState}
+use Rattle.state.specs.State.{finiteInjection}
 use Rattle.sphere.specs.declared.Sphere.{Sphere}
 use Rattle.sphere.specs.declared.SphereAnswer.the-variants.{Injected, Refused}
 use Rattle.sphere.specs.Sphere.{anglesAllowed, sizesAllowed, injected, injectionAnswer}
@@ -30,7 +30,7 @@ module _ (s : Sphere) (rule moment dut : ℕ) (angles sizes : Bool) (a : angles 
           → Refused (checks angles sizes)
           ≡ (if not angles then Refused 12 else
           if not sizes then Refused 7 else
-          if finiteState (injected s rule moment dut) then Injected (injected s rule moment dut) else Refused 7)
+          if finiteInjection (injected s rule moment dut) then Injected (injected s rule moment dut) else Refused 7)
       go true true some = absurd (some refl)
       go true false some = refl
       go false sizes some = refl
@@ -39,10 +39,10 @@ module _ (s : Sphere) (rule moment dut : ℕ) (angles sizes : Bool) (a : angles 
     pass : checks angles sizes ≡ 0
     pass = rw (← e) none
 
-    pub accepted : (x : _) → x ≡ injected s rule moment dut → finiteState x ≡ true → Injected x ≡ injectionAnswer s rule moment dut
+    pub accepted : (x : _) → x ≡ injected s rule moment dut → finiteInjection x ≡ true → Injected x ≡ injectionAnswer s rule moment dut
     unfolding injectionAnswer
     accepted x i f = rw (← a, ← z, angles-pass angles sizes pass, sizes-pass angles sizes pass, ← i, f)
 
-    pub not-finite : (x : _) → x ≡ injected s rule moment dut → finiteState x ≡ false → Refused 7 ≡ injectionAnswer s rule moment dut
+    pub not-finite : (x : _) → x ≡ injected s rule moment dut → finiteInjection x ≡ false → Refused 7 ≡ injectionAnswer s rule moment dut
     unfolding injectionAnswer
     not-finite x i f = rw (← a, ← z, angles-pass angles sizes pass, sizes-pass angles sizes pass, ← i, f)

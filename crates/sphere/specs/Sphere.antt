@@ -8,9 +8,9 @@ use lib.Ieee.Scale.{finite}
 use Rattle.basis.specs.Choice.{if_then_else_, _<?_, _≤?_, _=?_}
 use Rattle.basis.specs.Limits.{circle}
 use Rattle.basis.specs.Floats.{_⊕_, _⊖_, _⊗_, whole, above0}
-use Rattle.state.specs.declared.State.{State}
+use Rattle.state.specs.declared.Injection.{Injection}
 use Rattle.state.specs.declared.Vector.{Vector}
-use Rattle.state.specs.State.{finiteState}
+use Rattle.state.specs.State.{injectionAt, finiteInjection}
 use Rattle.hour.specs.Hour.{siderealAnswer}
 use Rattle.hour.specs.declared.HourAnswer.{HourAnswer}
 use Rattle.sine.specs.declared.SineCosine.{SineCosine}
@@ -82,15 +82,15 @@ transposed table =
     ∷ (element table 0 2 ∷ element table 1 2 ∷ element table 2 2 ∷ [])
     ∷ []
 
--- a state about the Earth
-abbrev pub stateOf : ℕ → Vector → Vector → State
-stateOf moment p v = record { moment = moment; centre = 1; x = p .x; y = p .y; z = p .z; vx = v .x; vy = v .y; vz = v .z }
+-- an injection about the Earth: document 02, R-8, its acceleration is not worked out here
+abbrev pub aboutEarth : ℕ → Vector → Vector → Injection
+aboutEarth moment p v = injectionAt moment 1 p v
 
 -- from Earth-fixed position and velocity, by the turn of the moment
-unfoldable pub returned : ℕ → Rotation → Vector → Vector → State
+unfoldable pub returned : ℕ → Rotation → Vector → Vector → Injection
 returned moment by p v =
     let back = transposed (by .table) in
-    stateOf moment (times back p) (times back (carried (by .w) p v))
+    aboutEarth moment (times back p) (times back (carried (by .w) p v))
 
 -- Earth-fixed position and velocity of the injection
 unfoldable pub placeOf : Sphere → Vector
@@ -102,7 +102,7 @@ velocityOf s =
     (horizontal (s .speed) (sineCosine (partsOf (s .path))) (sineCosine (s .azimuth)))
 
 -- "Hour angle and rate are the forward turn's"
-unfoldable pub injected : Sphere → ℕ → ℕ → ℕ → State
+unfoldable pub injected : Sphere → ℕ → ℕ → ℕ → Injection
 injected s rule moment dut = returned moment (rotation rule moment dut) (placeOf s) (velocityOf s)
 
 -- "radius or speed not finite, radius not above 0"
@@ -114,7 +114,7 @@ unfoldable pub injectionAnswer : Sphere → ℕ → ℕ → ℕ → SphereAnswer
 injectionAnswer s rule moment dut =
     if not (anglesAllowed s) then Refused 12 else
     if not (sizesAllowed s) then Refused 7 else
-    if finiteState (injected s rule moment dut) then Injected (injected s rule moment dut) else Refused 7
+    if finiteInjection (injected s rule moment dut) then Injected (injected s rule moment dut) else Refused 7
 
 -- an answer that comes after the hour angle's refusals, 4 (DUT, rule) and 3
 abbrev pub afterHour : HourAnswer → SphereAnswer → SphereAnswer

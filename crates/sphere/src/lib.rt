@@ -1,11 +1,11 @@
-// An injection as launch crews speak it, taken to a state in 1950.0 axes (02, R-4).
+// An injection as launch crews speak it, taken to 1950.0 axes (02, R-4).
 
 mod turns;
 
 use basis::CIRCLE;
 use basis::unless;
 use hour::HourAnswer;
-use state::State;
+use state::Injection;
 use state::Vector;
 use turns::horizontal_velocity;
 use turns::place_on;
@@ -38,7 +38,7 @@ pub struct Sphere {
 }
 
 pub enum SphereAnswer {
-    Injected(State),
+    Injected(Injection),
     Refused(u64),
 }
 
@@ -104,7 +104,7 @@ fn fixed_velocity(s: Sphere) -> Vector
     relative_velocity(f, t, horizontal_velocity(s.speed, g, z))
 }
 
-fn injected_state(s: Sphere, rule: u64, moment: u64, dut: u32, parts: u64) -> State
+fn injected_state(s: Sphere, rule: u64, moment: u64, dut: u32, parts: u64) -> Injection
     requires { ⌜ (siderealAnswer rule moment dut ≡ Parts parts) × (anglesAllowed s ≡ true) ⌝ }
     ensures { λ r. ⌜ r ≡ injected s rule moment dut ⌝ }
 {
@@ -124,7 +124,7 @@ fn injection(s: Sphere, rule: u64, moment: u64, dut: u32, parts: u64) -> SphereA
     let refusal = unless(angles, 12, unless(sizes, 7, 0));
     if refusal == 0 {
         let state = injected_state(s, rule, moment, dut, parts);
-        if state::state_is_finite(state) {
+        if state::injection_is_finite(state) {
             return SphereAnswer::Injected(state);
         }
         return SphereAnswer::Refused(7);

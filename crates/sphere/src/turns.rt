@@ -2,7 +2,7 @@
 
 use rotation::known::table_times;
 use sine::SineCosine;
-use state::State;
+use state::Injection;
 use state::Vector;
 ghost use mathlib.Core.Path.{_≡_};
 ghost use Rattle.sphere.specs.Sphere.{placeOn, horizontal, tilt, swing, relative, carried, transposed, returned};
@@ -75,13 +75,13 @@ fn turned_over(table: [[f64; 3]; 3]) -> [[f64; 3]; 3]
     ]
 }
 
-pub fn returned_state(moment: u64, table: [[f64; 3]; 3], w: f64, p: Vector, v: Vector) -> State
+pub fn returned_state(moment: u64, table: [[f64; 3]; 3], w: f64, p: Vector, v: Vector) -> Injection
     ensures { λ r. ⌜ r ≡ returned moment (record { table = table; w = w }) p v ⌝ }
 {
     let back = turned_over(table);
     let place = table_times(back, p);
     let velocity = table_times(back, carried_velocity(w, p, v));
-    State {
+    Injection {
         moment,
         centre: 1,
         x: place.x,

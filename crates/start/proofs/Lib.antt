@@ -1,3 +1,4 @@
 pub mod Allowed
 pub mod Passed
 pub mod Order
+pub mod Parted

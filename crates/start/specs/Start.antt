@@ -1,4 +1,4 @@
--- Document 01, "The step and the run" and "Refusal numbers", and document 02, R-6: what a run call is checked for before its first step.
+-- Document 01, "The step and the run" and "Refusal numbers", and document 02, R-6 and R-8: what a run call is checked for before its first step.
 use mathlib.Core.Bool.{Bool, not, _&&_}
 use mathlib.Core.List.{List}
 use Prim.Native.Nat.{ℕ, _-_, _%_}
@@ -8,6 +8,7 @@ use Rattle.state.specs.State.{finiteState, settingAllowed, centreAllowed}
 use Rattle.state.specs.declared.State.{State}
 use Rattle.state.specs.declared.Setting.{Setting}
 use Rattle.book.specs.Passes.{passes}
+use Rattle.injection.specs.Injection.{orderRefusal}
 
 -- "Step h is an even number of ms, 2 to 86,400,000"
 abbrev pub stepAllowed : ℕ → Bool
@@ -17,7 +18,12 @@ stepAllowed h = (2 ≤? h) && (h ≤? 86_400_000) && (h % 2 =? 0)
 abbrev pub withinSteps : ℕ → ℕ → ℕ → Bool
 withinSteps t h target = (t ≤? target) && ((target - t) % h =? 0)
 
--- "Run call order: 1, 4, 3 (state, then target), 7 (state), 2, 5", and R-6: 14 "directly after 4"; 0 where the steps may begin
+-- a check that gives its own number, before later ones
+abbrev pub orLater : ℕ → ℕ → ℕ
+orLater k later = if k =? 0 then later else k
+
+-- "Run call order: 1, 4, 3 (state, then target), 7 (state), 2, 5"; R-6: 14 "directly after 4"; and R-8: "after 7 for position and velocity,
+-- the rule's own 6 or 7, then .. 15"; 0 where the steps may begin
 unfoldable pub startRefusal : List ℕ → Setting → State → ℕ → ℕ → ℕ
 startRefusal b setting s h target =
     if not (passes b) then 1 else
@@ -26,5 +32,5 @@ startRefusal b setting s h target =
     if not (isMoment (s .moment)) then 3 else
     if not (isMoment target) then 3 else
     if not (finiteState s) then 7 else
-    if not (stepAllowed h) then 2 else
-    if not (withinSteps (s .moment) h target) then 5 else 0
+    orLater (orderRefusal b setting s)
+    (if not (stepAllowed h) then 2 else if not (withinSteps (s .moment) h target) then 5 else 0)

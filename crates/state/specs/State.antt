@@ -1,6 +1,6 @@
--- Document 01, "Setting, state, acceleration", and document 02, R-6, R-7 and R-9: what a state and a setting hold, and which are allowed.
+-- Document 01, "Setting, state, acceleration", and document 02, R-6, R-7, R-8 and R-9: what a state and a setting hold, and which are allowed.
 use mathlib.Core.Bool.{Bool, not, _&&_, _||_}
-use lib.Ieee.{Float}
+use lib.Ieee.{Float, binary64, toBits}
 use lib.Ieee.Scale.{finite}
 use Prim.Native.Nat.{ℕ}
 use Rattle.basis.specs.Choice.{if_then_else_, _=?_, _≤?_}
@@ -9,6 +9,7 @@ use Rattle.basis.specs.Limits.{isDUT}
 use Rattle.hour.specs.Hour.{isRule}
 use Rattle.state.specs.declared.Vector.{Vector}
 use Rattle.state.specs.declared.State.{State}
+use Rattle.state.specs.declared.Injection.{Injection}
 use Rattle.state.specs.declared.Setting.{Setting}
 
 abbrev pub position : State → Vector
@@ -16,6 +17,48 @@ position s = record { x = s .x; y = s .y; z = s .z }
 
 abbrev pub velocity : State → Vector
 velocity s = record { x = s .vx; y = s .vy; z = s .vz }
+
+-- document 02, R-8: the acceleration that is stored with it
+abbrev pub acceleration : State → Vector
+acceleration s = record { x = s .ax; y = s .ay; z = s .az }
+
+-- R-8: what an injection is given as, before its acceleration is worked out
+abbrev pub injectionAt : ℕ → ℕ → Vector → Vector → Injection
+injectionAt t centre p v = record { moment = t; centre = centre; x = p .x; y = p .y; z = p .z; vx = v .x; vy = v .y; vz = v .z }
+
+abbrev pub startingPosition : Injection → Vector
+startingPosition i = record { x = i .x; y = i .y; z = i .z }
+
+abbrev pub startingVelocity : Injection → Vector
+startingVelocity i = record { x = i .vx; y = i .vy; z = i .vz }
+
+-- with an acceleration it is a state
+abbrev pub carrying : Injection → Vector → State
+carrying i a =
+    record {
+      moment = i .moment;
+      centre = i .centre;
+      x = i .x;
+      y = i .y;
+      z = i .z;
+      vx = i .vx;
+      vy = i .vy;
+      vz = i .vz;
+      ax = a .x;
+      ay = a .y;
+      az = a .z;
+    }
+
+-- a state without its acceleration
+abbrev pub bare : State → Injection
+bare s = injectionAt (s .moment) (s .centre) (position s) (velocity s)
+
+-- "by its bits": +0.0 is not -0.0, and what is not finite is nobody's
+abbrev pub sameBits : Float → Float → Bool
+sameBits x y = finite x && finite y && (toBits binary64 x =? toBits binary64 y)
+
+unfoldable pub sameVector : Vector → Vector → Bool
+sameVector u v = sameBits (u .x) (v .x) && sameBits (u .y) (v .y) && sameBits (u .z) (v .z)
 
 -- "For a vector v: n = (x·x + y·y) + z·z"
 unfoldable pub n : Vector → Float
@@ -26,6 +69,9 @@ finiteVector v = finite (v .x) && finite (v .y) && finite (v .z)
 
 abbrev pub finiteState : State → Bool
 finiteState s = finiteVector (position s) && finiteVector (velocity s)
+
+abbrev pub finiteInjection : Injection → Bool
+finiteInjection i = finiteVector (startingPosition i) && finiteVector (startingVelocity i)
 
 -- "A body is used when its coefficient is above 0"
 abbrev pub used : Float → Bool

@@ -1,7 +1,7 @@
 // A spacecraft's state, the setting it moves under, and the tests that both have to pass.
 
 ghost use mathlib.Core.Path.{_≡_};
-ghost use Rattle.state.specs.State.{position, velocity, n, finiteVector, finiteState, coefficientAllowed, earthAllowed, coefficientsAllowed, termsAllowed, settingAllowed, isBody, coefficientOf, centreAllowed, used, lookedUp};
+ghost use Rattle.state.specs.State.{position, velocity, acceleration, startingPosition, carrying, sameBits, sameVector, n, finiteVector, finiteState, finiteInjection, coefficientAllowed, earthAllowed, coefficientsAllowed, termsAllowed, settingAllowed, isBody, coefficientOf, centreAllowed, used, lookedUp};
 
 pub struct Vector {
     pub x: f64,
@@ -9,8 +9,24 @@ pub struct Vector {
     pub z: f64,
 }
 
-// A moment, with the position in km and the velocity in km/s, both from a centre: (02, R-6) the number of a body.
+// A moment, with the position in km and the velocity in km/s, both from a centre: (02, R-6) the number of a body; and (02, R-8) the
+// acceleration in km/s² about it.
 pub struct State {
+    pub moment: u64,
+    pub centre: u64,
+    pub x: f64,
+    pub y: f64,
+    pub z: f64,
+    pub vx: f64,
+    pub vy: f64,
+    pub vz: f64,
+    pub ax: f64,
+    pub ay: f64,
+    pub az: f64,
+}
+
+// (02, R-8) A state that has no acceleration yet.
+pub struct Injection {
     pub moment: u64,
     pub centre: u64,
     pub x: f64,
@@ -57,6 +73,68 @@ pub fn velocity_of(s: State) -> Vector
     }
 }
 
+pub fn acceleration_of(s: State) -> Vector
+    ensures { λ r. ⌜ r ≡ acceleration s ⌝ }
+{
+    Vector {
+        x: s.ax,
+        y: s.ay,
+        z: s.az,
+    }
+}
+
+pub fn starting_position(i: Injection) -> Vector
+    ensures { λ r. ⌜ r ≡ startingPosition i ⌝ }
+{
+    Vector {
+        x: i.x,
+        y: i.y,
+        z: i.z,
+    }
+}
+
+// An injection made into a state by its acceleration.
+pub fn carrying(i: Injection, a: Vector) -> State
+    ensures { λ r. ⌜ r ≡ carrying i a ⌝ }
+{
+    State {
+        moment: i.moment,
+        centre: i.centre,
+        x: i.x,
+        y: i.y,
+        z: i.z,
+        vx: i.vx,
+        vy: i.vy,
+        vz: i.vz,
+        ax: a.x,
+        ay: a.y,
+        az: a.z,
+    }
+}
+
+fn bits_agree(x: f64, y: f64) -> bool
+    ensures { λ r. ⌜ r ≡ sameBits x y ⌝ }
+{
+    if basis::is_finite(x) {
+        if basis::is_finite(y) {
+            return f64::to_bits(x) == f64::to_bits(y);
+        }
+    }
+    false
+}
+
+// Whether two vectors are finite and have the same bits.
+pub fn vectors_agree(u: Vector, v: Vector) -> bool
+    ensures { λ r. ⌜ r ≡ sameVector u v ⌝ }
+{
+    if bits_agree(u.x, v.x) {
+        if bits_agree(u.y, v.y) {
+            return bits_agree(u.z, v.z);
+        }
+    }
+    false
+}
+
 // The square of a vector's length.
 pub fn square(v: Vector) -> f64
     ensures { λ r. ⌜ r ≡ n v ⌝ }
@@ -80,6 +158,20 @@ pub fn state_is_finite(s: State) -> bool
 {
     if vector_is_finite(position_of(s)) {
         return vector_is_finite(velocity_of(s));
+    }
+    false
+}
+
+pub fn injection_is_finite(i: Injection) -> bool
+    ensures { λ r. ⌜ r ≡ finiteInjection i ⌝ }
+{
+    let v = Vector {
+        x: i.vx,
+        y: i.vy,
+        z: i.vz,
+    };
+    if vector_is_finite(starting_position(i)) {
+        return vector_is_finite(v);
     }
     false
 }

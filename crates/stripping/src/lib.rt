@@ -21,6 +21,7 @@ use orders::Form;
 use orders::Order;
 use orders::OrderAnswer;
 use state::Setting;
+use state::State;
 use telling::tell_unread;
 use telling::tell_unwritten;
 use telling::tell_use;
@@ -75,26 +76,24 @@ fn print_course(form: Form, book: &[u8], setting: Setting, h: u32, from: Course,
     }
 }
 
-fn print_listing(form: Form, book: &[u8], order: Order)
-    requires { ⌜ startRefusal (now book) (order .setting) (order .state) (order .h) (order .target) ≡ 0 ⌝ }
+fn print_listing(form: Form, book: &[u8], setting: Setting, from: State, h: u32, target: u64)
+    requires { ⌜ startRefusal (now book) setting from h target ≡ 0 ⌝ }
 {
     let mut buffer = io::large_buffer();
     let out: &mut [u8] = &mut buffer;
-    let header = put_header(out, 0, order.h);
-    let injection = order.state;
-    let n = put_state(out, header, injection);
+    let header = put_header(out, 0, h);
+    let n = put_state(out, header, from);
     if print(form, &out[..n]) {
-        let setting = order.setting;
-        print_course(form, book, setting, order.h, start(book, order), out);
+        print_course(form, book, setting, h, start(from, h, target), out);
     }
 }
 
 fn print_order(form: Form, book: &[u8], order: Order) {
     let setting = order.setting;
-    let injection = order.state;
-    let refusal = start::start_refusal(book, setting, injection, order.h, order.target);
+    let from = injection::launch(book, setting, order.injection);
+    let refusal = start::start_refusal(book, setting, from, order.h, order.target);
     if refusal == 0 {
-        print_listing(form, book, order);
+        print_listing(form, book, setting, from, order.h, order.target);
     } else {
         print_lone_refusal(form, refusal);
     }

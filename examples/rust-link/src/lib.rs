@@ -47,14 +47,18 @@ extern "C" {
         book: *const u8, length: usize, coefficients: &[f64; 6], extras: &[f64; 3], dut: u32, rule: u64,
         moment: u64, centre: u64, position: &[f64; 3], acceleration: &mut [f64; 3],
     ) -> u64;
+    fn belfry_inject(
+        book: *const u8, length: usize, coefficients: &[f64; 6], extras: &[f64; 3], dut: u32, rule: u64,
+        moment: u64, centre: u64, coordinates: &[f64; 6], state: &mut [f64; 9],
+    ) -> u64;
     fn belfry_move(
         book: *const u8, length: usize, coefficients: &[f64; 6], extras: &[f64; 3], dut: u32, rule: u64,
-        moment: u64, centre: u64, coordinates: &[f64; 6], target_centre: u64, moved: &mut [f64; 6],
+        moment: u64, centre: u64, coordinates: &[f64; 9], target_centre: u64, moved: &mut [f64; 9],
     ) -> u64;
     fn belfry_fly(
         book: *const u8, length: usize, coefficients: &[f64; 6], extras: &[f64; 3], dut: u32, rule: u64,
-        moment: u64, centre: u64, coordinates: &[f64; 6], h: u32, target: u64, budget: u32,
-        guesses: &[u64; 5], reached: &mut u64, there: &mut [f64; 6], entries: &mut [u64; 5], steps: &mut u32,
+        moment: u64, centre: u64, coordinates: &[f64; 9], h: u32, target: u64, budget: u32,
+        guesses: &[u64; 5], reached: &mut u64, there: &mut [f64; 9], entries: &mut [u64; 5], steps: &mut u32,
     ) -> u64;
     fn belfry_turn(
         rule: u64, dut: u32, moment: u64, centre: u64, coordinates: &[f64; 6],
@@ -101,12 +105,31 @@ pub struct Setting {
     pub rule: u64,
 }
 
-/// A moment and a centre, with x, y, z from it in km and then their rates in km/s.
+/// A moment and a centre, with x, y, z from it in km and then their rates in km/s, and the acceleration
+/// there in km/s², which `inject`, `fly` and `moved` keep equal to the rule's. `fly` alone looks at it.
 #[derive(Clone, Copy, Debug)]
 pub struct State {
     pub moment: u64,
     pub centre: u64,
     pub coordinates: [f64; 6],
+    pub acceleration: [f64; 3],
+}
+
+impl State {
+    /// A state whose acceleration is not known, which `fly` refuses by 15: `inject` makes a whole one of it.
+    pub fn bare(moment: u64, centre: u64, coordinates: [f64; 6]) -> State {
+        State { moment, centre, coordinates, acceleration: [f64::NAN; 3] }
+    }
+
+    /// From coordinates with the acceleration behind them.
+    fn whole(moment: u64, centre: u64, [x, y, z, vx, vy, vz, ax, ay, az]: [f64; 9]) -> State {
+        State { moment, centre, coordinates: [x, y, z, vx, vy, vz], acceleration: [ax, ay, az] }
+    }
+
+    fn nine(&self) -> [f64; 9] {
+        let ([x, y, z, vx, vy, vz], [ax, ay, az]) = (self.coordinates, self.acceleration);
+        [x, y, z, vx, vy, vz, ax, ay, az]
+    }
 }
 
 #[derive(Clone, Copy, Debug, PartialEq, Eq)]
@@ -228,22 +251,27 @@ pub fn acceleration(
     answer(number, acceleration)
 }
 
-fn ran(
-    centre: u64, call: impl FnOnce(&mut u64, &mut [f64; 6], &mut [u64; 5], &mut u32) -> u64,
+/// What a call that walks writes, over N coordinates, and the state that they make.
+fn ran<const N: usize>(
+    state: impl FnOnce(u64, [f64; N]) -> State,
+    call: impl FnOnce(&mut u64, &mut [f64; N], &mut [u64; 5], &mut u32) -> u64,
 ) -> Ran {
-    let (mut moment, mut coordinates, mut guesses, mut steps) = (0, [0.0; 6], [0; 5], 0);
+    let (mut moment, mut coordinates, mut guesses, mut steps) = (0, [0.0; N], [0; 5], 0);
     let number = call(&mut moment, &mut coordinates, &mut guesses, &mut steps);
-    let state = State { moment, centre, coordinates };
-    Ran { outcome: outcome(number), steps, state, guesses }
+    Ran { outcome: outcome(number), steps, state: state(moment, coordinates), guesses }
 }
 
-/// Steps of h milliseconds to the target, at most `budget`. The next call goes on from the state and
-/// the guesses that it hands back, whatever the outcome.
+fn about_the_earth(moment: u64, coordinates: [f64; 6]) -> State {
+    State::bare(moment, EARTH, coordinates)
+}
+
+/// Steps of h milliseconds to the target, at most `budget`, with the acceleration that the rule gives at the
+/// start. The next call goes on from the state and the guesses that it hands back, whatever the outcome.
 pub fn run(
     book: &[u8], setting: &Setting, state: &State, h: u32, target: u64, budget: u32,
     guesses: &[u64; 5],
 ) -> Ran {
-    ran(EARTH, |reached, there, entries, steps| unsafe {
+    ran(about_the_earth, |reached, there, entries, steps| unsafe {
         belfry_run(
             book.as_ptr(), book.len(), &setting.coefficients, setting.dut, state.moment,
             &state.coordinates, h, target, budget, guesses, reached, there, entries, steps,
@@ -254,7 +282,7 @@ pub fn run(
 pub fn single_step(
     book: &[u8], setting: &Setting, state: &State, h: u32, guesses: &[u64; 5],
 ) -> Ran {
-    ran(EARTH, |reached, there, entries, steps| unsafe {
+    ran(about_the_earth, |reached, there, entries, steps| unsafe {
         belfry_single_step(
             book.as_ptr(), book.len(), &setting.coefficients, setting.dut, state.moment,
             &state.coordinates, h, guesses, reached, there, entries, steps,
@@ -273,13 +301,13 @@ pub struct Sphere {
     pub azimuth: i64,
 }
 
-/// Its state in 1950.0 axes.
+/// Its state in 1950.0 axes, without an acceleration.
 pub fn from_sphere(sphere: &Sphere, rule: u64, moment: u64, dut: u32) -> Result<State, u64> {
     let mut coordinates = [0.0; 6];
     let sizes = [sphere.radius, sphere.speed];
     let angles = [sphere.latitude, sphere.longitude, sphere.path, sphere.azimuth];
     let number = unsafe { belfry_from_sphere(rule, moment, dut, &sizes, &angles, &mut coordinates) };
-    answer(number, State { moment, centre: EARTH, coordinates })
+    answer(number, about_the_earth(moment, coordinates))
 }
 
 /// The state's coordinates in axes that turn with the Earth.
@@ -317,36 +345,52 @@ pub fn pull(
     answer(number, acceleration)
 }
 
-/// The state about another centre.
+/// The state with the acceleration that the rule gives it, whatever was stored.
+pub fn inject(book: &[u8], setting: &Setting, state: &State) -> Result<State, u64> {
+    let Setting { coefficients, extras, dut, rule } = setting;
+    let State { moment, centre, coordinates, .. } = state;
+    let mut whole = [0.0; 9];
+    let number = unsafe {
+        belfry_inject(
+            book.as_ptr(), book.len(), coefficients, extras, *dut, *rule, *moment, *centre, coordinates,
+            &mut whole,
+        )
+    };
+    answer(number, State::whole(*moment, *centre, whole))
+}
+
+/// The state about another centre, its acceleration worked out anew.
 pub fn moved(book: &[u8], setting: &Setting, state: &State, centre: u64) -> Result<State, u64> {
     let Setting { coefficients, extras, dut, rule } = setting;
-    let mut coordinates = [0.0; 6];
+    let mut whole = [0.0; 9];
     let number = unsafe {
         belfry_move(
             book.as_ptr(), book.len(), coefficients, extras, *dut, *rule, state.moment, state.centre,
-            &state.coordinates, centre, &mut coordinates,
+            &state.nine(), centre, &mut whole,
         )
     };
-    answer(number, State { moment: state.moment, centre, coordinates })
+    answer(number, State::whole(state.moment, centre, whole))
 }
 
-/// `run` about the state's centre.
+/// `run` about the state's centre, with the acceleration that is stored with it: one that is not the rule's,
+/// to the bit, is refused by 15.
 pub fn fly(
     book: &[u8], setting: &Setting, state: &State, h: u32, target: u64, budget: u32,
     guesses: &[u64; 5],
 ) -> Ran {
     let Setting { coefficients, extras, dut, rule } = setting;
-    ran(state.centre, |reached, there, entries, steps| unsafe {
+    let whole = |moment, coordinates| State::whole(moment, state.centre, coordinates);
+    ran(whole, |reached, there, entries, steps| unsafe {
         belfry_fly(
             book.as_ptr(), book.len(), coefficients, extras, *dut, *rule, state.moment, state.centre,
-            &state.coordinates, h, target, budget, guesses, reached, there, entries, steps,
+            &state.nine(), h, target, budget, guesses, reached, there, entries, steps,
         )
     })
 }
 
 /// `earth_fixed` by a rule of the hour angle; the state's centre has to be the Earth.
 pub fn turn(rule: u64, dut: u32, state: &State) -> Result<[f64; 6], u64> {
-    let State { moment, centre, coordinates } = state;
+    let State { moment, centre, coordinates, .. } = state;
     let mut turned = [0.0; 6];
     let number = unsafe { belfry_turn(rule, dut, *moment, *centre, coordinates, &mut turned) };
     answer(number, turned)
@@ -354,7 +398,7 @@ pub fn turn(rule: u64, dut: u32, state: &State) -> Result<[f64; 6], u64> {
 
 /// `conic` about the state's centre, whose coefficient is m.
 pub fn orbit(m: f64, state: &State) -> Result<(u64, Conic), u64> {
-    let State { moment, centre, coordinates } = state;
+    let State { moment, centre, coordinates, .. } = state;
     let (mut names, mut figures) = ([0; 2], [0.0; 5]);
     let number =
         unsafe { belfry_orbit(m, *moment, *centre, coordinates, &mut names, &mut figures) };

@@ -96,7 +96,7 @@ fn accelerations() -> Result<(), u64> {
 }
 
 fn at(vx: f64, vy: f64) -> State {
-    State { moment: 0, centre: EARTH, coordinates: [2.0, 0.0, 0.0, vx, vy, 0.0] }
+    State::bare(0, EARTH, [2.0, 0.0, 0.0, vx, vy, 0.0])
 }
 
 fn runs() {
@@ -156,7 +156,7 @@ fn states() -> Result<(), u64> {
         println!("conic:{}", told(conic(8.0, &at(vx, vy)), conic_told));
     }
     println!("Earth-fixed below 0h UT:{}", told(earth_fixed(&at(2.0, 0.0), 1), |t| bits(&t)));
-    let up = State { moment: 0, centre: EARTH, coordinates: [0.0, 0.0, 3.0, 0.0, 0.0, 0.0] };
+    let up = State::bare(0, EARTH, [0.0, 0.0, 3.0, 0.0, 0.0, 0.0]);
     println!("Earth-fixed, 3 km up the axis:{}", bits(&earth_fixed(&up, 0)?[2..3]));
     println!("the same by the 1982 rule:{}", bits(&turn(1, 0, &up)?[2..3]));
     Ok(())
@@ -185,12 +185,15 @@ const OBLATE: [f64; 3] = [0.001623450, 6378.1650, 0.0];
 fn to_the_moon(book: &[u8]) -> Result<(), u64> {
     let coefficients = [398_600.63, 4902.6293, 132_714_110_000.0, 0.0, 0.0, 0.0];
     let setting = Setting { coefficients, extras: OBLATE, dut: 35_000, rule: 0 };
-    let injection = State {
-        moment: 411_331_356_297,
-        centre: EARTH,
-        coordinates: [5936.9501, 2718.6042, -728.83219, -4.2284408, 8.5267773, -5.4530145],
-    };
-    let reached = injection.moment + 58 * HOUR;
+    let coordinates = [5936.9501, 2718.6042, -728.83219, -4.2284408, 8.5267773, -5.4530145];
+    let bare = State::bare(411_331_356_297, EARTH, coordinates);
+    let reached = bare.moment + 58 * HOUR;
+    let ran = fly(book, &setting, &bare, MINUTE as u32, reached, u32::MAX, &[0; 5]);
+    if let Outcome::Refused(number) = ran.outcome {
+        println!("without its acceleration: refused {number}, steps {}", ran.steps);
+    }
+    let injection = inject(book, &setting, &bare)?;
+    println!("injected, with the acceleration:{}", bits(&injection.acceleration));
     let ran = fly(book, &setting, &injection, MINUTE as u32, reached, u32::MAX, &[0; 5]);
     told_from("toward the Moon", ran.steps, &ran.state)?;
     let moon = moved(book, &setting, &ran.state, MOON)?;
@@ -201,7 +204,8 @@ fn to_the_moon(book: &[u8]) -> Result<(), u64> {
     told_from("four hours on", ran.steps, &ran.state)?;
     println!("there:{}", bits(&ran.state.coordinates));
     let [x, y, z, ..] = ran.state.coordinates;
-    println!("its acceleration:{}", bits(&pull(book, &setting, ran.state.moment, MOON, &[x, y, z])?));
+    println!("its acceleration, as stored:{}", bits(&ran.state.acceleration));
+    println!("its acceleration, by the rule:{}", bits(&pull(book, &setting, ran.state.moment, MOON, &[x, y, z])?));
     println!("its orbit:{}", conic_told(orbit(coefficients[1], &ran.state)?));
     Ok(())
 }

@@ -41,7 +41,7 @@ fn words(text: &str) -> Vec<String> {
 
 fn read_wish(mut args: impl Iterator<Item = String>) -> Result<Wish, String> {
     let all = KINDS.iter().map(|(k, _)| *k).collect();
-    let mut w = Wish { seed: 1, calls: 34_000, strips: 1000, limit: 300, kinds: all, ..Wish::default() };
+    let mut w = Wish { seed: 1, calls: 40_000, strips: 1000, limit: 300, kinds: all, ..Wish::default() };
     while let Some(name) = args.next() {
         if name == "--cases" {
             w.cases = true;

@@ -1,4 +1,4 @@
-//! Flies JPL's check case 1 to the Moon by the lines `fly` and `move`, and shows it from the Moon at the moments that JPL prints.
+//! Flies JPL's check case 1 to the Moon by the lines `inject`, `fly` and `move`, and shows it from the Moon at the moments that JPL prints.
 //! With --ask the program given is asked each line, made from its own answers, and every answer is compared with the reference's.
 //! With --spoil N the Nth expected answer is spoiled.
 //!
@@ -13,7 +13,7 @@ use std::time::Duration;
 use reference::ask;
 use reference::fields::decimal;
 use reference::fixed::{precession, turned};
-use reference::motion::State;
+use reference::rule::State;
 use reference::strip::{read_either, Order};
 use reference::trial::child::talk;
 use reference::trial::compare::short;

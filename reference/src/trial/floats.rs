@@ -66,3 +66,9 @@ pub fn largest(c: &mut Chance) -> [f64; 6] {
     }
     s
 }
+
+/// Three floats of any sort, now and then one that is not finite: what may be stored where it is not read.
+pub fn anything(c: &mut Chance) -> [f64; 3] {
+    let [x, y, z, ..] = wild(c);
+    if c.one_in(4) { [x, c.not_finite(), z] } else { [x, y, z] }
+}

@@ -6,7 +6,8 @@ use super::cover::crossing;
 use super::extras::some_extras;
 use super::trip::{guesses, trip, Trip};
 use super::world::{Case, World};
-use crate::motion::{Outcome, EARTH};
+use crate::motion::Outcome;
+use crate::rule::EARTH;
 use crate::moves::moved;
 
 /// The most portions of one leg.
@@ -22,7 +23,7 @@ fn leg(c: &mut Chance, w: &World, t: &mut Trip, lines: &mut Vec<String>) -> bool
             t.guesses = guesses(c, w, t.state.moment, style);
         }
         lines.push(t.fly_line());
-        let ran = t.run(w.bytes());
+        let ran = t.fly(w.bytes());
         (t.state, t.guesses) = (ran.state, ran.guesses);
         if ran.outcome != Outcome::Going {
             return ran.outcome == Outcome::Arrived;
@@ -36,6 +37,7 @@ fn legs(c: &mut Chance, w: &World, mut t: Trip) -> Vec<String> {
     let mut lines = Vec::new();
     t.state.centre = used_centre(c, &t.setting);
     t.setting.extras = some_extras(c);
+    t = t.kept(w.bytes());
     for _ in 0..c.between(2, 4) {
         t.aim(c.between(0, 8));
         if !leg(c, w, &mut t, &mut lines) {

@@ -19,8 +19,13 @@ impl Trip {
         format!("{} {}", hexes(&self.state.position), hexes(&self.state.velocity))
     }
 
-    fn state_fields(&self) -> String {
+    /// A state without its acceleration.
+    fn bare_fields(&self) -> String {
         format!("{} {} {}", self.state.moment, self.state.centre, self.six())
+    }
+
+    fn state_fields(&self) -> String {
+        format!("{} {}", self.bare_fields(), hexes(&self.state.acceleration))
     }
 
     /// h, target, budget and guesses.
@@ -44,6 +49,10 @@ impl Trip {
     pub fn pull_line(&self) -> String {
         let (moment, centre) = (self.state.moment, self.state.centre);
         format!("pull {} {moment} {centre} {}", self.setting_fields(), hexes(&self.state.position))
+    }
+
+    pub fn inject_line(&self) -> String {
+        format!("inject {} {}", self.setting_fields(), self.bare_fields())
     }
 
     pub fn move_line(&self, new: u64) -> String {

@@ -30,6 +30,7 @@ pub mod runs;
 pub mod sizes;
 pub mod spheres;
 pub mod states;
+pub mod stored;
 pub mod strips;
 pub mod tables;
 pub mod terms;

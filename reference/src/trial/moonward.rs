@@ -4,18 +4,20 @@
 use super::floats::hexes;
 use crate::extras::Extras;
 use crate::fields;
-use crate::motion::State;
+use crate::rule::State;
 use crate::strip::Order;
 
-/// A part of the flight: steps of h milliseconds, or a move to a centre.
+/// A part of the flight: the injection, steps of h milliseconds, or a move to a centre.
 #[derive(Clone, Copy, Debug)]
 pub enum Part {
+    Inject,
     Fly { h: u32, steps: u64 },
     Move(u64),
 }
 
 /// JPL changes the centre 58 h 46 min 13.046 s after the injection, and prints the flight 4 h after that and at 65 h 56 min 20.068 s.
-pub const PARTS: [Part; 6] = [
+pub const PARTS: [Part; 7] = [
+    Part::Inject,
     Part::Fly { h: 60_000, steps: 58 * 60 + 46 },
     Part::Fly { h: 13_046, steps: 1 },
     Part::Move(2),
@@ -43,7 +45,7 @@ impl Said {
     }
 }
 
-/// Where an answer's state begins: behind outcome and steps of a call that flies, at the front of one that moves.
+/// Where an answer's state begins: behind outcome and steps of a call that flies, at the front of one that injects or moves.
 fn state_from(answer: &str) -> Option<usize> {
     match answer.split(' ').next() {
         Some("ARRIVED" | "GOING") => Some(2),
@@ -86,11 +88,12 @@ pub fn flight(order: &Order, mut say: impl FnMut(&str) -> Result<String, String>
     for part in PARTS {
         let target = match part {
             Part::Fly { h, steps } => place.moment()? + u64::from(h) * steps,
-            Part::Move(_) => 0,
+            Part::Inject | Part::Move(_) => 0,
         };
         loop {
             let (state, guesses) = (place.state.join(" "), place.guesses.join(" "));
             let line = match part {
+                Part::Inject => format!("inject {setting} {state}"),
                 Part::Fly { h, .. } => format!("fly {setting} {state} {h} {target} {BUDGET} {guesses}"),
                 Part::Move(new) => format!("move {setting} {state} {new}"),
             };

@@ -5,13 +5,13 @@ use super::centres::{other_centre, some_centre, used_centre};
 use super::chance::Chance;
 use super::cover;
 use super::extras::{bad_extras, some_extras};
-use super::floats::{largest, one_not_finite, signed_zeros, wild};
+use super::floats::{anything, largest, one_not_finite, signed_zeros, wild};
 use super::times::{bad_moment, some_rule};
 use super::trip::{bad_centre, break_setting, trip, trip_at, Trip, NOMINAL};
 use super::world::{Case, World};
 use crate::book::motion;
 use crate::hour::END;
-use crate::motion::EARTH;
+use crate::rule::EARTH;
 use crate::moves::moved;
 
 /// A trip about a used centre, and another used one to move to. Where a body stands at a zero, so does the craft.
@@ -28,9 +28,18 @@ fn pair(c: &mut Chance, w: &World) -> (Trip, u64) {
     (t, new)
 }
 
+/// The line of a move, half of them with anything stored.
+fn line(c: &mut Chance, t: &Trip, new: u64) -> String {
+    let mut t = t.clone();
+    if c.one_in(2) {
+        t.state.acceleration = anything(c);
+    }
+    t.move_line(new)
+}
+
 fn plain(c: &mut Chance, w: &World) -> Vec<String> {
     let (t, new) = pair(c, w);
-    vec![t.move_line(new)]
+    vec![line(c, &t, new)]
 }
 
 /// There, on to a third centre, and back, each from the last answer.
@@ -38,7 +47,7 @@ fn there_and_back(c: &mut Chance, w: &World) -> Vec<String> {
     let (mut t, new) = pair(c, w);
     let mut lines = Vec::new();
     for new in [new, used_centre(c, &t.setting), t.state.centre] {
-        lines.push(t.move_line(new));
+        lines.push(line(c, &t, new));
         match moved(w.bytes(), &t.setting, &t.state, new) {
             Ok(state) => t.state = state,
             Err(_) => break,
@@ -58,7 +67,7 @@ fn same(c: &mut Chance, w: &World) -> Vec<String> {
     if c.one_in(6) {
         t.state.moment = bad_moment(c);
     }
-    vec![t.move_line(t.state.centre)]
+    vec![line(c, &t, t.state.centre)]
 }
 
 /// Every body used, at any moment or at an edge of cover.
@@ -72,7 +81,18 @@ fn no_cover(c: &mut Chance, w: &World) -> Vec<String> {
         t.set_state(largest(c));
     }
     t.state.centre = c.between(1, 6);
-    vec![t.move_line(c.between(1, 6))]
+    let new = c.between(1, 6);
+    vec![line(c, &t, new)]
+}
+
+/// Both centres have cover and every body is used: the result first, then the rule's own cover of the others.
+fn others(c: &mut Chance, w: &World) -> Vec<String> {
+    let (mut t, new) = pair(c, w);
+    t.setting.coefficients = NOMINAL;
+    if c.one_in(2) {
+        t.set_state(largest(c));
+    }
+    vec![line(c, &t, new)]
 }
 
 /// From or to a body within a millisecond of the start, the middle or the end of an entry.
@@ -81,7 +101,7 @@ fn edge(c: &mut Chance, w: &World) -> Vec<String> {
     let (one, other) = (other_centre(c, &t.setting), used_centre(c, &t.setting));
     let (from, to) = c.pick(&[(one, other), (other, one)]);
     t.state.centre = from;
-    vec![t.move_line(to)]
+    vec![line(c, &t, to)]
 }
 
 /// Floats so large that the result overflows, of every size, or zeros.
@@ -89,7 +109,7 @@ fn floats(c: &mut Chance, w: &World) -> Vec<String> {
     let (mut t, new) = pair(c, w);
     let floats = c.pick(&[wild as fn(&mut Chance) -> [f64; 6], largest, largest, signed_zeros]);
     t.set_state(floats(c));
-    vec![t.move_line(new)]
+    vec![line(c, &t, new)]
 }
 
 /// A body at a moment at which its place or its speed is not finite, if one is found.
@@ -109,21 +129,21 @@ fn not_finite(c: &mut Chance, w: &World) -> Vec<String> {
     t.setting.coefficients = NOMINAL;
     let (from, to) = c.pick(&[(body, c.clone().between(1, 6)), (c.clone().between(1, 6), body)]);
     t.state.centre = from;
-    vec![t.move_line(to)]
+    vec![line(c, &t, to)]
 }
 
 /// Onto the new centre, where the result is zero, or as far from it again, where it may overflow.
 fn onto(c: &mut Chance, w: &World) -> Vec<String> {
     let (mut t, new) = pair(c, w);
     t.set_state([0.0; 6]);
-    let Ok(there) = moved(w.bytes(), &t.setting, &t.state, new) else { return vec![t.move_line(new)] };
+    let Ok(there) = moved(w.bytes(), &t.setting, &t.state, new) else { return vec![line(c, &t, new)] };
     let sign = c.pick(&[1.0, -1.0]);
     t.state.position = there.position.map(|x| sign * x);
     t.state.velocity = there.velocity.map(|x| sign * x);
     if c.one_in(2) {
         t.state.position = there.position.map(|x| -x);
     }
-    vec![t.move_line(new)]
+    vec![line(c, &t, new)]
 }
 
 /// Some of 4, 14, 14, 3 and 7, or all, with bodies that have cover or have none.
@@ -154,7 +174,7 @@ fn broken(c: &mut Chance, w: &World) -> Vec<String> {
     } else if which & 1 != 0 {
         break_setting(c, &mut t);
     }
-    vec![t.move_line(new)]
+    vec![line(c, &t, new)]
 }
 
 /// A number that is none, or a body that is then not used.
@@ -173,7 +193,7 @@ fn any(c: &mut Chance, w: &World) -> Vec<String> {
     t.setting.rule = some_rule(c);
     t.state.centre = some_centre(c, &t.setting);
     let new = some_centre(c, &t.setting);
-    vec![t.move_line(new)]
+    vec![line(c, &t, new)]
 }
 
 pub const MOVE: &[Case] = &[
@@ -184,6 +204,8 @@ pub const MOVE: &[Case] = &[
     ("same centre", same),
     ("no cover", no_cover),
     ("no cover", no_cover),
+    ("others used", others),
+    ("others used", others),
     ("edge", edge),
     ("edge", edge),
     ("not finite", not_finite),

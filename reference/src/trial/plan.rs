@@ -4,18 +4,20 @@ use super::about::ABOUT;
 use super::books::{build, entries, pieces, special, sturdy};
 use super::centres::centred;
 use super::chance::Chance;
+use super::stored::STORED;
 use super::strips::{journey, strip, strip144, Strip};
 use super::terms::TERMS;
 use super::trip::Trip;
 use super::world::{Case, World};
 use super::{damage, earth, journeys, leaves, lookups, moving, runs, spheres, states, terms, unreadable};
 
-/// All kinds of call, with their share of 170; a journey is lines of fly and move, `earth` is old lines beside new ones, and
-/// `terms` is lines of fly, pull and move with J, A and K.
-pub const KINDS: [(&str, usize); 21] = [
+/// All kinds of call, with their share of 200; a journey is lines of fly and move, `earth` is old lines beside new ones, `terms`
+/// is lines of fly, pull, inject and move with J, A and K, and `stored` is lines of fly whose acceleration is the rule's or not.
+pub const KINDS: [(&str, usize); 23] = [
     ("root", 9), ("sincos", 6), ("hour", 6), ("sidereal", 7), ("date", 4), ("day", 5), ("fixed", 5),
     ("turn", 5), ("sphere", 6), ("conic", 7), ("unreadable", 5), ("body", 8), ("accel", 9), ("run", 18),
     ("pull", 8), ("move", 10), ("fly", 9), ("journey", 7), ("orbit", 2), ("earth", 4), ("terms", 30),
+    ("inject", 10), ("stored", 20),
 ];
 
 #[derive(Clone, Debug)]
@@ -59,9 +61,11 @@ pub fn trips(c: &mut Chance, w: &World, kind: &str, i: usize) -> Option<(&'stati
         "run" => (runs::RUN, false),
         "fly" => (runs::RUN, true),
         "accel" => (lookups::ACCEL, false),
+        "inject" => (runs::RUN, true),
         "pull" => (lookups::ACCEL, true),
-        "terms" => {
-            let (name, make) = TERMS[i % TERMS.len()];
+        "terms" | "stored" => {
+            let list = if kind == "terms" { TERMS } else { STORED };
+            let (name, make) = list[i % list.len()];
             return Some((name, make(c, w)));
         }
         _ => return None,
@@ -78,12 +82,14 @@ pub fn trips(c: &mut Chance, w: &World, kind: &str, i: usize) -> Option<(&'stati
     Some((name, list))
 }
 
-pub fn trip_line(c: &mut Chance, kind: &str, t: &Trip) -> String {
+pub fn trip_line(c: &mut Chance, w: &World, kind: &str, t: &Trip) -> String {
     match kind {
         "run" => t.run_line(),
-        "fly" => t.fly_line(),
+        "fly" => t.kept(w.bytes()).fly_line(),
+        "stored" => t.fly_line(),
+        "inject" => t.inject_line(),
         "accel" => t.accel_line(),
-        "terms" => terms::line(c, t),
+        "terms" => terms::line(c, w, t),
         _ => t.pull_line(),
     }
 }
@@ -91,7 +97,7 @@ pub fn trip_line(c: &mut Chance, kind: &str, t: &Trip) -> String {
 /// Calls of one kind by its i-th case; at least one.
 pub fn made(c: &mut Chance, w: &World, kind: &'static str, i: usize) -> Vec<Call> {
     if let Some((name, list)) = trips(c, w, kind, i) {
-        let mut made = |(note, t): &(String, Trip)| call(kind, &format!("{name} {note}"), trip_line(c, kind, t));
+        let mut made = |(note, t): &(String, Trip)| call(kind, &format!("{name} {note}"), trip_line(c, w, kind, t));
         return list.iter().map(&mut made).collect();
     }
     let list = cases(kind);
@@ -129,7 +135,7 @@ pub fn counts(calls: usize, kinds: &[&'static str]) -> Vec<(&'static str, usize)
 }
 
 pub fn needs_book(kind: &str) -> bool {
-    matches!(kind, "body" | "accel" | "run" | "pull" | "move" | "fly" | "journey" | "earth" | "terms")
+    matches!(kind, "body" | "accel" | "run" | "pull" | "move" | "inject" | "fly" | "journey" | "earth" | "terms" | "stored")
 }
 
 /// Books: none, the real ones, special ones, random ones and damaged ones.

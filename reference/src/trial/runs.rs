@@ -6,7 +6,8 @@ use super::cover::{crossing, edge, far_off, middle_gap, no_cover};
 use super::sizes::{any_floats, collision, growing, new_component, new_position, on_body, overflow};
 use super::trip::{covered_moment, guesses, noted, trip, trip_at, RunCase, Trip};
 use super::world::World;
-use crate::motion::{Outcome, State};
+use crate::motion::Outcome;
+use crate::rule::State;
 
 pub fn plain(c: &mut Chance, w: &World) -> Vec<(String, Trip)> {
     let mut t = trip(c, w);

@@ -52,10 +52,11 @@ pub fn new_component(c: &mut Chance, w: &World) -> Vec<(String, Trip)> {
     noted(note, t)
 }
 
-/// Stage three alone stands close to the centre: for the lesser side the velocity of stage
-/// four makes the new position overflow, while the new velocity is finite.
+/// Stage three alone stands close to the centre: for the least side the velocity of stage
+/// four makes the new position overflow, while the new velocity is finite; for the next one
+/// the new position is finite, and so far out that it has no acceleration.
 pub fn new_position(c: &mut Chance, w: &World) -> Vec<(String, Trip)> {
-    let (side, note) = c.pick(&[(2e-107, "position not finite"), (1e-99, "position finite")]);
+    let (side, note) = c.pick(&[(2e-107, "position not finite"), (1e-99, "no acceleration there"), (1.0, "position finite")]);
     let mut t = earth_alone(c, w, 2f64.powi(302));
     t.set_state([2f64.powi(107), side, 0.0, -2f64.powi(97), 0.0, 0.0]);
     noted(note, t)

@@ -1,7 +1,7 @@
 //! Lines for fixed, turn, conic and orbit.
 
 use super::chance::Chance;
-use super::floats::{flight, hex, hexes, largest, one_not_finite, signed_zeros, wild};
+use super::floats::{anything, flight, hex, hexes, largest, one_not_finite, signed_zeros, wild};
 use super::times::{bad_dut, bad_moment, bad_rule, hard_ut, moment_dut, some_rule, whole_octants};
 use super::trip::bad_centre;
 use super::world::{Case, World};
@@ -50,12 +50,12 @@ pub fn turn_centre(c: &mut Chance) -> u64 {
     }
 }
 
-/// A line of fixed as one of turn, by a rule and about a centre.
+/// A line of fixed as one of turn, by a rule and about a centre, with anything stored.
 pub fn turn_by(c: &mut Chance, rule: u64, fixed: Vec<String>) -> Vec<String> {
     let turn = |line: String| {
         let fields: Vec<&str> = line.splitn(4, ' ').collect();
-        let centre = turn_centre(c);
-        format!("turn {rule} {} {} {centre} {}", fields[1], fields[2], fields[3])
+        let (centre, stored) = (turn_centre(c), hexes(&anything(c)));
+        format!("turn {rule} {} {} {centre} {} {stored}", fields[1], fields[2], fields[3])
     };
     fixed.into_iter().map(turn).collect()
 }
@@ -204,10 +204,10 @@ pub const CONIC: &[Case] = &[
     ("state refused", conic_state),
 ];
 
-/// A line of conic as one of orbit, at any moment and about any centre.
+/// A line of conic as one of orbit, at any moment and about any centre, with anything stored.
 pub fn orbit_of(c: &mut Chance, conic: &str) -> String {
     let fields: Vec<&str> = conic.splitn(3, ' ').collect();
     let moment = if c.one_in(2) { c.below(END) } else { c.any_length(64) };
     let centre = if c.one_in(4) { bad_centre(c) } else { c.between(1, 6) };
-    format!("orbit {} {moment} {centre} {}", fields[1], fields[2])
+    format!("orbit {} {moment} {centre} {} {}", fields[1], fields[2], hexes(&anything(c)))
 }

@@ -6,7 +6,7 @@ use super::runs::{self, RUN};
 use super::terms::TERMS;
 use super::trip::{break_at, trip, Trip, OF_AN_ORDER};
 use super::world::World;
-use crate::motion::EARTH;
+use crate::rule::EARTH;
 
 /// The most steps of a strip made here.
 pub const MOST: u64 = 150;

@@ -13,7 +13,7 @@ use super::world::World;
 use crate::book::Entry;
 use crate::extras::Extras;
 use crate::hour::END;
-use crate::motion::{EARTH, SUN};
+use crate::rule::{EARTH, SUN};
 use crate::vector::{add, sub};
 
 /// About a used centre, with both terms as a flight has them.
@@ -176,11 +176,12 @@ pub const TERMS: &[RunCase] = &[
     ("any", any),
 ];
 
-/// A line of the trip: mostly fly, else pull or a move.
-pub fn line(c: &mut Chance, t: &Trip) -> String {
+/// A line of the trip: mostly fly, with the rule's acceleration, else pull, an injection or a move.
+pub fn line(c: &mut Chance, w: &World, t: &Trip) -> String {
     match c.below(8) {
-        0..=3 => t.fly_line(),
-        4..=6 => t.pull_line(),
+        0..=3 => t.kept(w.bytes()).fly_line(),
+        4..=5 => t.pull_line(),
+        6 => t.inject_line(),
         _ => {
             let new = some_centre(c, &t.setting);
             t.move_line(new)

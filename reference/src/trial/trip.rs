@@ -7,7 +7,8 @@ use super::world::World;
 use crate::book::covers;
 use crate::extras::Extras;
 use crate::hour::{DUT_MOST, END};
-use crate::motion::{run, start_checks, Ran, Setting, State, EARTH};
+use crate::motion::{of_an_order, run, start_checks, Ran};
+use crate::rule::{Setting, State, EARTH};
 
 /// Document 003's coefficients.
 pub const NOMINAL: [f64; 6] = [398603.20, 4900.7589, 132715440000.0, 324769.50, 42977.799, 126710600.0];
@@ -27,13 +28,24 @@ pub struct Trip {
 }
 
 impl Trip {
-    pub fn run(&self, book: &[u8]) -> Ran {
+    /// The state as it is given, kept by the rule or not.
+    pub fn fly(&self, book: &[u8]) -> Ran {
         run(book, &self.setting, &self.state, self.h, self.target, self.budget, self.guesses)
+    }
+
+    /// The same with the acceleration that the rule gives, as an old order has it; what is stored where the rule gives none.
+    pub fn kept(&self, book: &[u8]) -> Trip {
+        Trip { state: of_an_order(book, &self.setting, &self.state), ..self.clone() }
+    }
+
+    pub fn run(&self, book: &[u8]) -> Ran {
+        self.kept(book).fly(book)
     }
 
     /// At most so many steps, whatever is asked: the target is moved nearer.
     pub fn shortened(mut self, book: &[u8], most: u64) -> Trip {
-        if start_checks(book, &self.setting, &self.state, self.h, self.target).is_ok() {
+        let state = of_an_order(book, &self.setting, &self.state);
+        if start_checks(book, &self.setting, &state, self.h, self.target).is_ok() {
             let h = u64::from(self.h);
             let steps = (self.target - self.state.moment) / h;
             self.target = self.state.moment + h * steps.min(most);
@@ -133,7 +145,7 @@ pub fn trip_at(c: &mut Chance, w: &World, t: u64) -> Trip {
     let h = pick_h(c, w, t);
     let steps = c.pick(&[0, 1, 1, 2, 3, 5, 8, 13, 24]);
     let style = c.below(9);
-    let state = State { moment: t, centre: EARTH, position: [0.0; 3], velocity: [0.0; 3] };
+    let state = State::bare(t, EARTH, [0.0; 3], [0.0; 3]);
     let setting = setting_at(c, w, t);
     let guesses = guesses(c, w, t, style);
     let mut trip = Trip { setting, state, h, target: t, budget: 0, guesses };

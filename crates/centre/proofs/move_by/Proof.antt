@@ -1,4 +1,7 @@
 -- `centre::move_by` meets its contract. Assumes nothing.
+use mathlib.Core.Path.{_≡_, sym, ap, _∙_}
+use Rattle.state.specs.State.{centreAllowed}
+use Rattle.centre.specs.Move.{shifted}
 use borrow.Author.Needs.{needs}
 use Rattle.centre.proofs.move_by.Statement.{statement}
 use Rattle.centre.proofs.move_by.Tie as tie
@@ -24,11 +27,12 @@ returns-2 c = rw (c .before .before .before .from .given .1, c .enum-told2 .give
 shifted-state-requires : tie.Need-shifted-state-requires
 shifted-state-requires c κs = search needs
 
-finite-or-7-requires : tie.Need-finite-or-7-requires
-finite-or-7-requires c κs = search needs
+kept-or-7-requires : tie.Need-kept-or-7-requires
+unfolding shifted
+kept-or-7-requires c κs = (c .before .before .before .before .before .before .before .before .pre .0, rw (c .shifted-state .ensures) (c .before .before .before .before .before .before .before .before .pre .1))
 
 returns-3 : tie.Need-returns-3
-returns-3 c = rw (c .before .before .before .before .before .before .from .given .1, c .before .before .before .to .given .1, c .finite-or-7 .ensures, c .before .shifted-state .ensures)
+returns-3 c = rw (c .before .before .before .before .before .before .from .given .1, c .before .before .before .to .given .1, c .kept-or-7 .ensures, c .before .shifted-state .ensures)
 
 pub move-by-spec : {M : Type 1} → statement M
 move-by-spec =
@@ -41,5 +45,5 @@ move-by-spec =
     enum-told-2
     returns-2
     shifted-state-requires
-    finite-or-7-requires
+    kept-or-7-requires
     returns-3)

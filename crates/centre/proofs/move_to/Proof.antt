@@ -2,7 +2,7 @@
 use mathlib.Core.Path.{sym, _∙_}
 use borrow.Author.Tests.{ne-eqb}
 use Rattle.centre.specs.Move.{moveAnswer}
-use Rattle.centre.proofs.Moves.{bookPasses}
+use Rattle.centre.proofs.Moves.{mayMove}
 use borrow.Author.Needs.{needs}
 use Rattle.centre.proofs.move_to.Statement.{statement}
 use Rattle.centre.proofs.move_to.Tie as tie
@@ -11,7 +11,7 @@ move-refusal-requires : tie.Need-move-refusal-requires
 move-refusal-requires c κs = search needs
 
 moved-requires : tie.Need-moved-requires
-moved-requires c κs = bookPasses _ _ _ _ (sym (c .before .move-refusal .ensures) ∙ c .if1 .taken)
+moved-requires c κs = mayMove _ _ _ _ (sym (c .before .move-refusal .ensures) ∙ c .if1 .taken)
 
 returns : tie.Need-returns
 unfolding moveAnswer

@@ -10,8 +10,8 @@ terms-of-requires c κs = c .before .pre
 setting-of-requires : tie.Need-setting-of-requires
 setting-of-requires c κs = plain-there (c .before .before .args .form) _ (c .before .before .pre)
 
-state-of-requires : tie.Need-state-of-requires
-state-of-requires c κs = plain-there (c .before .before .before .args .form) _ (c .before .before .before .pre)
+injection-of-requires : tie.Need-injection-of-requires
+injection-of-requires c κs = plain-there (c .before .before .before .args .form) _ (c .before .before .before .pre)
 
 u32-at-requires : tie.Need-u32-at-requires
 u32-at-requires c κs = let all = plain-there (c .before .before .before .before .args .form) _ (c .before .before .before .before .pre) in omega arith
@@ -20,9 +20,9 @@ u64-at-requires : tie.Need-u64-at-requires
 u64-at-requires c κs = let all = plain-there (c .before .before .before .before .before .args .form) _ (c .before .before .before .before .before .pre) in omega arith
 
 returns : tie.Need-returns
-returns c = rw (c .before .before .before .setting-of .ensures, c .before .before .before .before .terms-of .ensures, c .before .before .state-of .ensures, c .before .u32-at .ensures, c .u64-at .ensures)
+returns c = rw (c .before .before .before .setting-of .ensures, c .before .before .before .before .terms-of .ensures, c .before .before .injection-of .ensures, c .before .u32-at .ensures, c .u64-at .ensures)
 
 pub order-of-spec : {M : Type 1} → statement M
 order-of-spec =
     tie.close
-    (tie.spec terms-of-requires setting-of-requires state-of-requires u32-at-requires u64-at-requires returns)
+    (tie.spec terms-of-requires setting-of-requires injection-of-requires u32-at-requires u64-at-requires returns)

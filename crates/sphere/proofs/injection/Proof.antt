@@ -16,12 +16,12 @@ injected-state-requires c κs = (
 returns : tie.Need-returns
 returns c =
     accepted _ _ _ _ _ _ (c .before .before .before .before .before .before .before .angles-allowed .ensures) (c .before .before .before .before .before .before .sizes-allowed .ensures) _ (number (c .before .before .before .before)) (c .before .before .before .if1 .taken) _ (c .before .before .injected-state .ensures)
-    (sym (c .before .state-is-finite .ensures) ∙ c .if2 .taken)
+    (sym (c .before .injection-is-finite .ensures) ∙ c .if2 .taken)
 
 returns-2 : tie.Need-returns-2
 returns-2 c =
     not-finite _ _ _ _ _ _ (c .before .before .before .before .before .before .before .angles-allowed .ensures) (c .before .before .before .before .before .before .sizes-allowed .ensures) _ (number (c .before .before .before .before)) (c .before .before .before .if1 .taken) _ (c .before .before .injected-state .ensures)
-    (sym (c .before .state-is-finite .ensures) ∙ c .if2 .left)
+    (sym (c .before .injection-is-finite .ensures) ∙ c .if2 .left)
 
 returns-3 : tie.Need-returns-3
 returns-3 c = refused _ _ _ _ _ _ (c .before .before .before .before .angles-allowed .ensures) (c .before .before .before .sizes-allowed .ensures) _ (number (c .before)) (c .if1 .left)

@@ -1,80 +1,30 @@
 -- `start::start_refusal` meets its contract. Assumes nothing.
-use Rattle.start.specs.Start.{startRefusal}
-use Rattle.start.proofs.Order.{lastTwo}
+use mathlib.Core.Path.{sym, _∙_}
+use denote.Ref.{now}
+use Rattle.start.proofs.Parted.{opened, passedBoth, notInOrder, notOpened}
 use borrow.Author.Needs.{needs}
 use Rattle.start.proofs.start_refusal.Statement.{statement}
 use Rattle.start.proofs.start_refusal.Tie as tie
 
-book-passes-requires : tie.Need-book-passes-requires
-book-passes-requires c κs = search needs
+opening-requires : tie.Need-opening-requires
+opening-requires c κs = search needs
 
-setting-is-allowed-requires : tie.Need-setting-is-allowed-requires
-setting-is-allowed-requires c κs = search needs
+order-refusal-requires : tie.Need-order-refusal-requires
+order-refusal-requires c κs = let x = c .before .before .before .args in opened (now (x .book)) (x .setting) (x .s) (x .h) (x .target) (sym (c .before .opening .ensures) ∙ c .if1 .taken)
 
-centre-is-allowed-requires : tie.Need-centre-is-allowed-requires
-centre-is-allowed-requires c κs = search needs
-
-is-moment-requires : tie.Need-is-moment-requires
-is-moment-requires c κs = search needs
-
-is-moment-requires-2 : tie.Need-is-moment-requires-2
-is-moment-requires-2 c κs = search needs
-
-state-is-finite-requires : tie.Need-state-is-finite-requires
-state-is-finite-requires c κs = search needs
-
-step-is-allowed-requires : tie.Need-step-is-allowed-requires
-step-is-allowed-requires c κs = search needs
-
-is-within-steps-requires : tie.Need-is-within-steps-requires
-is-within-steps-requires c κs = search needs
-
-unless-requires : tie.Need-unless-requires
-unless-requires c κs = search needs
-
-unless-requires-2 : tie.Need-unless-requires-2
-unless-requires-2 c κs = search needs
-
-unless-requires-3 : tie.Need-unless-requires-3
-unless-requires-3 c κs = search needs
-
-unless-requires-4 : tie.Need-unless-requires-4
-unless-requires-4 c κs = search needs
-
-unless-requires-5 : tie.Need-unless-requires-5
-unless-requires-5 c κs = search needs
-
-unless-requires-6 : tie.Need-unless-requires-6
-unless-requires-6 c κs = search needs
-
-unless-requires-7 : tie.Need-unless-requires-7
-unless-requires-7 c κs = search needs
-
-unless-requires-8 : tie.Need-unless-requires-8
-unless-requires-8 c κs = search needs
+way-requires : tie.Need-way-requires
+way-requires c κs = search needs
 
 returns : tie.Need-returns
-unfolding startRefusal
-returns c = let x = c .before .before .before .before .before .before .before .before .before .before .before .before .before .before .before .before .before .args in rw (c .unless8 .ensures, c .before .unless7 .ensures, c .before .before .unless6 .ensures, c .before .before .before .unless5 .ensures, c .before .before .before .before .unless4 .ensures, c .before .before .before .before .before .unless3 .ensures, c .before .before .before .before .before .before .unless2 .ensures, c .before .before .before .before .before .before .before .unless .ensures, c .before .before .before .before .before .before .before .before .is-within-steps .ensures, c .before .before .before .before .before .before .before .before .before .step-is-allowed .ensures, c .before .before .before .before .before .before .before .before .before .before .state-is-finite .ensures, c .before .before .before .before .before .before .before .before .before .before .before .is-moment2 .ensures, c .before .before .before .before .before .before .before .before .before .before .before .before .is-moment .ensures, c .before .before .before .before .before .before .before .before .before .before .before .before .before .centre-is-allowed .ensures, c .before .before .before .before .before .before .before .before .before .before .before .before .before .before .setting-is-allowed .ensures, c .before .before .before .before .before .before .before .before .before .before .before .before .before .before .before .book-passes .ensures, ← lastTwo (x .s .moment) (x .h) (x .target))
+returns c = let x = c .before .before .before .before .before .before .args in passedBoth (now (x .book)) (x .setting) (x .s) (x .h) (x .target) _ _ (c .before .before .before .before .opening .ensures) _ (c .before .before .before .if1 .taken) (c .before .before .order-refusal .ensures) (c .before .if2 .taken) (c .way .ensures)
+
+returns-2 : tie.Need-returns-2
+returns-2 c = let x = c .before .before .before .before .before .args in notInOrder (now (x .book)) (x .setting) (x .s) (x .h) (x .target) _ _ (c .before .before .before .opening .ensures) (c .before .before .if1 .taken) (c .before .order-refusal .ensures) (c .if2 .left)
+
+returns-3 : tie.Need-returns-3
+returns-3 c = let x = c .before .before .before .args in notOpened (now (x .book)) (x .setting) (x .s) (x .h) (x .target) _ 0 (c .before .opening .ensures) (c .if1 .left)
 
 pub start-refusal-spec : {M : Type 1} → statement M
 start-refusal-spec =
     tie.close
-    (tie.spec
-    book-passes-requires
-    setting-is-allowed-requires
-    centre-is-allowed-requires
-    is-moment-requires
-    is-moment-requires-2
-    state-is-finite-requires
-    step-is-allowed-requires
-    is-within-steps-requires
-    unless-requires
-    unless-requires-2
-    unless-requires-3
-    unless-requires-4
-    unless-requires-5
-    unless-requires-6
-    unless-requires-7
-    unless-requires-8
-    returns)
+    (tie.spec opening-requires order-refusal-requires way-requires returns returns-2 returns-3)

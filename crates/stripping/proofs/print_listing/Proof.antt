@@ -1,4 +1,4 @@
--- `stripping::print_listing` meets its contract: the buffer holds two lines, and an order that passed starts on course. Assumes nothing.
+-- `stripping::print_listing` meets its contract: the buffer holds two lines, and a run that passed starts on course. Assumes nothing.
 use mathlib.Core.Path.{sym}
 use native.Mathlib.Omega.{arith}
 use lib.Seq.{length-take-le}
@@ -21,22 +21,22 @@ put-header-requires : tie.Need-put-header-requires
 put-header-requires c κs = search needs
 
 put-state-requires : tie.Need-put-state-requires
-put-state-requires c κs = omega (arith, header-fits (c .before .before .before .before .before .before .before .before .before .args .order .h) (omega arith), c .before .before .before .before .put-header .ensures .next, c .before .before .before .before .put-header .kept .0, c .before .before .before .before .before .before .before .large-buffer .ensures)
+put-state-requires c κs = omega (arith, header-fits (c .before .before .before .before .before .before .before .before .args .h) (omega arith), c .before .before .before .put-header .ensures .next, c .before .before .before .put-header .kept .0, c .before .before .before .before .before .before .large-buffer .ensures)
 
 slice-reshare-prefix-print : tie.Need-slice-reshare-prefix-print
-slice-reshare-prefix-print c = inside (c .before .before .put-state .ensures) (inside (c .before .before .before .before .before .before .before .put-header .ensures) (omega arith))
+slice-reshare-prefix-print c = inside (c .before .before .put-state .ensures) (inside (c .before .before .before .before .before .before .put-header .ensures) (omega arith))
 
 slice-aggregate-print : tie.Need-slice-aggregate-print
-slice-aggregate-print c = sym (length-take-le _ _ (inside (c .before .before .before .put-state .ensures) (inside (c .before .before .before .before .before .before .before .before .put-header .ensures) (omega arith))))
+slice-aggregate-print c = sym (length-take-le _ _ (inside (c .before .before .before .put-state .ensures) (inside (c .before .before .before .before .before .before .before .put-header .ensures) (omega arith))))
 
 print-requires : tie.Need-print-requires
 print-requires c κs = search needs
 
 start-requires : tie.Need-start-requires
-start-requires c κs = mayWalk _ _ _ _ _ (c .before .before .before .before .before .before .before .before .before .before .before .before .before .before .before .before .pre)
+start-requires c κs = let may = mayWalk _ _ _ _ _ (c .before .before .before .before .before .before .before .before .before .before .before .before .before .before .pre) in (may .long, may .reachable)
 
 print-course-requires : tie.Need-print-course-requires
-print-course-requires c κs = (rw (c .start .ensures) (starts (now (c .before .before .before .before .before .before .before .before .before .before .before .before .before .before .before .before .before .args .book)) (c .before .before .before .before .before .before .before .before .before .before .before .before .before .before .before .before .before .args .order) (mayWalk _ _ _ _ _ (c .before .before .before .before .before .before .before .before .before .before .before .before .before .before .before .before .before .pre))), omega (arith, c .before .before .before .before .before .before .before .put-state .kept .0, c .before .before .before .before .before .before .before .before .before .before .before .before .put-header .kept .0, c .before .before .before .before .before .before .before .before .before .before .before .before .before .before .before .large-buffer .ensures))
+print-course-requires c κs = let x = c .before .before .before .before .before .before .before .before .before .before .before .before .before .before .before .args in (rw (c .start .ensures) (starts (now (x .book)) (x .setting) (x .from) (x .h) (x .target) (mayWalk _ _ _ _ _ (c .before .before .before .before .before .before .before .before .before .before .before .before .before .before .before .pre))), omega (arith, c .before .before .before .before .before .before .put-state .kept .0, c .before .before .before .before .before .before .before .before .before .before .put-header .kept .0, c .before .before .before .before .before .before .before .before .before .before .before .before .before .large-buffer .ensures))
 
 returns : tie.Need-returns
 returns c = search needs

@@ -10,7 +10,7 @@ returns c =
       at-run .before .guesses-of .ensures,
       at-run .before .before .before .state-of .ensures,
       at-run .before .before .before .before .before .setting-of .ensures,
-    ) at (c .hand-back .ensures)
+    ) at (c .hand-back-whole .ensures)
 
 pub fly-spec : {M : Type 1} → statement M
 fly-spec = tie.close (tie.spec (λ c κs. tt) (λ c κs. tt) (λ c κs. tt) (λ c κs. tt) (λ c κs. tt) returns)

@@ -8,7 +8,7 @@ returns : tie.Need-returns
 returns c =
     let at-c = c .before .before .before .before in
     rw (
-      ← at-c .before .before .before .state-of .ensures,
+      ← at-c .before .before .before .unkept-of .ensures,
       ← at-c .before .before .conic-figures .ensures,
       at-c .c .given .1,
       c .figures-of .ensures,
@@ -20,7 +20,7 @@ returns-2 : tie.Need-returns-2
 returns-2 c =
     let at-call = c .before .before .before in
     rw (
-      ← at-call .before .state-of .ensures,
+      ← at-call .before .unkept-of .ensures,
       ← at-call .conic-figures .ensures,
       c .before .k .given .1,
     )

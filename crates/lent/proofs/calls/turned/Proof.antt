@@ -8,7 +8,7 @@ returns : tie.Need-returns
 returns c =
     let at-call = c .before .before .before .before in
     rw (
-      ← at-call .before .state-of .ensures,
+      ← at-call .before .unkept-of .ensures,
       ← at-call .earth-fixed .ensures,
       c .before .before .t .given .1,
     )
@@ -18,7 +18,7 @@ returns-2 : tie.Need-returns-2
 returns-2 c =
     let at-call = c .before .before .before in
     rw (
-      ← at-call .before .state-of .ensures,
+      ← at-call .before .unkept-of .ensures,
       ← at-call .earth-fixed .ensures,
       c .before .k .given .1,
     )

@@ -12,10 +12,10 @@ use Rattle.listing.proofs.known.portion.Statement.{statement}
 use Rattle.listing.proofs.known.portion.Tie as tie
 
 abbrev Inv-loop : tie.InvT-loop
-Inv-loop book setting h out₀ calm now₀ sighted₀ left₀ done₀ at₀ out now sighted left done at = (length out ≡ length out₀) × Listing book setting h (record { state = now₀; sights = sighted₀; left = left₀; done = done₀ }) out₀ out now sighted left done at
+Inv-loop book setting h out₀ calm now₀ entries₀ left₀ done₀ at₀ out now entries left done at = (length out ≡ length out₀) × Listing book setting h (record { state = now₀; entries = entries₀; left = left₀; done = done₀ }) out₀ out now entries left done at
 
 abbrev μ-loop : tie.MeasureT-loop
-μ-loop book setting h out₀ calm now₀ sighted₀ left₀ done₀ at₀ out now sighted left done at = left
+μ-loop book setting h out₀ calm now₀ entries₀ left₀ done₀ at₀ out now entries left done at = left
 
 book-calm-requires : tie.Need-book-calm-requires Inv-loop μ-loop
 book-calm-requires c κs = c .before .before .pre .pass
@@ -40,13 +40,13 @@ returns : tie.Need-returns Inv-loop μ-loop
 returns c =
     let x = c .before .before .before .before .before .before .before .before .before .args in
     let l = c .before .before .before .loop in
-    rw (c .portion-of .ensures) (ends (now (x .book)) (x .setting) (x .h) (x .from) (now (x .out)) (l .out) (l .now) (l .sighted) (l .left) (l .done) (l .at) (l .inv .1) Arrived (text-ends _ _ _ (l .left) (c .before .if1 .taken)) (λ z. let k : _≡_ {A = ℕ} 0 1 = cc in absurd (omega arith)))
+    rw (c .portion-of .ensures) (ends (now (x .book)) (x .setting) (x .h) (x .from) (now (x .out)) (l .out) (l .now) (l .entries) (l .left) (l .done) (l .at) (l .inv .1) Arrived (text-ends _ _ _ (l .left) (c .before .if1 .taken)) (λ z. let k : _≡_ {A = ℕ} 0 1 = cc in absurd (omega arith)))
 
 step-under-requires : tie.Need-step-under-requires Inv-loop μ-loop
 step-under-requires c κs =
     let x = c .before .before .before .before .before .before .before .before .args in
     let l = c .before .before .loop in
-    ((ready (c .before .before .before .before .before), stands (now (x .book)) (x .setting) (x .h) (x .from) (now (x .out)) (l .out) (l .now) (l .sighted) (l .left) (l .done) (l .at) (l .inv .1)), l .inv .1 .on .seen)
+    (ready (c .before .before .before .before .before), stands (now (x .book)) (x .setting) (x .h) (x .from) (now (x .out)) (l .out) (l .now) (l .entries) (l .left) (l .done) (l .at) (l .inv .1))
 
 enum-known-stepped : tie.Need-enum-known-stepped Inv-loop μ-loop
 enum-known-stepped c = c .match .keys1
@@ -68,7 +68,7 @@ loop-again c =
     let x = c .before .before .before .before .before .before .before .before .before .before .before .before .before .before .before .before .args in
     let l = c .before .before .before .before .before .before .before .before .before .before .loop in (
       c .before .before .put-state .kept .0 ∙ l .inv .0,
-      goes-on (now (x .book)) (x .setting) (x .h) (x .from) (now (x .out)) (l .out) (l .now) (l .sighted) (l .left) (l .done) (l .at) (l .inv .1) (c .before .before .before .before .before .before .before .before .if1 .left) _ _ _ _ (sym (c .before .before .before .before .before .stepped .given .1) ∙ c .before .before .before .before .before .before .before .step-under .ensures) (c .before .before .put-state .ensures) (c .before .before .before .before .before .before .before .before .before .loop-test .taken) (c .before .before .put-state .kept .0),
+      goes-on (now (x .book)) (x .setting) (x .h) (x .from) (now (x .out)) (l .out) (l .now) (l .entries) (l .left) (l .done) (l .at) (l .inv .1) (c .before .before .before .before .before .before .before .before .if1 .left) _ _ _ _ (sym (c .before .before .before .before .before .stepped .given .1) ∙ c .before .before .before .before .before .before .before .step-under .ensures) (c .before .before .put-state .ensures) (c .before .before .before .before .before .before .before .before .before .loop-test .taken) (c .before .before .put-state .kept .0),
     )
 
 enum-known-stepped-2 : tie.Need-enum-known-stepped-2 Inv-loop μ-loop
@@ -84,7 +84,7 @@ returns-2 : tie.Need-returns-2 Inv-loop μ-loop
 returns-2 c =
     let x = c .before .before .before .before .before .before .before .before .before .before .before .before .before .args in
     let l = c .before .before .before .before .before .before .before .loop in
-    rw (c .portion-of2 .ensures) (refuses (now (x .book)) (x .setting) (x .h) (x .from) (now (x .out)) (l .out) (l .now) (l .sighted) (l .left) (l .done) (l .at) (l .inv .1) (c .before .before .before .before .before .if1 .left) _ (sym (c .before .before .stepped2 .given .1) ∙ c .before .before .before .before .step-under .ensures))
+    rw (c .portion-of2 .ensures) (refuses (now (x .book)) (x .setting) (x .h) (x .from) (now (x .out)) (l .out) (l .now) (l .entries) (l .left) (l .done) (l .at) (l .inv .1) (c .before .before .before .before .before .if1 .left) _ (sym (c .before .before .stepped2 .given .1) ∙ c .before .before .before .before .step-under .ensures))
 
 portion-of-requires-3 : tie.Need-portion-of-requires-3 Inv-loop μ-loop
 portion-of-requires-3 c κs = tt
@@ -96,7 +96,7 @@ returns-3 : tie.Need-returns-3 Inv-loop μ-loop
 returns-3 c =
     let x = c .before .before .before .before .before .before .before .before .args in
     let l = c .before .before .loop in
-    rw (c .portion-of3 .ensures) (ends (now (x .book)) (x .setting) (x .h) (x .from) (now (x .out)) (l .out) (l .now) (l .sighted) (l .left) (l .done) (l .at) (l .inv .1) Going refl (λ z. c .before .loop-test .left))
+    rw (c .portion-of3 .ensures) (ends (now (x .book)) (x .setting) (x .h) (x .from) (now (x .out)) (l .out) (l .now) (l .entries) (l .left) (l .done) (l .at) (l .inv .1) Going refl (λ z. c .before .loop-test .left))
 
 pub portion-spec : {M : Type 1} → statement M
 portion-spec =

@@ -1,24 +1,23 @@
--- `listing::known::start` meets its contract: the target is not before the state. Assumes nothing.
+-- `listing::known::start` meets its contract. Assumes nothing.
+use native.Mathlib.Omega.{arith}
 use Rattle.listing.proofs.Courses.{not-before}
-use Rattle.book.proofs.Slow.{untold}
 use borrow.Author.Needs.{needs}
 use Rattle.listing.proofs.known.start.Statement.{statement}
 use Rattle.listing.proofs.known.start.Tie as tie
 
-sights-at-requires : tie.Need-sights-at-requires
-sights-at-requires c κs = untold _ (c .before .before .before .pre .pass)
+sub-t6 : tie.Need-sub-t6
+sub-t6 c = not-before _ _ _ (c .pre .1)
 
-sub-t8 : tie.Need-sub-t8
-sub-t8 c = not-before _ _ _ (c .before .before .before .before .before .pre .reachable)
-
-cast-t9 : tie.Need-cast-t9
-cast-t9 c = search needs
-
-div-t10 : tie.Need-div-t10
-div-t10 c = search needs
+div-t8 : tie.Need-div-t8
+div-t8 c = omega (arith, c .pre .0)
 
 returns : tie.Need-returns
-returns c = rw (c .before .before .sights-at .ensures)
+returns c = search needs
 
 pub start-spec : {M : Type 1} → statement M
-start-spec = tie.close (tie.spec sights-at-requires sub-t8 cast-t9 div-t10 returns)
+start-spec =
+    tie.close
+    (tie.spec
+    sub-t6
+    div-t8
+    returns)

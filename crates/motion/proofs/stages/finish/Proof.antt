@@ -10,6 +10,9 @@ half-of-requires c κs = search needs
 sixth-of-requires : tie.Need-sixth-of-requires
 sixth-of-requires c κs = search needs
 
+acceleration-of-requires : tie.Need-acceleration-of-requires
+acceleration-of-requires c κs = search needs
+
 velocity-of-requires : tie.Need-velocity-of-requires
 velocity-of-requires c κs = search needs
 
@@ -40,23 +43,14 @@ weigh-all-requires-2 c κs = search needs
 toward-requires-5 : tie.Need-toward-requires-5
 toward-requires-5 c κs = search needs
 
-vector-is-finite-requires : tie.Need-vector-is-finite-requires
-vector-is-finite-requires c κs = search needs
+add-arrived : tie.Need-add-arrived
+add-arrived c = omega (arith, c .before .before .before .before .before .before .before .before .before .before .before .before .before .before .pre, c .before .before .before .before .before .before .before .before .before .before .before .before .before .before .fits)
 
-vector-is-finite-requires-2 : tie.Need-vector-is-finite-requires-2
-vector-is-finite-requires-2 c κs = search needs
-
-add-t23 : tie.Need-add-t23
-add-t23 c = omega (arith, c .before .before .before .before .before .before .before .before .before .before .before .before .before .before .before .before .before .pre, c .before .before .before .before .before .before .before .before .before .before .before .before .before .before .before .before .before .fits)
+arrived-requires : tie.Need-arrived-requires
+arrived-requires c κs = search needs
 
 returns : tie.Need-returns
-returns c = rw (← c .before .before .before .before .before .before .before .before .before .before .before .before .before .before .before .before .half-of .ensures, ← c .before .before .before .before .before .before .before .before .before .before .before .before .before .before .before .sixth-of .ensures, ← c .before .before .before .before .before .before .before .before .before .before .before .before .before .before .velocity-of .ensures, ← c .before .before .before .before .before .before .before .before .before .before .before .before .before .toward .ensures, ← c .before .before .before .before .before .before .before .before .before .before .before .before .toward2 .ensures, ← c .before .before .before .before .before .before .before .before .before .before .before .seconds .ensures, ← c .before .before .before .before .before .before .before .before .before .before .toward3 .ensures, ← c .before .before .before .before .before .before .before .before .before .position-of .ensures, ← c .before .before .before .before .before .before .before .before .weigh-all .ensures, ← c .before .before .before .before .before .before .before .toward4 .ensures, ← c .before .before .before .before .before .before .weigh-all2 .ensures, ← c .before .before .before .before .before .toward5 .ensures, ← c .before .before .before .before .vector-is-finite .ensures, c .before .before .before .if1 .taken, ← c .before .before .vector-is-finite2 .ensures, c .before .if2 .taken)
-
-returns-2 : tie.Need-returns-2
-returns-2 c = rw (← c .before .before .before .before .before .before .before .before .before .before .before .before .before .before .before .half-of .ensures, ← c .before .before .before .before .before .before .before .before .before .before .before .before .before .before .sixth-of .ensures, ← c .before .before .before .before .before .before .before .before .before .before .before .before .before .velocity-of .ensures, ← c .before .before .before .before .before .before .before .before .before .before .before .before .toward .ensures, ← c .before .before .before .before .before .before .before .before .before .before .before .toward2 .ensures, ← c .before .before .before .before .before .before .before .before .before .before .seconds .ensures, ← c .before .before .before .before .before .before .before .before .before .toward3 .ensures, ← c .before .before .before .before .before .before .before .before .position-of .ensures, ← c .before .before .before .before .before .before .before .weigh-all .ensures, ← c .before .before .before .before .before .before .toward4 .ensures, ← c .before .before .before .before .before .weigh-all2 .ensures, ← c .before .before .before .before .toward5 .ensures, ← c .before .before .before .vector-is-finite .ensures, c .before .before .if1 .taken, ← c .before .vector-is-finite2 .ensures, c .if2 .left)
-
-returns-3 : tie.Need-returns-3
-returns-3 c = rw (← c .before .before .before .before .before .before .before .before .before .before .before .before .before .half-of .ensures, ← c .before .before .before .before .before .before .before .before .before .before .before .before .sixth-of .ensures, ← c .before .before .before .before .before .before .before .before .before .before .before .velocity-of .ensures, ← c .before .before .before .before .before .before .before .before .before .before .toward .ensures, ← c .before .before .before .before .before .before .before .before .before .toward2 .ensures, ← c .before .before .before .before .before .before .before .before .seconds .ensures, ← c .before .before .before .before .before .before .before .toward3 .ensures, ← c .before .before .before .before .before .before .position-of .ensures, ← c .before .before .before .before .before .weigh-all .ensures, ← c .before .before .before .before .toward4 .ensures, ← c .before .vector-is-finite .ensures, c .if1 .left)
+returns c = rw (← c .before .before .before .before .before .before .before .before .before .before .before .before .before .before .half-of .ensures, ← c .before .before .before .before .before .before .before .before .before .before .before .before .before .sixth-of .ensures, ← c .before .before .before .before .before .before .before .before .before .before .before .before .acceleration-of .ensures, ← c .before .before .before .before .before .before .before .before .before .before .before .velocity-of .ensures, ← c .before .before .before .before .before .before .before .before .before .before .toward .ensures, ← c .before .before .before .before .before .before .before .before .before .toward2 .ensures, ← c .before .before .before .before .before .before .before .before .seconds .ensures, ← c .before .before .before .before .before .before .before .toward3 .ensures, ← c .before .before .before .before .before .before .position-of .ensures, ← c .before .before .before .before .before .weigh-all .ensures, ← c .before .before .before .before .toward4 .ensures, ← c .before .before .before .weigh-all2 .ensures, ← c .before .before .toward5 .ensures) (c .arrived .ensures)
 
 pub finish-spec : {M : Type 1} → statement M
 finish-spec =
@@ -64,6 +58,7 @@ finish-spec =
     (tie.spec
     half-of-requires
     sixth-of-requires
+    acceleration-of-requires
     velocity-of-requires
     toward-requires
     toward-requires-2
@@ -74,9 +69,6 @@ finish-spec =
     toward-requires-4
     weigh-all-requires-2
     toward-requires-5
-    vector-is-finite-requires
-    vector-is-finite-requires-2
-    add-t23
-    returns
-    returns-2
-    returns-3)
+    add-arrived
+    arrived-requires
+    returns)

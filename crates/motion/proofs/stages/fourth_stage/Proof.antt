@@ -1,11 +1,12 @@
 -- `motion::stages::fourth_stage` meets its contract. Assumes nothing.
 use Prim.Native.Nat.{_+_, _/_}
+use mathlib.Core.Path.{_∙_}
 use denote.Ref.{now}
-use Rattle.state.specs.State.{position}
+use Rattle.state.specs.State.{position, acceleration}
 use Rattle.gravity.specs.Acceleration.{accelerationAt}
-use Rattle.motion.specs.Step.{along, lastly, stepH, velocity3}
-use Rattle.motion.specs.Kept.{bodiesAfter}
-use Rattle.motion.proofs.Answered.{answered, goesOn, leaves}
+use Rattle.motion.specs.Step.{along, stepH, velocity3, lastly, keeping}
+use Rattle.motion.specs.Kept.{entriesAfter}
+use Rattle.motion.proofs.Answered.{answered, goesOn, leaves, endedLastly}
 use borrow.Author.Needs.{needs}
 use Rattle.motion.proofs.stages.fourth_stage.Statement.{statement}
 use Rattle.motion.proofs.stages.fourth_stage.Tie as tie
@@ -47,16 +48,21 @@ enum-known-answer-2 : tie.Need-enum-known-answer-2
 enum-known-answer-2 c = search needs
 
 returns : tie.Need-returns
-returns c =
-    let x = c .before .before .before .before .before .before .before .before .before .before .before .before .before .before .args in
+returns c = let x = c .before .before .before .before .before .before .before .before .before .before .before .before .before .before .args in
     let b = now (x .book) in
-    goesOn (accelerationAt b (x .setting) (x .s .centre) (x .s .moment + x .h) (along (position (x .s)) (stepH (x .h)) (velocity3 (x .h) (x .s) (x .a2)))) _ (lastly (x .h) (x .s) (x .a1) (x .a2) (x .a3)) (bodiesAfter b (x .setting) (x .h) (x .s)) _ (answered b (x .setting) (x .s .centre) (c .before .before .before .before .before .before .before .before .before .before .before .before .before .before .pre .1 .1) (x .s .moment + x .h) (along (position (x .s)) (stepH (x .h)) (velocity3 (x .h) (x .s) (x .a2))) _ _ _ _ (rw (c .before .before .before .before .before .before .before .toward2 .ensures, c .before .before .before .before .before .before .before .before .seconds .ensures, c .before .before .before .before .before .before .before .before .before .position-of .ensures, c .before .before .before .before .before .before .before .before .before .before .toward .ensures, c .before .before .before .before .before .before .before .before .before .before .before .half-of .ensures, c .before .before .before .before .before .before .before .before .before .before .before .before .velocity-of .ensures)) (c .before .before .before .before .before .sights-at .ensures) (c .before .before .before .before .acceleration-under .ensures) (c .before .before .answer .given .1)) (rw (c .before .before .before .before .before .sights-at .ensures) at (c .finish .ensures))
+    let acc = accelerationAt b (x .setting) (x .s .centre) in
+    let P4 = along (position (x .s)) (stepH (x .h)) (velocity3 (x .h) (x .s) (x .a2)) in
+    goesOn (acc (x .s .moment + x .h) P4) _ (lastly (keeping acc) (x .h) (x .s) (acceleration (x .s)) (x .a2) (x .a3)) (entriesAfter b (x .setting) (x .h) (x .s)) _
+    (answered b (x .setting) (x .s .centre) (c .before .before .before .before .before .before .before .before .before .before .before .before .before .before .pre .1 .1) (x .s .moment + x .h) P4 _ _ _ _ (rw (c .before .before .before .before .before .before .before .toward2 .ensures, c .before .before .before .before .before .before .before .before .seconds .ensures, c .before .before .before .before .before .before .before .before .before .position-of .ensures, c .before .before .before .before .before .before .before .before .before .before .toward .ensures, c .before .before .before .before .before .before .before .before .before .before .before .half-of .ensures, c .before .before .before .before .before .before .before .before .before .before .before .before .velocity-of .ensures)) (c .before .before .before .before .before .sights-at .ensures) (c .before .before .before .before .acceleration-under .ensures) (c .before .before .answer .given .1))
+    (c .finish .ensures ∙ endedLastly b (x .setting) (x .s) (c .before .before .before .before .before .before .before .before .before .before .before .before .before .before .pre .1 .1) (x .h) _ (c .before .before .before .before .before .sights-at .ensures) (acceleration (x .s)) (x .a2) (x .a3) (c .before .before .answer .given .0 .0))
 
 returns-2 : tie.Need-returns-2
-returns-2 c =
-    let x = c .before .before .before .before .before .before .before .before .before .before .before .before .before .args in
+returns-2 c = let x = c .before .before .before .before .before .before .before .before .before .before .before .before .before .args in
     let b = now (x .book) in
-    leaves (accelerationAt b (x .setting) (x .s .centre) (x .s .moment + x .h) (along (position (x .s)) (stepH (x .h)) (velocity3 (x .h) (x .s) (x .a2)))) _ (lastly (x .h) (x .s) (x .a1) (x .a2) (x .a3)) (bodiesAfter b (x .setting) (x .h) (x .s)) (answered b (x .setting) (x .s .centre) (c .before .before .before .before .before .before .before .before .before .before .before .before .before .pre .1 .1) (x .s .moment + x .h) (along (position (x .s)) (stepH (x .h)) (velocity3 (x .h) (x .s) (x .a2))) _ _ _ _ (rw (c .before .before .before .before .before .before .toward2 .ensures, c .before .before .before .before .before .before .before .seconds .ensures, c .before .before .before .before .before .before .before .before .position-of .ensures, c .before .before .before .before .before .before .before .before .before .toward .ensures, c .before .before .before .before .before .before .before .before .before .before .half-of .ensures, c .before .before .before .before .before .before .before .before .before .before .before .velocity-of .ensures)) (c .before .before .before .before .sights-at .ensures) (c .before .before .before .acceleration-under .ensures) (c .before .answer2 .given .1))
+    let acc = accelerationAt b (x .setting) (x .s .centre) in
+    let P4 = along (position (x .s)) (stepH (x .h)) (velocity3 (x .h) (x .s) (x .a2)) in
+    leaves (acc (x .s .moment + x .h) P4) _ (lastly (keeping acc) (x .h) (x .s) (acceleration (x .s)) (x .a2) (x .a3)) (entriesAfter b (x .setting) (x .h) (x .s))
+    (answered b (x .setting) (x .s .centre) (c .before .before .before .before .before .before .before .before .before .before .before .before .before .pre .1 .1) (x .s .moment + x .h) P4 _ _ _ _ (rw (c .before .before .before .before .before .before .toward2 .ensures, c .before .before .before .before .before .before .before .seconds .ensures, c .before .before .before .before .before .before .before .before .position-of .ensures, c .before .before .before .before .before .before .before .before .before .toward .ensures, c .before .before .before .before .before .before .before .before .before .before .half-of .ensures, c .before .before .before .before .before .before .before .before .before .before .before .velocity-of .ensures)) (c .before .before .before .before .sights-at .ensures) (c .before .before .before .acceleration-under .ensures) (c .before .answer2 .given .1))
 
 pub fourth-stage-spec : {M : Type 1} → statement M
 fourth-stage-spec =

@@ -1,10 +1,10 @@
 -- `motion::stages::second_stage` meets its contract. Assumes nothing.
 use Prim.Native.Nat.{_+_, _/_}
 use denote.Ref.{now}
-use Rattle.state.specs.State.{position, velocity}
+use Rattle.state.specs.State.{position, velocity, acceleration}
 use Rattle.gravity.specs.Acceleration.{accelerationAt}
-use Rattle.motion.specs.Step.{along, half, stage3}
-use Rattle.motion.specs.Kept.{bodiesAfter}
+use Rattle.motion.specs.Step.{along, half, stage3, keeping}
+use Rattle.motion.specs.Kept.{entriesAfter}
 use Rattle.motion.proofs.Answered.{answered, goesOn, leaves}
 use borrow.Author.Needs.{needs}
 use Rattle.motion.proofs.stages.second_stage.Statement.{statement}
@@ -44,16 +44,21 @@ enum-known-answer-2 : tie.Need-enum-known-answer-2
 enum-known-answer-2 c = search needs
 
 returns : tie.Need-returns
-returns c =
-    let x = c .before .before .before .before .before .before .before .before .before .before .before .before .args in
+returns c = let x = c .before .before .before .before .before .before .before .before .before .before .before .before .args in
     let b = now (x .book) in
-    goesOn (accelerationAt b (x .setting) (x .s .centre) (x .s .moment + x .h / 2) (along (position (x .s)) (half (x .h)) (velocity (x .s)))) _ (stage3 (accelerationAt b (x .setting) (x .s .centre)) (x .h) (x .s) (x .a1)) (bodiesAfter b (x .setting) (x .h) (x .s)) _ (answered b (x .setting) (x .s .centre) (c .before .before .before .before .before .before .before .before .before .before .before .before .pre .1 .1) (x .s .moment + x .h / 2) (along (position (x .s)) (half (x .h)) (velocity (x .s))) _ _ _ _ (rw (c .before .before .before .before .before .before .before .toward .ensures, c .before .before .before .before .before .before .before .before .velocity-of .ensures, c .before .before .before .before .before .before .before .before .before .half-of .ensures, c .before .before .before .before .before .before .before .before .before .before .position-of .ensures)) (c .before .before .before .before .before .sights-at .ensures) (c .before .before .before .before .acceleration-under .ensures) (c .before .before .answer .given .1)) (c .third-stage .ensures)
+    let acc = accelerationAt b (x .setting) (x .s .centre) in
+    let P2 = along (position (x .s)) (half (x .h)) (velocity (x .s)) in
+    goesOn (acc (x .s .moment + x .h / 2) P2) _ (stage3 acc (keeping acc) (x .h) (x .s) (acceleration (x .s))) (entriesAfter b (x .setting) (x .h) (x .s)) _
+    (answered b (x .setting) (x .s .centre) (c .before .before .before .before .before .before .before .before .before .before .before .before .pre .1 .1) (x .s .moment + x .h / 2) P2 _ _ _ _ (rw (c .before .before .before .before .before .before .before .toward .ensures, c .before .before .before .before .before .before .before .before .velocity-of .ensures, c .before .before .before .before .before .before .before .before .before .half-of .ensures, c .before .before .before .before .before .before .before .before .before .before .position-of .ensures)) (c .before .before .before .before .before .sights-at .ensures) (c .before .before .before .before .acceleration-under .ensures) (c .before .before .answer .given .1))
+    (c .third-stage .ensures)
 
 returns-2 : tie.Need-returns-2
-returns-2 c =
-    let x = c .before .before .before .before .before .before .before .before .before .before .before .args in
+returns-2 c = let x = c .before .before .before .before .before .before .before .before .before .before .before .args in
     let b = now (x .book) in
-    leaves (accelerationAt b (x .setting) (x .s .centre) (x .s .moment + x .h / 2) (along (position (x .s)) (half (x .h)) (velocity (x .s)))) _ (stage3 (accelerationAt b (x .setting) (x .s .centre)) (x .h) (x .s) (x .a1)) (bodiesAfter b (x .setting) (x .h) (x .s)) (answered b (x .setting) (x .s .centre) (c .before .before .before .before .before .before .before .before .before .before .before .pre .1 .1) (x .s .moment + x .h / 2) (along (position (x .s)) (half (x .h)) (velocity (x .s))) _ _ _ _ (rw (c .before .before .before .before .before .before .toward .ensures, c .before .before .before .before .before .before .before .velocity-of .ensures, c .before .before .before .before .before .before .before .before .half-of .ensures, c .before .before .before .before .before .before .before .before .before .position-of .ensures)) (c .before .before .before .before .sights-at .ensures) (c .before .before .before .acceleration-under .ensures) (c .before .answer2 .given .1))
+    let acc = accelerationAt b (x .setting) (x .s .centre) in
+    let P2 = along (position (x .s)) (half (x .h)) (velocity (x .s)) in
+    leaves (acc (x .s .moment + x .h / 2) P2) _ (stage3 acc (keeping acc) (x .h) (x .s) (acceleration (x .s))) (entriesAfter b (x .setting) (x .h) (x .s))
+    (answered b (x .setting) (x .s .centre) (c .before .before .before .before .before .before .before .before .before .before .before .pre .1 .1) (x .s .moment + x .h / 2) P2 _ _ _ _ (rw (c .before .before .before .before .before .before .toward .ensures, c .before .before .before .before .before .before .before .velocity-of .ensures, c .before .before .before .before .before .before .before .before .half-of .ensures, c .before .before .before .before .before .before .before .before .before .position-of .ensures)) (c .before .before .before .before .sights-at .ensures) (c .before .before .before .acceleration-under .ensures) (c .before .answer2 .given .1))
 
 pub second-stage-spec : {M : Type 1} → statement M
 second-stage-spec =

@@ -1,7 +1,7 @@
--- `orders::state_of` meets its contract, field by field. Assumes nothing.
+-- `orders::injection_of` meets its contract, field by field. Assumes nothing.
 use borrow.Author.Needs.{needs}
-use Rattle.orders.proofs.state_of.Statement.{statement}
-use Rattle.orders.proofs.state_of.Tie as tie
+use Rattle.orders.proofs.injection_of.Statement.{statement}
+use Rattle.orders.proofs.injection_of.Tie as tie
 
 u64-at-requires : tie.Need-u64-at-requires
 u64-at-requires c κs = search needs
@@ -27,8 +27,8 @@ float-at-requires-6 c κs = search needs
 returns : tie.Need-returns
 returns c = rw (c .before .before .before .before .before .before .u64-at .ensures, c .before .before .before .before .before .float-at .ensures, c .before .before .before .before .float-at2 .ensures, c .before .before .before .float-at3 .ensures, c .before .before .float-at4 .ensures, c .before .float-at5 .ensures, c .float-at6 .ensures)
 
-pub state-of-spec : {M : Type 1} → statement M
-state-of-spec =
+pub injection-of-spec : {M : Type 1} → statement M
+injection-of-spec =
     tie.close
     (tie.spec
     u64-at-requires

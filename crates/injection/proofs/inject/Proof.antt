@@ -1,0 +1,27 @@
+-- `injection::inject` meets its contract. Assumes nothing.
+use mathlib.Core.Path.{_≡_, sym, ap, _∙_}
+use Prim.Native.Nat.{ℕ}
+use denote.Ref.{now}
+use borrow.Author.Tests.{ne-eqb}
+use Rattle.injection.specs.Injection.{injectionRefusal, injectionAnswer}
+use Rattle.injection.proofs.Checked.{injectable}
+use borrow.Author.Needs.{needs}
+use Rattle.injection.proofs.inject.Statement.{statement}
+use Rattle.injection.proofs.inject.Tie as tie
+
+injection-refusal-requires : tie.Need-injection-refusal-requires
+injection-refusal-requires c κs = search needs
+
+kept-at-requires : tie.Need-kept-at-requires
+kept-at-requires c κs = injectable _ _ _ (sym (c .before .injection-refusal .ensures) ∙ c .if1 .taken)
+
+returns : tie.Need-returns
+unfolding injectionAnswer
+returns c = let none = sym (c .before .before .injection-refusal .ensures) ∙ c .before .if1 .taken in c .kept-at .ensures ∙ sym (rw none)
+
+returns-2 : tie.Need-returns-2
+unfolding injectionAnswer
+returns-2 c = rw (← c .before .injection-refusal .ensures, ne-eqb _ 0 (c .if1 .left))
+
+pub inject-spec : {M : Type 1} → statement M
+inject-spec = tie.close (tie.spec injection-refusal-requires kept-at-requires returns returns-2)

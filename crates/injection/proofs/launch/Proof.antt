@@ -1,0 +1,18 @@
+-- `injection::launch` meets its contract. Assumes nothing.
+use Rattle.injection.specs.Injection.{launched}
+use borrow.Author.Needs.{needs}
+use Rattle.injection.proofs.launch.Statement.{statement}
+use Rattle.injection.proofs.launch.Tie as tie
+
+inject-requires : tie.Need-inject-requires
+inject-requires c κs = search needs
+
+or-none-requires : tie.Need-or-none-requires
+or-none-requires c κs = search needs
+
+returns : tie.Need-returns
+unfolding launched
+returns c = rw (c .or-none .ensures, c .before .inject .ensures)
+
+pub launch-spec : {M : Type 1} → statement M
+launch-spec = tie.close (tie.spec inject-requires or-none-requires returns)
