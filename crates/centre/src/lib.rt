@@ -26,7 +26,7 @@ pub enum MoveAnswer {
 }
 
 // A body where an entry covers the moment: where it stands and how fast it goes, seen from the Earth.
-enum Seen {
+pub enum Seen {
     Covered(Motion),
     Uncovered,
 }

@@ -64,7 +64,7 @@ module _ (b : List ℕ) (setting : Setting) (h target : ℕ) where
         let reach = r .reach in
         tellsAs Going is .0 (omega arith)
 
-  afterStuck : (k : ℕ) (s : State) (calls : List Call) → Stuck b setting h target k s → after b setting h target s calls ≡ s
+  pub afterStuck : (k : ℕ) (s : State) (calls : List Call) → Stuck b setting h target k s → after b setting h target s calls ≡ s
   afterStuck k s [] stuck = refl
   afterStuck k s (call ∷ calls) stuck = rw (again b setting h target k s call stuck) (afterStuck k s calls stuck)
 

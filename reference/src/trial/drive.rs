@@ -39,21 +39,18 @@ impl Options {
     }
 }
 
-/// Compares case after case, on a thread for each processor; `differs` is told which thread asks, and says in words what differs. The
-/// answer numbered `spoil` is to be spoiled, and none behind it is looked at; 0 is none.
-pub fn count<T: Sync>(
-    mut list: Vec<T>, spoil: u64, differs: impl Fn(usize, &T, bool) -> Result<Option<String>, String> + Sync,
-) -> Result<bool, String> {
-    if spoil > 0 {
-        list.truncate(spoil as usize);
-    }
+/// Works through a list on a thread for each processor; `work` is told which thread it is on and which case it has. The answers in the
+/// list's order.
+pub fn on_threads<T: Sync, R: Send>(
+    list: &[T], work: impl Fn(usize, usize, &T) -> Result<R, String> + Sync,
+) -> Result<Vec<R>, String> {
     let (next, (send, receive)) = (AtomicUsize::new(0), channel());
     scope(|s| {
         for thread in 0..available_parallelism().map_or(1, usize::from) {
-            let (list, next, differs, send) = (&list, &next, &differs, send.clone());
+            let (next, work, send) = (&next, &work, send.clone());
             s.spawn(move || {
                 while let Some((i, case)) = Some(next.fetch_add(1, Ordering::Relaxed)).and_then(|i| Some((i, list.get(i)?))) {
-                    let said = differs(thread, case, i as u64 + 1 == spoil);
+                    let said = work(thread, i, case);
                     if said.is_err() {
                         next.store(list.len(), Ordering::Relaxed);
                     }
@@ -64,13 +61,28 @@ pub fn count<T: Sync>(
     });
     drop(send);
     let said: BTreeMap<usize, _> = receive.iter().collect();
-    let said = said.into_values().collect::<Result<Vec<_>, String>>()?;
+    said.into_values().collect()
+}
+
+/// Compares case after case; `differs` is told which thread asks, and says in words what differs. The answer numbered `spoil` is to be
+/// spoiled, and none behind it is looked at; 0 is none.
+pub fn count<T: Sync>(
+    mut list: Vec<T>, spoil: u64, differs: impl Fn(usize, &T, bool) -> Result<Option<String>, String> + Sync,
+) -> Result<bool, String> {
+    if spoil > 0 {
+        list.truncate(spoil as usize);
+    }
+    Ok(told(&on_threads(&list, |thread, i, case| differs(thread, case, i as u64 + 1 == spoil))?))
+}
+
+/// Shows the first that differ, and how many were compared; whether there were some and all are alike.
+pub fn told(said: &[Option<String>]) -> bool {
     let differing: Vec<&String> = said.iter().flatten().collect();
     for what in differing.iter().take(SHOWN) {
         println!("{what}");
     }
     println!("{} compared, {} differ", said.len(), differing.len());
-    Ok(!said.is_empty() && differing.is_empty())
+    !said.is_empty() && differing.is_empty()
 }
 
 /// How many there are of each sort, in one line.

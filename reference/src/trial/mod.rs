@@ -8,6 +8,7 @@ pub mod chance;
 pub mod damage;
 pub mod extras;
 pub mod floats;
+pub mod fuller;
 pub mod lines;
 pub mod listings;
 pub mod moonward;
@@ -34,9 +35,11 @@ pub mod stored;
 pub mod strips;
 pub mod tables;
 pub mod terms;
+pub mod travel;
 pub mod unreadable;
 
 // Plan: how many of each, and with which books.
+pub mod nights;
 pub mod plan;
 
 // Report: programs started, answers compared and counted.
@@ -44,3 +47,4 @@ pub mod child;
 pub mod compare;
 pub mod drive;
 pub mod report;
+pub mod unchanged;

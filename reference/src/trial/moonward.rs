@@ -54,15 +54,16 @@ fn state_from(answer: &str) -> Option<usize> {
     }
 }
 
-/// Where the flight stands, in the fields of a line.
-struct Place {
-    state: Vec<String>,
-    guesses: Vec<String>,
+/// Where a flight stands, in the fields of a line.
+#[derive(Clone, Debug)]
+pub struct Place {
+    pub state: Vec<String>,
+    pub guesses: Vec<String>,
 }
 
 impl Place {
-    /// From an answer; whether the call is still going.
-    fn take(&mut self, answer: &str) -> Result<bool, String> {
+    /// From an answer; whether the call is still going. A refusal has no place.
+    pub fn take(&mut self, answer: &str) -> Result<bool, String> {
         let list: Vec<String> = answer.split(' ').map(str::to_string).collect();
         let from = state_from(answer).ok_or_else(|| answer.to_string())?;
         self.state = list.get(from..from + fields::STATE).ok_or_else(|| answer.to_string())?.to_vec();
@@ -72,7 +73,7 @@ impl Place {
         Ok(list[0] == "GOING")
     }
 
-    fn moment(&self) -> Result<u64, String> {
+    pub fn moment(&self) -> Result<u64, String> {
         self.state[0].parse().map_err(|_| format!("{}: no moment", self.state[0]))
     }
 }
