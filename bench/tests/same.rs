@@ -2,6 +2,7 @@
 //! run hands back, bit by bit.
 
 use belfrywool as proved;
+use bench::{best, plain};
 use reference::extras::Extras;
 use reference::hour::CIRCLE;
 use reference::sphere::QUARTER;
@@ -211,12 +212,21 @@ fn on_a_book(c: &mut Chance, w: &World, t: &Trip) {
     assert_eq!(got, expected, "{what}");
 }
 
+/// The bench's other walks, where they are the reference's: in a calm book. Document 01's has no guesses.
+fn other_shapes(book: &[u8], t: &Trip, other: &motion::Ran, what: &str) {
+    let Some(ran) = best::run(book, &t.setting, &t.state, t.h, t.target, t.budget, t.guesses) else { return };
+    assert_eq!(back(&ran), back(other), "best shape: {what}");
+    let ran = plain::run(book, &t.setting, &t.state, t.h, t.target, t.budget);
+    assert_eq!(back(&motion::Ran { guesses: other.guesses, ..ran }), back(other), "document 01's walk: {what}");
+}
+
 /// The calls about any centre, and moves from it.
 fn about_a_centre(c: &mut Chance, w: &World, t: &Trip) {
     let (book, what) = (w.bytes(), format!("{} {}", w.name, t.fly_line()));
     let (setting, state) = given(t);
     let (ran, other) = (proved::fly(book, &setting, &state, t.h, t.target, t.budget, &t.guesses), t.fly(book));
     assert_eq!(proved_back(&ran), back(&other), "{what}");
+    other_shapes(book, t, &other, &what);
     assert_eq!(proved_nine(&ran.state), nine(&other.state), "{what}");
     let expected = rule::inject(book, &t.setting, &t.state).map(|s| nine(&s));
     assert_eq!(proved::inject(book, &setting, &state).map(|s| proved_nine(&s)), expected, "{what}");

@@ -30,24 +30,30 @@ pub fn blend(base: Vector, sixth: f64, k: [Vector; 4]) -> Vector {
     new
 }
 
-/// One step of h milliseconds. The first slope is the acceleration kept, and the new state has its own, or the step is refused.
-pub fn step(book: &[u8], setting: &Setting, s: &State, h: u32) -> Result<State, u64> {
+/// One step of h milliseconds, by a rule for the acceleration at a moment and a position. The first slope is the acceleration kept, and
+/// the new state has its own, or the step is refused.
+pub fn step_by(mut rule: impl FnMut(u64, Vector) -> Result<Vector, u64>, s: &State, h: u32) -> Result<State, u64> {
     let whole = f64::from(h) / 1000.0;
     let half = whole * 0.5;
     let (t, p, v, a1) = (s.moment, s.position, s.velocity, s.acceleration);
     let middle = t.saturating_add(u64::from(h) / 2);
     let last = t.saturating_add(u64::from(h));
     let (p2, v2) = (along(p, half, v), along(v, half, a1));
-    let a2 = slope(book, setting, middle, s.centre, p2)?;
+    let a2 = rule(middle, p2)?;
     let (p3, v3) = (along(p, half, v2), along(v, half, a2));
-    let a3 = slope(book, setting, middle, s.centre, p3)?;
+    let a3 = rule(middle, p3)?;
     let (p4, v4) = (along(p, whole, v3), along(v, whole, a3));
-    let a4 = slope(book, setting, last, s.centre, p4)?;
+    let a4 = rule(last, p4)?;
     let position = blend(p, whole / 6.0, [v, v2, v3, v4]);
     let velocity = blend(v, whole / 6.0, [a1, a2, a3, a4]);
     let next = State { moment: last, position, velocity, ..*s };
     next.finite()?;
-    ruled(book, setting, &next)
+    Ok(State { acceleration: rule(last, position)?, ..next })
+}
+
+/// The same by the acceleration's own rule.
+pub fn step(book: &[u8], setting: &Setting, s: &State, h: u32) -> Result<State, u64> {
+    step_by(|t, p| slope(book, setting, t, s.centre, p), s, h)
 }
 
 /// What is stored is the rule's, bit by bit: the rule's own 6 or 7, then 15.
@@ -86,8 +92,8 @@ pub fn start_checks(book: &[u8], setting: &Setting, s: &State, h: u32, target: u
 }
 
 /// Steps until the target, the end of the budget or a refusal.
-pub fn walk(
-    book: &[u8], setting: &Setting, from: &State, h: u32, target: u64, budget: u32,
+pub fn walk_by(
+    mut step: impl FnMut(&State) -> Result<State, u64>, from: &State, target: u64, budget: u32,
 ) -> (Outcome, u64, State) {
     let (mut state, mut steps) = (*from, 0u64);
     loop {
@@ -97,12 +103,19 @@ pub fn walk(
         if steps == u64::from(budget) {
             return (Outcome::Going, steps, state);
         }
-        match step(book, setting, &state, h) {
+        match step(&state) {
             Ok(next) => state = next,
             Err(number) => return (Outcome::Refused(number), steps, state),
         }
         steps += 1;
     }
+}
+
+/// The same, of h milliseconds each.
+pub fn walk(
+    book: &[u8], setting: &Setting, from: &State, h: u32, target: u64, budget: u32,
+) -> (Outcome, u64, State) {
+    walk_by(|s| step(book, setting, s, h), from, target, budget)
 }
 
 /// The run call. The guesses are not used for looking up, only given back.

@@ -85,7 +85,11 @@ pub fn lookups(book: &[u8], setting: &Setting, t: u64) -> Result<[Vector; 7], u6
 
 /// The acceleration's own rule, for a book that passes and a setting and a centre that are allowed.
 pub fn slope(book: &[u8], setting: &Setting, t: u64, centre: u64, p: Vector) -> Result<Vector, u64> {
-    let places = lookups(book, setting, t)?;
+    slope_under(&lookups(book, setting, t)?, setting, centre, p)
+}
+
+/// The same with the bodies looked up.
+pub fn slope_under(places: &[Vector; 7], setting: &Setting, centre: u64, p: Vector) -> Result<Vector, u64> {
     let centre = centre as usize;
     let g = pull(p, setting.coefficients[centre - 1])?;
     let mut a = [-g[0], -g[1], -g[2]];

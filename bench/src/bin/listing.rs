@@ -1,15 +1,18 @@
-//! `listing BOOK ORDER TIMES PROGRAM [WORDS]`: the program `strip`, started by PROGRAM and WORDS, beside a Rust walk that
-//! prints the same listing (this program as `listing walk`). The flight is the order's state with the Earth, the Moon and the
-//! Sun for thirty days at one-minute steps. What they print is compared first; then each is started TIMES times, one after the
-//! other in turn, and the least time of each is printed, with the first over the second.
+//! `listing BOOK ORDER TIMES PROGRAM [WORDS]`: the program `strip`, started by PROGRAM and WORDS, beside Rust walks that
+//! print the same listing: document 01's, the reference's and the best shape (this program with `plain`, `walk` or `best`). The flight is the
+//! order's state with the Earth, the Moon and the Sun for thirty days at one-minute steps. What they print is compared first; then
+//! each is started TIMES times, one after the other in turn, and the least time of each is printed as a row of `bench/table`.
 
 use std::io::{self, Read, Write};
 use std::process::ExitCode;
 
-use bench::{race, thirty_days};
+use bench::best::Best;
+use bench::flights::row;
+use bench::plain;
+use bench::race::{race, thirty_days};
 use reference::motion::{of_an_order, start_checks, step};
 use reference::rule::State;
-use reference::strip::{read_order, ORDER};
+use reference::strip::{read_order, Order, ORDER};
 
 /// Lines of a listing, gathered in a buffer as large as a pipe.
 struct Lines {
@@ -43,33 +46,41 @@ impl Lines {
     }
 }
 
-/// The walk of an order and a book on standard input, with its listing.
-fn walk() -> io::Result<()> {
-    let mut input = Vec::new();
-    io::stdin().lock().read_to_end(&mut input)?;
-    let Some(order) = read_order(&input) else { return Ok(()) };
-    let book = &input[ORDER..];
-    let mut state = of_an_order(book, &order.setting, &order.state);
-    let mut lines = Lines { out: io::stdout().lock(), text: Vec::with_capacity(65_536) };
-    if let Err(number) = start_checks(book, &order.setting, &state, order.h, order.target) {
-        writeln!(lines.text, "REFUSED {number}")?;
-        return lines.flush();
-    }
+/// The listing of a walk from a state that passed the checks, by a step.
+fn walked(
+    lines: &mut Lines, order: &Order, from: State, mut step: impl FnMut(&State) -> Result<State, u64>,
+) -> io::Result<()> {
+    let (mut state, mut steps) = (from, 0u64);
     writeln!(lines.text, "STRIP {}", order.h)?;
     lines.state(&state)?;
-    let mut steps = 0u64;
     while state.moment != order.target {
-        match step(book, &order.setting, &state, order.h) {
+        match step(&state) {
             Ok(next) => state = next,
-            Err(number) => {
-                writeln!(lines.text, "REFUSED {number} {steps}")?;
-                return lines.flush();
-            }
+            Err(number) => return writeln!(lines.text, "REFUSED {number} {steps}"),
         }
         steps += 1;
         lines.state(&state)?;
     }
-    writeln!(lines.text, "ARRIVED {steps}")?;
+    writeln!(lines.text, "ARRIVED {steps}")
+}
+
+/// The walk of an order and a book on standard input, with its listing, in the shape that a word names.
+fn walk(shape: &str) -> io::Result<()> {
+    let mut input = Vec::new();
+    io::stdin().lock().read_to_end(&mut input)?;
+    let Some(order) = read_order(&input) else { return Ok(()) };
+    let (book, setting, h) = (&input[ORDER..], &order.setting, order.h);
+    let state = of_an_order(book, setting, &order.state);
+    let mut lines = Lines { out: io::stdout().lock(), text: Vec::with_capacity(65_536) };
+    if let Err(number) = start_checks(book, setting, &state, h, order.target) {
+        writeln!(lines.text, "REFUSED {number}")?;
+    } else if shape == "plain" {
+        walked(&mut lines, &order, state, |s| plain::step(book, setting, s, h))?;
+    } else if shape == "walk" {
+        walked(&mut lines, &order, state, |s| step(book, setting, s, h))?;
+    } else if let Some(mut best) = Best::new(book, setting, state.centre) {
+        walked(&mut lines, &order, state, |s| best.step(s, h))?;
+    }
     lines.flush()
 }
 
@@ -80,19 +91,22 @@ fn bench(words: &[String]) -> io::Result<bool> {
     else {
         return Ok(false);
     };
-    let (listing, [strip, walk]) = race(program, "walk", &input, times)?;
-    println!("{} bytes, the same; its last line: {}", listing.len(), String::from_utf8_lossy(&listing).lines().last().unwrap_or(""));
-    println!("strip {strip:.1} ms, a Rust walk that prints the same {walk:.1} ms, ratio {:.2}", strip / walk);
+    let (listing, least) = race(program, &["plain", "walk", "best"], &input, times)?;
+    let name = format!("`strip` with its listing ({} bytes), the whole program", listing.len());
+    println!("{}", row(&name, [least[0], least[1], least[2], least[3]]));
     Ok(true)
 }
 
 fn main() -> ExitCode {
     let words: Vec<String> = std::env::args().skip(1).collect();
-    let done = if words == ["walk"] { walk().map(|()| true) } else { bench(&words) };
+    let done = match words.first().map(String::as_str) {
+        Some(shape @ ("plain" | "walk" | "best")) => walk(shape).map(|()| true),
+        _ => bench(&words),
+    };
     match done {
         Ok(true) => ExitCode::SUCCESS,
         Ok(false) => {
-            eprintln!("listing BOOK ORDER TIMES PROGRAM [WORDS] | listing walk");
+            eprintln!("listing BOOK ORDER TIMES PROGRAM [WORDS] | listing plain | listing walk | listing best");
             ExitCode::from(2)
         }
         Err(error) => {

@@ -5,7 +5,7 @@
 use std::io::{self, Read, Write};
 use std::process::ExitCode;
 
-use bench::{race, thirty_days};
+use bench::race::{race, thirty_days};
 use reference::{strip::strip, table};
 
 /// The rows of a listing on standard input.
@@ -25,7 +25,8 @@ fn bench(words: &[String]) -> io::Result<bool> {
         return Ok(false);
     };
     let listing = strip(&input);
-    let (rows, [proved, rust]) = race(program, "table", &listing, times)?;
+    let (rows, least) = race(program, &["table"], &listing, times)?;
+    let (proved, rust) = (least[0], least[1]);
     println!("{} bytes give {}, the same", listing.len(), rows.len());
     println!("table {proved:.1} ms, the Rust version {rust:.1} ms, ratio {:.2}", proved / rust);
     Ok(true)
