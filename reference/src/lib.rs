@@ -12,6 +12,7 @@ pub mod hour;
 pub mod listing;
 pub mod motion;
 pub mod moves;
+pub mod pane;
 pub mod parting;
 pub mod pull;
 pub mod repair;

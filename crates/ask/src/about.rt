@@ -1,26 +1,26 @@
 // The calls about a state and its motion. An old line is the new one about the Earth, with J, A and K zero, by the old rule, from the
 // acceleration that the rule gives.
 
-use crate::form::Numbers;
-use crate::form::reads;
-use crate::put::Out;
-use crate::put::put_floats;
-use crate::put::put_numbers;
-use crate::put::put_refused;
-use crate::values::guesses_from;
-use crate::values::injection_from;
-use crate::values::narrowed;
-use crate::values::nth_float;
-use crate::values::old_setting;
-use crate::values::setting_of;
-use crate::values::sphere_of;
-use crate::values::state_from;
-use crate::values::unkept_from;
-use crate::values::vector_from;
 use book::PositionAnswer;
 use centre::MoveAnswer;
 use conic::Conic;
 use conic::ConicAnswer;
+use dialogue::form::Numbers;
+use dialogue::form::reads;
+use dialogue::put::Out;
+use dialogue::put::put_floats;
+use dialogue::put::put_numbers;
+use dialogue::put::put_refused;
+use dialogue::values::guesses_from;
+use dialogue::values::injection_from;
+use dialogue::values::narrowed;
+use dialogue::values::nth_float;
+use dialogue::values::old_setting;
+use dialogue::values::setting_of;
+use dialogue::values::sphere_of;
+use dialogue::values::state_from;
+use dialogue::values::unkept_from;
+use dialogue::values::vector_from;
 use fixed::FixedAnswer;
 use gravity::AccelerationAnswer;
 use injection::InjectionAnswer;
@@ -30,7 +30,7 @@ use sphere::SphereAnswer;
 use state::Setting;
 use state::State;
 ghost use Prim.Native.Nat.{_+_, _≤_};
-ghost use Rattle.ask.specs.Room.{Between};
+ghost use Rattle.dialogue.specs.Room.{Between};
 
 fn put_coordinates(out: &mut Out, at: usize, s: State) -> usize
     requires { ⌜ at + 102 ≤ 65_536 ⌝ }

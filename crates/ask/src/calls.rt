@@ -1,22 +1,22 @@
 // The calls: each takes the numbers of its fields and writes its answer from a place of `out` on.
 
 use crate::about::state_call;
-use crate::form::Numbers;
-use crate::form::reads;
-use crate::put::Out;
-use crate::put::put_floats;
-use crate::put::put_numbers;
-use crate::put::put_refused;
-use crate::values::narrowed;
-use crate::values::nth_float;
 use calendar::Calendar;
 use calendar::DateAnswer;
 use calendar::DayAnswer;
+use dialogue::form::Numbers;
+use dialogue::form::reads;
+use dialogue::put::Out;
+use dialogue::put::put_floats;
+use dialogue::put::put_numbers;
+use dialogue::put::put_refused;
+use dialogue::values::narrowed;
+use dialogue::values::nth_float;
 use hour::HourAnswer;
 use root::RootAnswer;
 use sine::SineCosineAnswer;
 ghost use Prim.Native.Nat.{_+_, _≤_};
-ghost use Rattle.ask.specs.Room.{Between};
+ghost use Rattle.dialogue.specs.Room.{Between};
 
 fn root_answer(v: &Numbers, out: &mut Out, at: usize) -> usize
     requires { ⌜ at + 512 ≤ 65_536 ⌝ }

@@ -3,11 +3,8 @@
 
 mod about;
 mod calls;
-mod form;
-mod put;
-mod values;
 
-use put::Out;
+use dialogue::put::Out;
 ghost use Prim.Native.Nat.{_+_, _≤_};
 ghost use lib.ListN.{length};
 

@@ -1,10 +1,10 @@
 //! The reference as a program: `reference ask [BOOK]`, `reference strip`, `reference strip144`, `reference repair`,
-//! `reference compare FIRST SECOND`, `reference table` and `reference precession`, a line for each year from 1950 on: its day and the nine elements.
+//! `reference compare FIRST SECOND`, `reference table`, `reference pane` and `reference precession`, a line for each year from 1950 on: its day and the nine elements.
 
 use std::io::{self, BufWriter, Read, Write};
 use std::process::ExitCode;
 
-use reference::{ask, book, calendar, fixed, hour, parting, repair, strip, table};
+use reference::{ask, book, calendar, fixed, hour, pane, parting, repair, strip, table};
 
 fn standard_input() -> io::Result<Vec<u8>> {
     let mut input = Vec::new();
@@ -38,6 +38,7 @@ fn answer(words: &[String]) -> io::Result<bool> {
             }
         }
         ["compare", first, second] => out.write_all(&parting::report(&std::fs::read(first)?, &std::fs::read(second)?))?,
+        ["pane"] => pane::live(io::stdin().lock(), &mut out)?,
         ["table"] => {
             let (rows, refused) = table::table(&standard_input()?);
             out.write_all(&rows)?;
@@ -54,7 +55,7 @@ fn main() -> ExitCode {
     match answer(&words) {
         Ok(true) => ExitCode::SUCCESS,
         Ok(false) => {
-            eprintln!("reference ask [BOOK] | reference strip | reference strip144 | reference repair | reference compare FIRST SECOND | reference table | reference precession");
+            eprintln!("reference ask [BOOK] | reference strip | reference strip144 | reference repair | reference compare FIRST SECOND | reference table | reference pane | reference precession");
             ExitCode::from(2)
         }
         Err(error) => {

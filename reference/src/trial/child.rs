@@ -89,3 +89,14 @@ pub fn talk_both(command: &[String], word: Option<&str>, input: &[u8]) -> Result
     writer.join().map_err(|_| "the input was not written")?;
     Ok((output, reader.join().map_err(|_| "the report was not read")?))
 }
+
+/// An output line by line, with their line feeds: so many at most, and what comes behind the last of them belongs to it.
+pub fn by_line(output: &[u8], most: usize) -> Vec<Vec<u8>> {
+    let lines: Vec<&[u8]> = output.split_inclusive(|&b| b == b'\n').collect();
+    let last = most.saturating_sub(1).min(lines.len());
+    let mut list: Vec<Vec<u8>> = lines[..last].iter().map(|line| line.to_vec()).collect();
+    if lines.len() > last {
+        list.push(lines[last..].concat());
+    }
+    list
+}

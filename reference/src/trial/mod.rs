@@ -26,6 +26,7 @@ pub mod leaves;
 pub mod lookups;
 pub mod mends;
 pub mod moving;
+pub mod outage;
 pub mod pairs;
 pub mod runs;
 pub mod sizes;
@@ -40,6 +41,7 @@ pub mod unreadable;
 
 // Plan: how many of each, and with which books.
 pub mod nights;
+pub mod panes;
 pub mod plan;
 
 // Report: programs started, answers compared and counted.

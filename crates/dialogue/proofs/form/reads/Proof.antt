@@ -1,0 +1,22 @@
+-- `dialogue::form::reads` meets its contract. Assumes nothing.
+use borrow.Author.Needs.{needs}
+use Rattle.dialogue.specs.Call.{callOf}
+use Rattle.dialogue.proofs.form.reads.Statement.{statement}
+use Rattle.dialogue.proofs.form.reads.Tie as tie
+
+starts-with-requires : tie.Need-starts-with-requires
+starts-with-requires c κs = search needs
+
+fields-from-requires : tie.Need-fields-from-requires
+fields-from-requires c κs = search needs
+
+returns : tie.Need-returns
+unfolding callOf
+returns c = rw (← c .before .before .before .starts-with .ensures, c .before .before .if1 .taken) (c .fields-from .ensures)
+
+returns-2 : tie.Need-returns-2
+unfolding callOf
+returns-2 c = rw (← c .before .starts-with .ensures, c .if1 .left)
+
+pub reads-spec : {M : Type 1} → statement M
+reads-spec = tie.close (tie.spec starts-with-requires fields-from-requires returns returns-2)

@@ -1,0 +1,56 @@
+// Rows of numbers in an answer, each number with a space behind it.
+
+ghost use Prim.Native.Nat.{_+_, _*_, _≤_};
+ghost use lib.ListN.{length};
+ghost use Rattle.dialogue.specs.Room.{Between};
+
+// Answers that are not written out yet. Each has at most 512 bytes.
+pub type Out = [u8; 65536];
+
+fn put_number(out: &mut Out, from: usize, number: u64) -> usize
+    requires { ⌜ from + 21 ≤ 65_536 ⌝ }
+    ensures { λ r. ⌜ Between from 1 21 r ⌝ }
+{
+    let at = text::known::put_decimal(out, from, number);
+    out[at] = b' ';
+    at + 1
+}
+
+fn put_float(out: &mut Out, from: usize, x: f64) -> usize
+    requires { ⌜ from + 17 ≤ 65_536 ⌝ }
+    ensures { λ r. ⌜ Between from 1 17 r ⌝ }
+{
+    let at = text::known::put_float(out, from, x);
+    out[at] = b' ';
+    at + 1
+}
+
+pub fn put_numbers(out: &mut Out, from: usize, row: &[u64]) -> usize
+    requires { ⌜ from + 21 * length (now row) ≤ 65_536 ⌝ }
+    ensures { λ r. ⌜ Between from (length (now (row .entry))) (21 * length (now (row .entry))) r ⌝ }
+{
+    let mut at = from;
+    for i in 0..row.len() {
+        at = put_number(out, at, row[i]);
+    }
+    at
+}
+
+pub fn put_floats(out: &mut Out, from: usize, row: &[f64]) -> usize
+    requires { ⌜ from + 17 * length (now row) ≤ 65_536 ⌝ }
+    ensures { λ r. ⌜ Between from (length (now (row .entry))) (17 * length (now (row .entry))) r ⌝ }
+{
+    let mut at = from;
+    for i in 0..row.len() {
+        at = put_float(out, at, row[i]);
+    }
+    at
+}
+
+pub fn put_refused(out: &mut Out, from: usize, number: u64) -> usize
+    requires { ⌜ from + 29 ≤ 65_536 ⌝ }
+    ensures { λ r. ⌜ Between from 1 29 r ⌝ }
+{
+    let at = text::known::put_bytes(out, from, b"REFUSED ");
+    put_number(out, at, number)
+}

@@ -1,0 +1,4 @@
+pub mod Frames
+pub mod Taken
+pub mod Night
+pub mod OneAnswer

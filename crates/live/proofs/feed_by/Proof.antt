@@ -1,0 +1,41 @@
+-- `live::feed_by` meets its contract. Assumes nothing.
+use borrow.Author.Needs.{needs}
+use Rattle.live.proofs.feed_by.Statement.{statement}
+use Rattle.live.proofs.feed_by.Tie as tie
+
+enum-told : tie.Need-enum-told
+enum-told c = search needs
+
+take-requires : tie.Need-take-requires
+take-requires c κs = search needs
+
+enum-told-2 : tie.Need-enum-told-2
+enum-told-2 c = search needs
+
+take-requires-2 : tie.Need-take-requires-2
+take-requires-2 c κs = search needs
+
+enum-known-outcome : tie.Need-enum-known-outcome
+enum-known-outcome c = search needs
+
+returns : tie.Need-returns
+returns c = rw (c .before .enum-told .given .1) (c .take .ensures)
+
+returns-2 : tie.Need-returns-2
+returns-2 c = rw (c .before .enum-told2 .given .1) (c .take2 .ensures)
+
+returns-3 : tie.Need-returns-3
+returns-3 c = rw (c .before .outcome .given .1)
+
+pub feed-by-spec : {M : Type 1} → statement M
+feed-by-spec =
+    tie.close
+    (tie.spec
+    enum-told
+    take-requires
+    enum-told-2
+    take-requires-2
+    enum-known-outcome
+    returns
+    returns-2
+    returns-3)

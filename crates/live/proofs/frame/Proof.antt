@@ -1,0 +1,41 @@
+-- `live::frame` meets its contract. Assumes nothing.
+use Rattle.live.specs.Pane.{frameAt}
+use borrow.Author.Needs.{needs}
+use Rattle.live.proofs.frame.Statement.{statement}
+use Rattle.live.proofs.frame.Tie as tie
+
+enum-told : tie.Need-enum-told
+enum-told c = search needs
+
+enum-known-pane : tie.Need-enum-known-pane
+enum-known-pane c = search needs
+
+enum-known-pane-2 : tie.Need-enum-known-pane-2
+enum-known-pane-2 c = search needs
+
+frame-between-requires : tie.Need-frame-between-requires
+frame-between-requires c κs = search needs
+
+returns : tie.Need-returns
+unfolding frameAt
+returns c = rw (c .enum-told .given .1)
+
+returns-2 : tie.Need-returns-2
+unfolding frameAt
+returns-2 c = rw (c .before .pane .given .1)
+
+returns-3 : tie.Need-returns-3
+unfolding frameAt
+returns-3 c = rw (c .before .before .pane2 .given .1) (c .frame-between .ensures)
+
+pub frame-spec : {M : Type 1} → statement M
+frame-spec =
+    tie.close
+    (tie.spec
+    enum-told
+    enum-known-pane
+    enum-known-pane-2
+    frame-between-requires
+    returns
+    returns-2
+    returns-3)

@@ -1,0 +1,45 @@
+-- `live::take` meets its contract. Assumes nothing.
+use Rattle.live.specs.Pane.{take}
+use borrow.Author.Needs.{needs}
+use Rattle.live.proofs.take.Statement.{statement}
+use Rattle.live.proofs.take.Tie as tie
+
+enum-told : tie.Need-enum-told
+enum-told c = search needs
+
+enum-known-pane : tie.Need-enum-known-pane
+enum-known-pane c = search needs
+
+taken-after-requires : tie.Need-taken-after-requires
+taken-after-requires c κs = search needs
+
+enum-known-pane-2 : tie.Need-enum-known-pane-2
+enum-known-pane-2 c = search needs
+
+taken-after-requires-2 : tie.Need-taken-after-requires-2
+taken-after-requires-2 c κs = search needs
+
+returns : tie.Need-returns
+unfolding take
+returns c = rw (c .enum-told .given .1)
+
+returns-2 : tie.Need-returns-2
+unfolding take
+returns-2 c = rw (c .before .before .pane .given .1) (c .taken-after .ensures)
+
+returns-3 : tie.Need-returns-3
+unfolding take
+returns-3 c = rw (c .before .before .pane2 .given .1) (c .taken-after2 .ensures)
+
+pub take-spec : {M : Type 1} → statement M
+take-spec =
+    tie.close
+    (tie.spec
+    enum-told
+    enum-known-pane
+    taken-after-requires
+    enum-known-pane-2
+    taken-after-requires-2
+    returns
+    returns-2
+    returns-3)

@@ -1,0 +1,34 @@
+-- Document 02, R-14, in the desk's words: what the pane never does, and what it always is.
+use mathlib.Core.List.{List, [], _∷_}
+use mathlib.Core.Path.{_≡_}
+use Prim.Native.Nat.{ℕ, _≤_, _<_}
+use Rattle.state.specs.State.{position}
+use Rattle.state.specs.declared.State.{State}
+use Rattle.state.specs.declared.Vector.{Vector}
+use Rattle.motion.specs.declared.RunAnswer.{RunAnswer}
+use Rattle.live.specs.Pane.{take, feed, after}
+use Rattle.live.specs.declared.Pane.{Pane}
+use Rattle.live.specs.declared.Pane.the-variants.{Blank, One, Two}
+
+-- older and newer rise in time and agree in centre
+pub record Risen (a b : State) : Type 0 where
+  pub later : a .moment < b .moment
+  pub centre : b .centre ≡ a .centre
+
+abbrev pub InOrder : Pane → Type 0
+InOrder Blank = Unit {0}
+InOrder (One a) = Unit {0}
+InOrder (Two a b) = Risen a b
+
+-- a position shown at t lies between two states that the pane holds, of one centre
+pub record Shown (pane : Pane) (t : ℕ) (p : Vector) : Type 0 where
+  pub older : State
+  pub newer : State
+  pub held : pane ≡ Two older newer
+  pub from : older .moment ≤ t
+  pub until : t ≤ newer .moment
+
+-- the pane after the answers of runs, one after the other
+abbrev pub fed : Pane → List RunAnswer → Pane
+fed pane [] = pane
+fed pane (r ∷ rs) = fed (after pane (feed pane r)) rs

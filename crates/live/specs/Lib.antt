@@ -1,0 +1,2 @@
+pub mod Pane
+pub mod Laws
