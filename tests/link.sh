@@ -1,5 +1,5 @@
 #!/bin/sh
-# Builds the four archives of the exported calls and the two examples over them, and compares what they print with document 01's
+# Builds the five archives of the exported calls and the two examples over them, and compares what they print with document 01's
 # figures; then every call with the Rust reference, on inputs from a seed. One line for each check; ends with 1 if one failed.
 #
 # The archives are for x86-64. On another machine, or with LINK_NATIVE=1, the modules that they are made of are compiled for this
@@ -29,7 +29,7 @@ native_archive() { # NAME
 }
 
 c_example() {
-    cc -std=c99 -Wall -Wextra -Werror -O2 -Icrates/link -o "$work/c-link" examples/c-link/main.c "$archive/liblink.a" "$archive/libcentrelink.a" "$archive/libalmanaclink.a" "$archive/libmendlink.a" &&
+    cc -std=c99 -Wall -Wextra -Werror -O2 -Icrates/link -o "$work/c-link" examples/c-link/main.c "$archive/liblink.a" "$archive/libcentrelink.a" "$archive/libalmanaclink.a" "$archive/libmendlink.a" "$archive/libpanelink.a" &&
         "$work/c-link" data/books/book30.bin >"$work/c-link.out" && diff examples/link.expected "$work/c-link.out"
 }
 
@@ -48,6 +48,7 @@ if [ "$machine" = x86_64 ] && [ -z "${LINK_NATIVE:-}" ]; then
     check archive-about-a-centre rt staticlib centrelink
     check archive-without-state rt staticlib almanaclink
     check archive-of-repair rt staticlib mendlink
+    check archive-of-the-pane rt staticlib panelink
 else
     echo "this machine is $machine: the archives' modules are compiled for it"
     archive=$work
@@ -55,6 +56,7 @@ else
     check archive-about-a-centre native_archive centrelink
     check archive-without-state native_archive almanaclink
     check archive-of-repair native_archive mendlink
+    check archive-of-the-pane native_archive panelink
 fi
 check c-link c_example
 check rust-link rust_example

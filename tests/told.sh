@@ -1,9 +1,9 @@
 #!/usr/bin/env bash
-# What strip, strip144, ask, repair, compare and table say where something cannot be done: files that cannot be read, words that they do not take, a full disk.
+# What strip, strip144, ask, repair, compare, table and pane say where something cannot be done: files that cannot be read, words that they do not take, a full disk.
 # One line for each check; ends with 1 if one failed.
 cd "$(dirname "$0")/.." || exit 2
 . tests/programs.sh
-[ -x target/bin/ask ] && [ -x target/bin/strip ] && [ -x target/bin/strip144 ] && [ -x target/bin/repair ] && [ -x target/bin/compare ] && [ -x target/bin/table ] || rt check ask strip strip144 repair compare table >/dev/null || exit 2
+[ -x target/bin/ask ] && [ -x target/bin/strip ] && [ -x target/bin/strip144 ] && [ -x target/bin/repair ] && [ -x target/bin/compare ] && [ -x target/bin/table ] && [ -x target/bin/pane ] || rt check ask strip strip144 repair compare table pane >/dev/null || exit 2
 work=$PWD/target/told
 rm -rf "$work"
 mkdir -p "$work"
@@ -121,4 +121,17 @@ check "table with a directory" "$heading" '^table: cannot read standard input: I
 : >"$work/out"
 $start target/bin/table <"$listing" >/dev/full 2>"$work/err"
 check "table on a full disk" '' '^table: cannot write the table: No space left on device$'
+says '' pane more
+check "pane with a word" '' '^use: pane < LINES$'
+says '' pane
+check "pane without input" '' ''
+$start target/bin/pane <"$work" >"$work/out" 2>"$work/err"
+check "pane with a directory" '' '^pane: cannot read standard input: Is a directory$'
+state="00000000000000000007 00000000000000000001$(printf " $zeros%.0s" {1..9})"
+longest="feed REFUSED $small $small $state$(printf " $small%.0s" {1..5})"
+says "$longest"$'\ntake 7'"${state#00000000000000000007}"$'\nclear now\nclear\n'"$longest 0" pane
+check "pane with the longest line, two that are none, and a field more" $'UNCHANGED\nOK\nUNREADABLE\nEMPTY\nUNREADABLE' ''
+printf 'clear\n' | $start target/bin/pane >/dev/full 2>"$work/err"
+: >"$work/out"
+check "pane on a full disk" '' '^pane: cannot write the answers: No space left on device$'
 exit $failed

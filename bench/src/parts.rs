@@ -1,4 +1,4 @@
-//! Single calls beside the Rust version's: a root, hour angles, a book's check, a position.
+//! Single calls beside the Rust version's: a root, hour angles, a book's check, a position, frames of the pane.
 
 use std::hint::black_box;
 
@@ -51,6 +51,22 @@ fn books(times: u32, book: &[u8], moment: u64) {
     told(&name, 1000, times, || often(|| took(proved())), || often(|| took(rust())));
 }
 
+/// Two states a minute apart, and a thousand frames from the older one on: between them, or past the newer one.
+fn frames(times: u32) {
+    let six = [6570.0, 10.0, -700.0, 1.5, 7.8, -0.2];
+    let at = |moment| reference::rule::State { moment, centre: 1, position: [six[0], six[1], six[2]], velocity: [six[3], six[4], six[5]], acceleration: [0.0; 3] };
+    let (mut pane, mut other) = (belfrywool::Pane::default(), reference::pane::Pane::Clear);
+    for moment in [0, 60_000] {
+        assert_eq!(pane.take(&belfrywool::State { moment, centre: 1, coordinates: six, acceleration: [0.0; 3] }), Ok(()));
+        other = other.take(&at(moment)).expect("the next state");
+    }
+    for (first, name) in [(0, "a frame of the pane, current"), (60_001, "a frame of the pane, late")] {
+        let proved = || (first..first + 1000).for_each(|t| took(black_box(&pane).frame(black_box(t))));
+        let rust = || (first..first + 1000).for_each(|t| took(black_box(&other).frame(black_box(t))));
+        told(name, 1000, times, proved, rust);
+    }
+}
+
 pub fn table(given: &Given, times: u32) {
     println!("| Nanoseconds a call | Proved | Rust | Ratio |\n|---|---|---|---|");
     for flight in [given.evening(), given.at_the_back()] {
@@ -58,4 +74,5 @@ pub fn table(given: &Given, times: u32) {
     }
     roots(times);
     angles(times);
+    frames(times);
 }

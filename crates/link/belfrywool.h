@@ -1,9 +1,9 @@
 /* Belfrywool for C: link with the archives that `rt staticlib NAME` writes to target/staticlib, libNAME.a, in any order:
    `almanaclink` has the calls that take no state (belfry_date to belfry_position), `mendlink` has belfry_repair, `centrelink` has
-   the calls about any centre (belfry_pull to belfry_orbit), and `link` has all others. A program that uses the calls of one of
-   them alone needs no other.
+   the calls about any centre (belfry_pull to belfry_orbit), `panelink` has those of the live pane (belfry_clear to belfry_frame),
+   and `link` has all others. A program that uses the calls of one of them alone needs no other.
 
-   Each call returns BELFRY_ACCEPTED, or the number of a refusal. Outside a run a refused call leaves all lent
+   Each call returns BELFRY_ACCEPTED, or the number of a refusal. Outside a run and a frame a refused call leaves all lent
    memory as it was. No call keeps a pointer, allocates, or reads or writes anything but what it is lent.
 
    No pointer may be null, not even to a book of length 0, and what a call may write must overlap nothing else
@@ -30,6 +30,13 @@ enum {
     BELFRY_ARRIVED = 0, /* of a run: the target is reached */
     BELFRY_GOING = 100, /* of a run: the budget is spent short of the target */
 
+    BELFRY_TAKEN = 0,       /* of a state offered to the pane: it is the newer one now */
+    BELFRY_UNCHANGED = 101, /* of a run's answer: the run was refused, and the pane is as it was */
+
+    BELFRY_CURRENT = 0, /* of a frame: there is a position */
+    BELFRY_LATE = 102,  /* of a frame: its moment is past the newer state */
+    BELFRY_EMPTY = 103, /* of a frame: fewer than two states, or its moment is before the older one */
+
     BELFRY_BOOK = 1,         /* the book does not pass */
     BELFRY_STEP = 2,         /* h is not allowed */
     BELFRY_MOMENT = 3,       /* a moment or UT is out of range */
@@ -44,7 +51,8 @@ enum {
     BELFRY_ANGLE = 12,       /* an angle of a circle or more */
     BELFRY_CENTRE = 14,      /* no body of that number, or one that the setting does not use; Earth-fixed: not the Earth */
     BELFRY_STORED = 15,      /* of a run: the acceleration stored with the state is not the rule's, by its bits */
-    BELFRY_SHORT = 16        /* a repair's input or output of fewer than 8 bytes */
+    BELFRY_SHORT = 16,       /* a repair's input or output of fewer than 8 bytes */
+    BELFRY_NOT_NEXT = 18     /* a state for the pane that is about another centre, or not later */
 };
 
 /* Fates of a damaged book's entries: below BELFRY_ENTRIES, as many as a book can have, an entry's new number; above it the
@@ -167,6 +175,28 @@ uint64_t belfry_turn(uint64_t rule, uint32_t dut, uint64_t moment, uint64_t cent
 /* As belfry_conic, with the state's centre as the first name. */
 uint64_t belfry_orbit(double m, uint64_t moment, uint64_t centre, const double coordinates[6], uint64_t names[2],
                       double figures[5]);
+
+/* The live pane: the last two states reached, in memory that the caller keeps. pane: how many states it holds, then moment and centre
+   of the older and of the newer; places: the nine coordinates of the older and of the newer. Memory of zeros is an empty pane, and so
+   is memory that says another number of states than 0, 1 or 2. These three calls change it where a state is taken, and else leave
+   every bit of it as it was. */
+
+/* Makes it empty: it then takes a state about any centre. Always returns 0. */
+uint64_t belfry_clear(uint64_t pane[5], double places[18]);
+
+/* Takes a whole state, if its centre is that of the newer one and its moment is later: BELFRY_TAKEN, else BELFRY_NOT_NEXT. */
+uint64_t belfry_take(uint64_t moment, uint64_t centre, const double coordinates[9], uint64_t pane[5], double places[18]);
+
+/* Takes what belfry_fly handed back: answer is what it returned, then the moment and the coordinates that it wrote, and the centre
+   that it was given. A run that was refused changes nothing, whatever steps it did: BELFRY_UNCHANGED. */
+uint64_t belfry_feed(uint64_t answer, uint64_t moment, uint64_t centre, const double coordinates[9], uint64_t pane[5],
+                     double places[18]);
+
+/* What the pane shows at a moment: BELFRY_CURRENT, BELFRY_LATE, BELFRY_EMPTY, or BELFRY_NOT_FINITE. position: km from the centre, by
+   the cubic through both states, at either end that state's own. late: milliseconds past the newer state. Whatever it returns, it
+   writes both: where the frame is not current, position becomes three NaNs, so that no older figure is left there; where it is not
+   late, late becomes 0. */
+uint64_t belfry_frame(const uint64_t pane[5], const double places[18], uint64_t moment, double position[3], uint64_t *late);
 
 #ifdef __cplusplus
 }

@@ -304,6 +304,42 @@ static void to_the_moon(void) {
     conic_told(number, names, figures);
 }
 
+/* One line for a frame. */
+static void frame_line(const uint64_t pane[5], const double places[18], uint64_t moment) {
+    double position[3];
+    uint64_t late;
+    uint64_t number = belfry_frame(pane, places, moment, position, &late);
+    printf("frame %" PRIu64 ":", moment);
+    if (number == BELFRY_CURRENT) printf(" current, %.3f km\n", length(position));
+    else if (number == BELFRY_LATE) printf(" late by %" PRIu64 " ms\n", late);
+    else if (number == BELFRY_EMPTY) printf(" empty\n");
+    else refused(number);
+}
+
+/* The first minute of that flight in a pane, and a second one under a book without the Moon. */
+static void live(void) {
+    const double injection[6] = {5936.9501, 2718.6042, -728.83219, -4.2284408, 8.5267773, -5.4530145};
+    const uint64_t start = UINT64_C(411331356297);
+    const uint64_t moments[] = {start - 1, start, start + minute / 2, start + minute, start + minute + 1, start + 31 * minute};
+    struct whole now = {start, {0}, {0}};
+    uint64_t pane[5] = {0}, number;
+    double places[18] = {0};
+    uint32_t steps;
+    belfry_inject(lent, lent_length, three, oblate, 35000, 0, start, EARTH, injection, now.coordinates);
+    belfry_take(start, EARTH, now.coordinates, pane, places);
+    frame_line(pane, places, start);
+    printf("taken again:");
+    refused(belfry_take(start, EARTH, now.coordinates, pane, places));
+    for (int i = 1; i <= 2; i++) {
+        number = flown(&now, EARTH, start + (uint64_t)i * minute, &steps);
+        printf("fed: %d\n", belfry_feed(number, now.moment, EARTH, now.coordinates, pane, places) == BELFRY_TAKEN);
+        memcpy(lent, empty, lent_length = sizeof empty);
+    }
+    for (int i = 0; i < 6; i++) frame_line(pane, places, moments[i]);
+    belfry_clear(pane, places);
+    frame_line(pane, places, start);
+}
+
 int main(int count, char **words) {
     FILE *file = count == 2 ? fopen(words[1], "rb") : NULL;
     if (!file) {
@@ -321,5 +357,6 @@ int main(int count, char **words) {
     states();
     launch();
     to_the_moon();
+    live();
     return 0;
 }

@@ -7,7 +7,7 @@ fn main() {
     let folder = var("BELFRYWOOL_LIB").unwrap_or_else(|_| format!("{here}/../../target/staticlib"));
     println!("cargo:rerun-if-env-changed=BELFRYWOOL_LIB");
     println!("cargo:rustc-link-search=native={folder}");
-    for name in ["link", "centrelink", "almanaclink", "mendlink"] {
+    for name in ["link", "centrelink", "almanaclink", "mendlink", "panelink"] {
         println!("cargo:rerun-if-changed={folder}/lib{name}.a");
         println!("cargo:rustc-link-lib=static={name}");
     }

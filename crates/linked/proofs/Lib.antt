@@ -1,3 +1,4 @@
 pub mod Numbers
 pub mod OneAnswer
 pub mod Journeys
+pub mod Panes

@@ -1,4 +1,4 @@
--- Every refusal of every call has a number of the table, 1 to 17. So a call returns 0 only where it is accepted, and a
+-- Every refusal of every call has a number of the table, 1 to 18. So a call returns 0 only where it is accepted, and a
 -- run returns 100 only where it is going. Assumes nothing.
 use mathlib.Core.Bool.{Bool, true, false, not, _&&_, _||_}
 use mathlib.Core.List.{List}

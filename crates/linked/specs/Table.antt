@@ -1,4 +1,4 @@
--- Document 01, "Refusal numbers", and document 02: the table goes from 1 to 17. Where an answer's refusal has a number of the table, what a call
+-- Document 01, "Refusal numbers", and document 02: the table goes from 1 to 18. Where an answer's refusal has a number of the table, what a call
 -- returns tells a refusal from 0 and from a run's 100.
 use Prim.Native.Nat.{ℕ}
 use mathlib.Core.Bool.{Bool, true, _&&_}
@@ -7,7 +7,7 @@ use Rattle.motion.specs.declared.Outcome.{Outcome}
 use Rattle.handed.specs.Handed.{Answer, Accepted, Refused}
 
 abbrev pub tabled : ℕ → Bool
-tabled k = 1 ≤? k && k ≤? 17
+tabled k = 1 ≤? k && k ≤? 18
 
 abbrev pub told : {A : Type 0} → Answer A → Bool
 told (Accepted values) = true

@@ -86,7 +86,11 @@ fn answer_all() {
     };
     let mut blocks_left = u64::MAX;
     while 0 < blocks_left {
-        let n = io::count(libc::read(libc::STDIN_FILENO, &mut block), &block);
+        let got = libc::read(libc::STDIN_FILENO, &mut block);
+        if got < 0 {
+            os::fail(b"pane: cannot read standard input");
+        }
+        let n = io::count(got, &block);
         if n == 0 {
             break;
         }

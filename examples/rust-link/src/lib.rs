@@ -3,6 +3,10 @@
 //! Nothing checks the declarations below against the proved source: they follow
 //! `crates/link/belfrywool.h`. The calls have no `requires`, so nothing has to be tested here first.
 
+mod pane;
+
+pub use pane::{Frame, Pane};
+
 extern "C" {
     fn belfry_date(day: u64, date: &mut [u64; 3]) -> u64;
     fn belfry_day(year: u64, month: u64, day: u64, count: &mut u64) -> u64;
@@ -161,6 +165,17 @@ fn answer<T>(number: u64, value: T) -> Result<T, u64> {
         Ok(value)
     } else {
         Err(number)
+    }
+}
+
+impl Outcome {
+    /// What the call returned.
+    fn number(self) -> u64 {
+        match self {
+            Outcome::Arrived => 0,
+            Outcome::Going => GOING,
+            Outcome::Refused(number) => number,
+        }
     }
 }
 

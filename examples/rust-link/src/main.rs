@@ -181,6 +181,9 @@ fn told_from(what: &str, steps: u32, state: &State) -> Result<(), u64> {
 /// J, A and K: the Earth's oblateness as JPL had it, and no sunlight.
 const OBLATE: [f64; 3] = [0.001623450, 6378.1650, 0.0];
 
+/// A book without entries.
+const NO_BODIES: &[u8] = &[8, 0, 0, 0, 0, 0, 0, 0];
+
 /// JPL's check case 1 under the oblate Earth, the Moon and the Sun: 58 hours about the Earth, a move to the Moon, four hours about it.
 fn to_the_moon(book: &[u8]) -> Result<(), u64> {
     let coefficients = [398_600.63, 4902.6293, 132_714_110_000.0, 0.0, 0.0, 0.0];
@@ -210,6 +213,38 @@ fn to_the_moon(book: &[u8]) -> Result<(), u64> {
     Ok(())
 }
 
+/// One line for a frame.
+fn frame_line(pane: &Pane, moment: u64) -> Result<(), u64> {
+    match pane.frame(moment)? {
+        Frame::Current(p) => println!("frame {moment}: current, {:.3} km", length(&p)?),
+        Frame::Late(by) => println!("frame {moment}: late by {by} ms"),
+        Frame::Empty => println!("frame {moment}: empty"),
+    }
+    Ok(())
+}
+
+/// The first minutes of that flight in a pane: minute by minute under a book without the Moon's record, from the second minute on.
+fn live(book: &[u8]) -> Result<(), u64> {
+    let coefficients = [398_600.63, 4902.6293, 132_714_110_000.0, 0.0, 0.0, 0.0];
+    let setting = Setting { coefficients, extras: OBLATE, dut: 35_000, rule: 0 };
+    let coordinates = [5936.9501, 2718.6042, -728.83219, -4.2284408, 8.5267773, -5.4530145];
+    let mut state = inject(book, &setting, &State::bare(411_331_356_297, EARTH, coordinates))?;
+    let (start, mut pane) = (state.moment, Pane::default());
+    pane.take(&state)?;
+    frame_line(&pane, start)?;
+    println!("taken again: refused {}", pane.take(&state).err().unwrap_or(0));
+    for (minute, book) in [(1, book), (2, NO_BODIES)] {
+        let ran = fly(book, &setting, &state, MINUTE as u32, start + minute * MINUTE, 1, &[0; 5]);
+        println!("fed: {}", u8::from(pane.feed(&ran)?));
+        state = ran.state;
+    }
+    for moment in [start - 1, start, start + MINUTE / 2, start + MINUTE, start + MINUTE + 1, start + 31 * MINUTE] {
+        frame_line(&pane, moment)?;
+    }
+    pane.clear();
+    frame_line(&pane, start)
+}
+
 fn main() -> Result<(), u64> {
     let Some(Ok(book)) = std::env::args().nth(1).map(std::fs::read) else {
         eprintln!("belfrywool BOOK");
@@ -223,5 +258,6 @@ fn main() -> Result<(), u64> {
     runs();
     states()?;
     launch()?;
-    to_the_moon(&book)
+    to_the_moon(&book)?;
+    live(&book)
 }

@@ -26,6 +26,7 @@ pub mod leaves;
 pub mod lookups;
 pub mod mends;
 pub mod moving;
+pub mod offers;
 pub mod outage;
 pub mod pairs;
 pub mod runs;

@@ -1,0 +1,156 @@
+-- (02, R-14) What a call of the pane wrote reads back as the pane that it left, so a pane in memory that is fed by flights is the pane that is
+-- fed by the journey; and the night itself, in memory. Assumes nothing.
+use mathlib.Core.Bool.{Bool, true}
+use mathlib.Core.List.{List, [], _∷_, map}
+use mathlib.Core.Path.{_≡_, refl, sym, ap, _∙_}
+use Prim.Native.Nat.{ℕ, _-_, _≤_, _<_}
+use native.Mathlib.Omega.{arith}
+use lib.Ieee.{Float}
+use borrow.Author.Tests.{leb-true, ne-eqb}
+use Rattle.basis.specs.Choice.{_<?_, _≤?_}
+use Rattle.basis.proofs.Cases.{by-if}
+use Rattle.book.proofs.Below as below
+use Rattle.state.specs.State.{finiteVector}
+use Rattle.state.specs.declared.State.{State}
+use Rattle.state.specs.declared.Setting.{Setting}
+use Rattle.gravity.specs.declared.Guesses.{Guesses}
+use Rattle.start.specs.Start.{startRefusal}
+use Rattle.motion.specs.Run.{runAnswer}
+use Rattle.motion.specs.declared.Outcome.{Outcome}
+use Rattle.motion.specs.declared.RunAnswer.{RunAnswer}
+use Rattle.journey.specs.Journey.{journey}
+use Rattle.live.specs.Pane.{follows, take, feedBy, feed, after, figure, frameAt}
+use Rattle.live.specs.Laws.{fed}
+use Rattle.live.specs.declared.Pane.{Pane}
+use Rattle.live.specs.declared.Pane.the-variants.{Blank, One, Two}
+use Rattle.live.specs.declared.TakeAnswer.{TakeAnswer}
+use Rattle.live.specs.declared.TakeAnswer.the-variants as taken
+use Rattle.live.specs.declared.FrameAnswer.{FrameAnswer}
+use Rattle.live.proofs.Night.{the-night}
+use Rattle.lent.specs.Lent.{settingOf, stateOf, guessesOf, wholeIn}
+use Rattle.lent.specs.Answers.{outcomeNumber, RunMemory, ofFlight}
+use Rattle.panelink.specs.Lent.{Kept, paneOf, numbersIn, placesIn, paneIn, outcomeOf, flownTo, left, late, nothing, framed, ofFrame}
+use Rattle.linked.specs.Table.{tabled, outcomeTold}
+use Rattle.linked.specs.Linked.{LinkedCall, asCall, linkedJourney}
+use Rattle.linked.specs.Panes.{fedIn, takenOr18, fedOr18, frameTold}
+use Rattle.linked.proofs.Numbers.{run-told}
+use Rattle.linked.proofs.Journeys.{state-reads-back}
+
+pub pane-reads-back : (pane : Pane) → paneOf (numbersIn pane) (placesIn pane) ≡ pane
+pane-reads-back Blank = refl
+pane-reads-back (One a) = refl
+pane-reads-back (Two a b) = refl
+
+-- what a run returned reads back as its outcome
+outcome-reads-back : (o : Outcome) → outcomeTold o ≡ true → outcomeOf (outcomeNumber o) ≡ o
+outcome-reads-back Outcome.Arrived e = refl
+outcome-reads-back Outcome.Going e = refl
+outcome-reads-back (Outcome.Refused k) e =
+    let least : 1 ≤ k = leb-true 1 k (below.left (1 ≤? k) (k ≤? 18) e) in
+    let most : k ≤ 18 = leb-true k 18 (below.right (1 ≤? k) (k ≤? 18) e) in
+    rw (ne-eqb k 0 (λ z. absurd (omega arith)), ne-eqb k 100 (λ z. absurd (omega arith)))
+
+-- "`feed` takes what ask's `fly` answers": steps and guesses are not read
+fed-as-answered : (pane : Pane) (r : RunAnswer) → outcomeTold (r .outcome) ≡ true → feed pane (flownTo (outcomeNumber (r .outcome)) (r .state)) ≡ feed pane r
+unfolding feed
+fed-as-answered pane r e = ap (λ (o : Outcome). feedBy o pane (r .state)) (outcome-reads-back (r .outcome) e)
+
+left-is : (pane : Pane) (answer : TakeAnswer) → left (paneIn pane) answer .memory ≡ paneIn (after pane answer)
+left-is pane (taken.Taken next) = refl
+left-is pane taken.Unchanged = refl
+left-is pane (taken.Refused k) = refl
+
+module _ (b : List ℕ) (m extras : List Float) (dut rule centre h target : ℕ) where
+  abbrev setting : Setting
+  setting = settingOf m extras dut rule
+
+  abbrev flight : ℕ → List Float → LinkedCall → RunAnswer
+  flight moment coordinates call = runAnswer b setting (stateOf moment centre coordinates) h target (call .budget) (guessesOf (call .guesses))
+
+  fed-once : (pane : Pane) (moment : ℕ) (coordinates : List Float) (call : LinkedCall)
+      → (let r = flight moment coordinates call in
+      left (paneIn pane) (feed (paneOf (numbersIn pane) (placesIn pane)) (flownTo (outcomeNumber (r .outcome)) (stateOf (r .state .moment) centre (wholeIn (r .state))))) .memory
+      ≡ paneIn (after pane (feed pane r)))
+  fed-once pane moment coordinates call =
+      let s = stateOf moment centre coordinates in
+      let r = flight moment coordinates call in
+      ap (λ (p : Pane). left (paneIn pane) (feed p (flownTo (outcomeNumber (r .outcome)) (stateOf (r .state .moment) centre (wholeIn (r .state))))) .memory) (pane-reads-back pane)
+      ∙ ap (λ (reached : State). left (paneIn pane) (feed pane (flownTo (outcomeNumber (r .outcome)) reached)) .memory)
+      (state-reads-back b setting s h target (call .budget) (guessesOf (call .guesses)))
+      ∙ ap (λ (answer : TakeAnswer). left (paneIn pane) answer .memory)
+      (fed-as-answered pane r (run-told b setting s h target (call .budget) (guessesOf (call .guesses))))
+      ∙ left-is pane (feed pane r)
+
+  -- a pane in memory, fed by a journey through the calls, is the pane fed by that journey
+  pub fed-in-memory : (pane : Pane) (moment : ℕ) (coordinates : List Float) (calls : List LinkedCall)
+      → fedIn centre (paneIn pane) (linkedJourney b m extras dut rule centre h target moment coordinates calls)
+      ≡ paneIn (fed pane (journey b setting h target (stateOf moment centre coordinates) (map asCall calls)))
+  fed-in-memory pane moment coordinates [] = refl
+  fed-in-memory pane moment coordinates (call ∷ calls) =
+      let s = stateOf moment centre coordinates in
+      let r = flight moment coordinates call in
+      let next = after pane (feed pane r) in
+      ap (λ (kept : Kept). fedIn centre kept (linkedJourney b m extras dut rule centre h target (r .state .moment) (wholeIn (r .state)) calls))
+      (fed-once pane moment coordinates call)
+      ∙ fed-in-memory next (r .state .moment) (wholeIn (r .state)) calls
+      ∙ ap (λ (from : State). paneIn (fed next (journey b setting h target from (map asCall calls))))
+      (state-reads-back b setting s h target (call .budget) (guessesOf (call .guesses)))
+
+  -- The night: a flight was refused by k, and the pane holds nothing later. Whatever flights follow, with any budgets and guesses, a frame past
+  -- the newer state returns 102, how late it is, and no position.
+  pub the-night-in-memory : (moment : ℕ) (coordinates : List Float) (call : LinkedCall) (k : ℕ) (calls : List LinkedCall) (older newer : State) (t : ℕ)
+      → startRefusal b setting (stateOf moment centre coordinates) h target ≡ 0
+      → flight moment coordinates call .outcome ≡ Outcome.Refused k
+      → flight moment coordinates call .state .moment ≤ newer .moment → newer .moment < t
+      → (let r = flight moment coordinates call in
+      let kept = fedIn centre (paneIn (Two older newer)) (linkedJourney b m extras dut rule centre h target (r .state .moment) (wholeIn (r .state)) calls) in
+      ofFrame (frameAt (paneOf (kept .numbers) (kept .places)) t) ≡ framed late nothing (t - newer .moment))
+  the-night-in-memory moment coordinates call k calls older newer t checks refused reached past =
+      let s = stateOf moment centre coordinates in
+      let given = guessesOf (call .guesses) in
+      let r = flight moment coordinates call in
+      let shownBy : Kept → _ = λ (kept : Kept). ofFrame (frameAt (paneOf (kept .numbers) (kept .places)) t) in
+      let pane = fed (Two older newer) (journey b setting h target (stateOf (r .state .moment) centre (wholeIn (r .state))) (map asCall calls)) in
+      ap shownBy (fed-in-memory (Two older newer) (r .state .moment) (wholeIn (r .state)) calls)
+      ∙ ap (λ (p : Pane). ofFrame (frameAt p t)) (pane-reads-back pane)
+      ∙ ap (λ (from : State). ofFrame (frameAt (fed (Two older newer) (journey b setting h target from (map asCall calls))) t))
+      (state-reads-back b setting s h target (call .budget) given)
+      ∙ ap ofFrame (the-night b setting h target s (call .budget) given k (map asCall calls) older newer t checks refused reached past)
+
+-- the numbers that the calls return: a state is taken, or a position shown, at 0 alone, and no refusal is 101, 102 or 103
+module _ (before : Kept) where
+  abbrev taking : TakeAnswer → Bool
+  taking answer = takenOr18 (left before answer .returned)
+
+  abbrev feeding : TakeAnswer → Bool
+  feeding answer = fedOr18 (left before answer .returned)
+
+  -- a state offered, by any test that 0 and 18 meet
+  offered : (p : TakeAnswer → Bool) (pane : Pane) (s : State) → ((next : Pane) → p (taken.Taken next) ≡ true) → p (taken.Refused 18) ≡ true → p (take pane s) ≡ true
+  unfolding take
+  offered p Blank s took left-out = took _
+  offered p (One a) s took left-out = by-if p (follows a s) (took _) left-out
+  offered p (Two a b) s took left-out = by-if p (follows b s) (took _) left-out
+
+  pub take-told : (pane : Pane) (s : State) → takenOr18 (left before (take pane s) .returned) ≡ true
+  take-told pane s = offered taking pane s (λ next. refl) refl
+
+  by-outcome : (o : Outcome) (pane : Pane) (s : State) → fedOr18 (left before (feedBy o pane s) .returned) ≡ true
+  by-outcome Outcome.Arrived pane s = offered feeding pane s (λ next. refl) refl
+  by-outcome Outcome.Going pane s = offered feeding pane s (λ next. refl) refl
+  by-outcome (Outcome.Refused k) pane s = refl
+
+  pub feed-told : (pane : Pane) (r : RunAnswer) → fedOr18 (left before (feed pane r) .returned) ≡ true
+  unfolding feed
+  feed-told pane r = by-outcome (r .outcome) pane (r .state)
+
+abbrev framing : FrameAnswer → Bool
+framing answer = frameTold (ofFrame answer .returned)
+
+pub frame-told : (pane : Pane) (t : ℕ) → frameTold (ofFrame (frameAt pane t) .returned) ≡ true
+unfolding frameAt
+frame-told Blank t = refl
+frame-told (One a) t = refl
+frame-told (Two a b) t =
+    by-if framing (b .moment <? t) refl
+    (by-if framing (t <? a .moment) refl (by-if framing (finiteVector (figure a b t)) refl refl))

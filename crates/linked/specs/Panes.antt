@@ -1,0 +1,27 @@
+-- (02, R-14) A pane in memory that is fed by flights through the calls for C and Rust.
+use mathlib.Core.List.{List, [], _∷_}
+use mathlib.Core.Bool.{Bool, _||_}
+use Prim.Native.Nat.{ℕ}
+use Rattle.basis.specs.Choice.{_=?_}
+use Rattle.live.specs.Pane.{feed}
+use Rattle.lent.specs.Lent.{stateOf}
+use Rattle.lent.specs.Answers.{RunMemory}
+use Rattle.panelink.specs.Lent.{Kept, paneOf, flownTo, unchanged, left, late, empty}
+
+-- the pane's memory after flights about a centre, one after the other: each is fed as it left its memory
+abbrev pub fedIn : ℕ → Kept → List RunMemory → Kept
+fedIn centre kept [] = kept
+fedIn centre kept (m ∷ ms) =
+    let flown = flownTo (m .returned) (stateOf (m .moment) centre (m .coordinates)) in
+    fedIn centre (left kept (feed (paneOf (kept .numbers) (kept .places)) flown) .memory) ms
+
+-- what a state that is offered returns: 0 where it is taken, 18 where it is refused; a run's answer also 101
+abbrev pub takenOr18 : ℕ → Bool
+takenOr18 k = k =? 0 || k =? 18
+
+abbrev pub fedOr18 : ℕ → Bool
+fedOr18 k = k =? unchanged || takenOr18 k
+
+-- what a frame returns: 0 for current, 102 late, 103 empty, or 7
+abbrev pub frameTold : ℕ → Bool
+frameTold k = k =? 0 || k =? late || k =? empty || k =? 7

@@ -1,0 +1,54 @@
+-- Any two outcomes that the promise of an exported call of the pane allows are equal: the number that it returns and all the memory that it
+-- was lent to write, together. Assumes nothing.
+use mathlib.Core.Path.{refl}
+use denote.Ref.{now}
+use Rattle.basis.proofs.OneAnswer.{Tell, OneOutcome, one-outcome}
+use Rattle.handed.specs.Handed.{Handed, handed}
+use Rattle.lent.specs.Lent.{stateOf}
+use Rattle.live.specs.Pane.{take, feed, clear, frameAt}
+use Rattle.panelink.specs.Lent.{Kept, keptIn, paneOf, paneIn, flownTo, left, FrameMemory, framed, ofFrame}
+use Rattle.panelink.proofs.belfry_clear as clear-call
+use Rattle.panelink.proofs.belfry_take as take-call
+use Rattle.panelink.proofs.belfry_feed as feed-call
+use Rattle.panelink.proofs.belfry_frame as frame-call
+
+abbrev tell-clear : Tell clear-call.ended (λ κs. Handed Kept)
+tell-clear κs r after = handed r (keptIn (now (after .0)) (now (after .1 .0)))
+
+pub clear-answers-once : OneOutcome clear-call.ended (λ M. clear-call.clauses) (λ κs. Handed Kept) tell-clear
+clear-answers-once =
+    one-outcome (λ κs. Handed Kept) tell-clear (λ κs inputs. handed 0 (paneIn clear)) (λ M 𝓤 H A mem run κs inputs g r after. refl)
+
+abbrev tell-take : Tell take-call.ended (λ κs. Handed Kept)
+tell-take κs r after = handed r (keptIn (now (after .1 .1 .1 .0)) (now (after .1 .1 .1 .1 .0)))
+
+pub take-answers-once : OneOutcome take-call.ended (λ M. take-call.clauses) (λ κs. Handed Kept) tell-take
+take-answers-once =
+    one-outcome (λ κs. Handed Kept) tell-take
+    (λ κs inputs.
+    let numbers = now (inputs .1 .1 .1 .0) in
+    let places = now (inputs .1 .1 .1 .1 .0) in
+    left (keptIn numbers places) (take (paneOf numbers places) (stateOf (inputs .0) (inputs .1 .0) (now (inputs .1 .1 .0)))))
+    (λ M 𝓤 H A mem run κs inputs g r after. refl)
+
+abbrev tell-feed : Tell feed-call.ended (λ κs. Handed Kept)
+tell-feed κs r after = handed r (keptIn (now (after .1 .1 .1 .1 .0)) (now (after .1 .1 .1 .1 .1 .0)))
+
+pub feed-answers-once : OneOutcome feed-call.ended (λ M. feed-call.clauses) (λ κs. Handed Kept) tell-feed
+feed-answers-once =
+    one-outcome (λ κs. Handed Kept) tell-feed
+    (λ κs inputs.
+    let numbers = now (inputs .1 .1 .1 .1 .0) in
+    let places = now (inputs .1 .1 .1 .1 .1 .0) in
+    left (keptIn numbers places)
+    (feed (paneOf numbers places) (flownTo (inputs .0) (stateOf (inputs .1 .0) (inputs .1 .1 .0) (now (inputs .1 .1 .1 .0))))))
+    (λ M 𝓤 H A mem run κs inputs g r after. refl)
+
+abbrev tell-frame : Tell frame-call.ended (λ κs. FrameMemory)
+tell-frame κs r after = framed r (now (after .1 .1 .1 .0)) (now (after .1 .1 .1 .1 .0))
+
+pub frame-answers-once : OneOutcome frame-call.ended (λ M. frame-call.clauses) (λ κs. FrameMemory) tell-frame
+frame-answers-once =
+    one-outcome (λ κs. FrameMemory) tell-frame
+    (λ κs inputs. ofFrame (frameAt (paneOf (now (inputs .0)) (now (inputs .1 .0))) (inputs .1 .1 .0)))
+    (λ M 𝓤 H A mem run κs inputs g r after. refl)

@@ -1,0 +1,13 @@
+-- `panelink::memory::flown_to` meets its contract. Assumes nothing.
+use borrow.Author.Needs.{needs}
+use Rattle.panelink.proofs.memory.flown_to.Statement.{statement}
+use Rattle.panelink.proofs.memory.flown_to.Tie as tie
+
+outcome-of-requires : tie.Need-outcome-of-requires
+outcome-of-requires c κs = search needs
+
+returns : tie.Need-returns
+returns c = rw (c .outcome-of .ensures)
+
+pub flown-to-spec : {M : Type 1} → statement M
+flown-to-spec = tie.close (tie.spec outcome-of-requires returns)

@@ -1,0 +1,54 @@
+-- `panelink::memory::position_in` meets its contract. Assumes nothing.
+use mathlib.Core.Path.{refl}
+use borrow.Author.Needs.{needs}
+use Rattle.panelink.proofs.memory.position_in.Statement.{statement}
+use Rattle.panelink.proofs.memory.position_in.Tie as tie
+
+enum-known-shown : tie.Need-enum-known-shown
+enum-known-shown c = search needs
+
+enum-known-shown-2 : tie.Need-enum-known-shown-2
+enum-known-shown-2 c = search needs
+
+no-number-requires : tie.Need-no-number-requires
+no-number-requires c κs = search needs
+
+enum-told : tie.Need-enum-told
+enum-told c = search needs
+
+no-number-requires-2 : tie.Need-no-number-requires-2
+no-number-requires-2 c κs = search needs
+
+enum-known-shown-3 : tie.Need-enum-known-shown-3
+enum-known-shown-3 c = search needs
+
+no-number-requires-3 : tie.Need-no-number-requires-3
+no-number-requires-3 c κs = search needs
+
+returns : tie.Need-returns
+returns c = rw (c .before .shown .given .1) refl
+
+returns-2 : tie.Need-returns-2
+returns-2 c = rw (c .before .before .shown2 .given .1, c .no-number .ensures) refl
+
+returns-3 : tie.Need-returns-3
+returns-3 c = rw (c .before .enum-told .given .1, c .no-number2 .ensures) refl
+
+returns-4 : tie.Need-returns-4
+returns-4 c = rw (c .before .before .shown3 .given .1, c .no-number3 .ensures) refl
+
+pub position-in-spec : {M : Type 1} → statement M
+position-in-spec =
+    tie.close
+    (tie.spec
+    enum-known-shown
+    enum-known-shown-2
+    no-number-requires
+    enum-told
+    no-number-requires-2
+    enum-known-shown-3
+    no-number-requires-3
+    returns
+    returns-2
+    returns-3
+    returns-4)

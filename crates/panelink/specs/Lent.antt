@@ -1,0 +1,130 @@
+-- (02, R-14) A pane as numbers in lent memory, and what the exported calls return and leave there. Every array has the length that its
+-- type says, so that nan and 0 never come in where an element is read.
+use Prim.Native.Nat.{ℕ}
+use mathlib.Core.List.{List, [], _∷_}
+use lib.ListN.{getD}
+use lib.Ieee.{Float, nan}
+use Rattle.basis.specs.Choice.{if_then_else_, _=?_}
+use Rattle.basis.specs.Floats.{zero64}
+use Rattle.state.specs.declared.State.{State}
+use Rattle.gravity.specs.declared.Guesses.{Guesses}
+use Rattle.motion.specs.declared.Outcome.{Outcome}
+use Rattle.motion.specs.declared.RunAnswer.{RunAnswer}
+use Rattle.live.specs.declared.Pane.{Pane}
+use Rattle.live.specs.declared.Pane.the-variants.{Blank, One, Two}
+use Rattle.live.specs.declared.TakeAnswer.{TakeAnswer}
+use Rattle.live.specs.declared.TakeAnswer.the-variants as taken
+use Rattle.live.specs.declared.FrameAnswer.{FrameAnswer}
+use Rattle.live.specs.declared.FrameAnswer.the-variants as frame
+use Rattle.handed.specs.Handed.{Handed, handed}
+use Rattle.lent.specs.Lent.{stateOf, vectorIn}
+use Rattle.lent.specs.Answers.{going}
+
+-- both places of a pane: how many states it holds, then moment and centre of the older and of the newer; and the nine coordinates of each
+pub record Kept : Type 0 where
+  pub numbers : List ℕ
+  pub places : List Float
+
+abbrev pub keptIn : List ℕ → List Float → Kept
+keptIn numbers places = record { numbers = numbers; places = places }
+
+-- ---- a pane read
+
+abbrev pub olderOf : List ℕ → List Float → State
+olderOf numbers places = stateOf (getD numbers 1 0) (getD numbers 2 0) places
+
+abbrev pub newerOf : List ℕ → List Float → State
+newerOf numbers places =
+    record {
+      moment = getD numbers 3 0;
+      centre = getD numbers 4 0;
+      x = getD places 9 nan;
+      y = getD places 10 nan;
+      z = getD places 11 nan;
+      vx = getD places 12 nan;
+      vy = getD places 13 nan;
+      vz = getD places 14 nan;
+      ax = getD places 15 nan;
+      ay = getD places 16 nan;
+      az = getD places 17 nan;
+    }
+
+-- two, one, or none; memory that says another number of states is an empty pane
+abbrev pub paneOf : List ℕ → List Float → Pane
+paneOf numbers places =
+    if getD numbers 0 0 =? 2 then Two (olderOf numbers places) (newerOf numbers places) else
+    if getD numbers 0 0 =? 1 then One (olderOf numbers places) else Blank
+
+-- ---- a pane written: where it holds no state stand zeros
+
+abbrev pub numbersIn : Pane → List ℕ
+numbersIn Blank = 0 ∷ 0 ∷ 0 ∷ 0 ∷ 0 ∷ []
+numbersIn (One a) = 1 ∷ a .moment ∷ a .centre ∷ 0 ∷ 0 ∷ []
+numbersIn (Two a b) = 2 ∷ a .moment ∷ a .centre ∷ b .moment ∷ b .centre ∷ []
+
+-- the nine coordinates of a state, before those that follow
+abbrev pub wholeBefore : State → List Float → List Float
+wholeBefore s rest = s .x ∷ s .y ∷ s .z ∷ s .vx ∷ s .vy ∷ s .vz ∷ s .ax ∷ s .ay ∷ s .az ∷ rest
+
+abbrev pub nineZeros : List Float → List Float
+nineZeros rest = zero64 ∷ zero64 ∷ zero64 ∷ zero64 ∷ zero64 ∷ zero64 ∷ zero64 ∷ zero64 ∷ zero64 ∷ rest
+
+abbrev pub placesIn : Pane → List Float
+placesIn Blank = nineZeros (nineZeros [])
+placesIn (One a) = wholeBefore a (nineZeros [])
+placesIn (Two a b) = wholeBefore a (wholeBefore b [])
+
+abbrev pub paneIn : Pane → Kept
+paneIn pane = keptIn (numbersIn pane) (placesIn pane)
+
+-- ---- states taken
+
+-- what a run returned: 0 arrived, 100 going, else the refusal's number
+abbrev pub outcomeOf : ℕ → Outcome
+outcomeOf returned =
+    if returned =? 0 then Outcome.Arrived else
+    if returned =? going then Outcome.Going else Outcome.Refused returned
+
+abbrev pub noGuesses : Guesses
+noGuesses = record { moon = 0; sun = 0; venus = 0; mars = 0; jupiter = 0 }
+
+-- what a run handed back, but for steps and guesses, which the pane does not read
+abbrev pub flownTo : ℕ → State → RunAnswer
+flownTo returned s = record { outcome = outcomeOf returned; steps = 0; state = s; guesses = noGuesses }
+
+abbrev pub unchanged : ℕ
+unchanged = 101
+
+-- 0 and the new pane where a state is taken; else 101 or the refusal's number, and the memory as it was, whatever it held
+abbrev pub left : Kept → TakeAnswer → Handed Kept
+left before (taken.Taken next) = handed 0 (paneIn next)
+left before taken.Unchanged = handed unchanged before
+left before (taken.Refused k) = handed k before
+
+-- ---- a frame
+
+abbrev pub late : ℕ
+late = 102
+
+abbrev pub empty : ℕ
+empty = 103
+
+-- what a caller has of a frame: what it returned, the place of the position and that of the milliseconds
+pub record FrameMemory : Type 0 where
+  pub returned : ℕ
+  pub position : List Float
+  pub late : ℕ
+
+abbrev pub framed : ℕ → List Float → ℕ → FrameMemory
+framed returned position late = record { returned = returned; position = position; late = late }
+
+-- "no position": three NaNs, so that no older figure stands there
+abbrev pub nothing : List Float
+nothing = nan ∷ nan ∷ nan ∷ []
+
+-- both places are written whatever it returns: 0 and the position, 102 and how late, 103, or the refusal's number
+abbrev pub ofFrame : FrameAnswer → FrameMemory
+ofFrame (frame.Current p) = framed 0 (vectorIn p) 0
+ofFrame (frame.Late ms) = framed late nothing ms
+ofFrame frame.Empty = framed empty nothing 0
+ofFrame (frame.Refused k) = framed k nothing 0

@@ -1,0 +1,80 @@
+// (02, R-14) The live pane for C and Rust, as numbers in memory that the caller lends: how many states it holds, then moment and centre of
+// the older and of the newer; and the nine coordinates of each. Memory of zeros is an empty pane.
+
+mod memory;
+
+use memory::keep;
+use memory::pane_of;
+ghost use mathlib.Core.Path.{_≡_};
+ghost use Rattle.handed.specs.Handed.{handed};
+ghost use Rattle.lent.specs.Lent.{stateOf};
+ghost use Rattle.live.specs.Pane.{take, feed, clear, frameAt};
+ghost use Rattle.panelink.specs.Lent.{keptIn, paneOf, paneIn, flownTo, left, framed, ofFrame};
+
+// Always 0.
+#[no_mangle]
+pub extern "C" fn belfry_clear(pane: &mut [u64; 5], places: &mut [f64; 18]) -> u64
+    ensures { λ r. ⌜ handed r (keptIn (now (pane .exit)) (now (places .exit))) ≡ handed 0 (paneIn clear) ⌝ }
+{
+    let blank = live::clear();
+    *pane = memory::numbers_in(blank);
+    *places = memory::places_in(blank);
+    0
+}
+
+// 0 where the state is taken; 18 where it is not, and the pane is as it was.
+#[no_mangle]
+pub extern "C" fn belfry_take(
+    moment: u64,
+    centre: u64,
+    coordinates: &[f64; 9],
+    pane: &mut [u64; 5],
+    places: &mut [f64; 18],
+) -> u64
+    ensures { λ r. ⌜ handed r (keptIn (now (pane .exit)) (now (places .exit))) ≡ left (keptIn (now (pane .entry)) (now (places .entry)))
+        (take (paneOf (now (pane .entry)) (now (places .entry))) (stateOf moment centre (now (coordinates .entry)))) ⌝ }
+{
+    let before = pane_of(*pane, *places);
+    let state = lent::state_of(moment, centre, *coordinates);
+    keep(live::take(before, state), pane, places)
+}
+
+// What a run returned and where it left the craft. 0 where that state is taken, 18 where it is not; 101 of a run that was refused.
+#[no_mangle]
+pub extern "C" fn belfry_feed(
+    answer: u64,
+    moment: u64,
+    centre: u64,
+    coordinates: &[f64; 9],
+    pane: &mut [u64; 5],
+    places: &mut [f64; 18],
+) -> u64
+    ensures { λ r. ⌜ handed r (keptIn (now (pane .exit)) (now (places .exit))) ≡ left (keptIn (now (pane .entry)) (now (places .entry)))
+        (feed (paneOf (now (pane .entry)) (now (places .entry))) (flownTo answer (stateOf moment centre (now (coordinates .entry))))) ⌝ }
+{
+    let before = pane_of(*pane, *places);
+    let state = lent::state_of(moment, centre, *coordinates);
+    keep(
+        live::feed(before, memory::flown_to(answer, state)),
+        pane,
+        places,
+    )
+}
+
+// 0 and the position; 102 and how late, in milliseconds; 103 for empty; or 7. Where it is not current there is no position.
+#[no_mangle]
+pub extern "C" fn belfry_frame(
+    pane: &[u64; 5],
+    places: &[f64; 18],
+    moment: u64,
+    position: &mut [f64; 3],
+    late: &mut u64,
+) -> u64
+    ensures { λ r. ⌜ framed r (now (position .exit)) (now (late .exit)) ≡ ofFrame
+        (frameAt (paneOf (now (pane .entry)) (now (places .entry))) moment) ⌝ }
+{
+    let shown = live::frame(pane_of(*pane, *places), moment);
+    *position = memory::position_in(shown);
+    *late = memory::late_in(shown);
+    memory::returned_by(shown)
+}

@@ -1,0 +1,220 @@
+// A pane, a run's answer and a frame, between lent memory and the values of the crates below.
+
+use gravity::Guesses;
+use live::FrameAnswer;
+use live::Pane;
+use live::TakeAnswer;
+use motion::Outcome;
+use motion::RunAnswer;
+use state::State;
+ghost use lib.Ieee.{nan};
+ghost use mathlib.Core.Path.{_≡_};
+ghost use Rattle.handed.specs.Handed.{handed};
+ghost use Rattle.panelink.specs.Lent.{keptIn, olderOf, newerOf, paneOf, numbersIn, placesIn, outcomeOf, flownTo, left, ofFrame};
+
+const GOING: u64 = 100;
+
+const UNCHANGED: u64 = 101;
+
+const LATE: u64 = 102;
+
+const EMPTY: u64 = 103;
+
+fn older_of(n: [u64; 5], c: [f64; 18]) -> State
+    ensures { λ r. ⌜ r ≡ olderOf n c ⌝ }
+{
+    State {
+        moment: n[1],
+        centre: n[2],
+        x: c[0],
+        y: c[1],
+        z: c[2],
+        vx: c[3],
+        vy: c[4],
+        vz: c[5],
+        ax: c[6],
+        ay: c[7],
+        az: c[8],
+    }
+}
+
+fn newer_of(n: [u64; 5], c: [f64; 18]) -> State
+    ensures { λ r. ⌜ r ≡ newerOf n c ⌝ }
+{
+    State {
+        moment: n[3],
+        centre: n[4],
+        x: c[9],
+        y: c[10],
+        z: c[11],
+        vx: c[12],
+        vy: c[13],
+        vz: c[14],
+        ax: c[15],
+        ay: c[16],
+        az: c[17],
+    }
+}
+
+pub fn pane_of(n: [u64; 5], c: [f64; 18]) -> Pane
+    ensures { λ r. ⌜ r ≡ paneOf n c ⌝ }
+{
+    let held = n[0];
+    if held == 2 {
+        return Pane::Two(older_of(n, c), newer_of(n, c));
+    }
+    if held == 1 {
+        return Pane::One(older_of(n, c));
+    }
+    Pane::Blank
+}
+
+pub fn numbers_in(pane: Pane) -> [u64; 5]
+    ensures { λ r. ⌜ r ≡ numbersIn pane ⌝ }
+{
+    match pane {
+        Pane::Blank => [0, 0, 0, 0, 0],
+        Pane::One(a) => [1, a.moment, a.centre, 0, 0],
+        Pane::Two(a, b) => [2, a.moment, a.centre, b.moment, b.centre],
+    }
+}
+
+pub fn places_in(pane: Pane) -> [f64; 18]
+    ensures { λ r. ⌜ r ≡ placesIn pane ⌝ }
+{
+    match pane {
+        Pane::Blank => [0.0; 18],
+        Pane::One(a) => {
+            [
+                a.x,
+                a.y,
+                a.z,
+                a.vx,
+                a.vy,
+                a.vz,
+                a.ax,
+                a.ay,
+                a.az,
+                0.0,
+                0.0,
+                0.0,
+                0.0,
+                0.0,
+                0.0,
+                0.0,
+                0.0,
+                0.0,
+            ]
+        }
+        Pane::Two(a, b) => {
+            [
+                a.x,
+                a.y,
+                a.z,
+                a.vx,
+                a.vy,
+                a.vz,
+                a.ax,
+                a.ay,
+                a.az,
+                b.x,
+                b.y,
+                b.z,
+                b.vx,
+                b.vy,
+                b.vz,
+                b.ax,
+                b.ay,
+                b.az,
+            ]
+        }
+    }
+}
+
+// A state that is not taken leaves the memory as it was.
+pub fn keep(answer: TakeAnswer, pane: &mut [u64; 5], places: &mut [f64; 18]) -> u64
+    ensures { λ r. ⌜ handed r (keptIn (now (pane .exit)) (now (places .exit))) ≡ left (keptIn (now (pane .entry)) (now (places .entry))) answer ⌝ }
+{
+    match answer {
+        TakeAnswer::Taken(next) => {
+            *pane = numbers_in(next);
+            *places = places_in(next);
+            0
+        }
+        TakeAnswer::Unchanged => UNCHANGED,
+        TakeAnswer::Refused(k) => k,
+    }
+}
+
+fn outcome_of(returned: u64) -> Outcome
+    ensures { λ r. ⌜ r ≡ outcomeOf returned ⌝ }
+{
+    if returned == 0 {
+        return Outcome::Arrived;
+    }
+    if returned == GOING {
+        return Outcome::Going;
+    }
+    Outcome::Refused(returned)
+}
+
+// The pane does not read steps and guesses.
+pub fn flown_to(returned: u64, state: State) -> RunAnswer
+    ensures { λ r. ⌜ r ≡ flownTo returned state ⌝ }
+{
+    let outcome = outcome_of(returned);
+    RunAnswer {
+        outcome,
+        steps: 0,
+        state,
+        guesses: Guesses {
+            moon: 0,
+            sun: 0,
+            venus: 0,
+            mars: 0,
+            jupiter: 0,
+        },
+    }
+}
+
+fn no_number() -> f64
+    ensures { λ r. ⌜ r ≡ nan ⌝ }
+{
+    // infinity less infinity is a NaN
+    let top = f64::from_bits(0x7ff0_0000_0000_0000);
+    top - top
+}
+
+// Where a frame is not current, no older figure stands in the position's place.
+pub fn position_in(shown: FrameAnswer) -> [f64; 3]
+    ensures { λ r. ⌜ r ≡ ofFrame shown .position ⌝ }
+{
+    match shown {
+        FrameAnswer::Current(p) => [p.x, p.y, p.z],
+        FrameAnswer::Late(ms) => [no_number(); 3],
+        FrameAnswer::Empty => [no_number(); 3],
+        FrameAnswer::Refused(k) => [no_number(); 3],
+    }
+}
+
+pub fn late_in(shown: FrameAnswer) -> u64
+    ensures { λ r. ⌜ r ≡ ofFrame shown .late ⌝ }
+{
+    match shown {
+        FrameAnswer::Current(p) => 0,
+        FrameAnswer::Late(ms) => ms,
+        FrameAnswer::Empty => 0,
+        FrameAnswer::Refused(k) => 0,
+    }
+}
+
+pub fn returned_by(shown: FrameAnswer) -> u64
+    ensures { λ r. ⌜ r ≡ ofFrame shown .returned ⌝ }
+{
+    match shown {
+        FrameAnswer::Current(p) => 0,
+        FrameAnswer::Late(ms) => LATE,
+        FrameAnswer::Empty => EMPTY,
+        FrameAnswer::Refused(k) => k,
+    }
+}
