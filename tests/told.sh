@@ -43,6 +43,8 @@ says "$dates" ask "$(printf 'x%.0s' {1..5000})"
 check "ask with a name that is too long" '' "^ask: the book's name: File name too long"
 says "$dates" ask data/books/book30.bin more
 check "ask with two words" '' '^use: ask \[BOOK\] < QUESTIONS$'
+$start target/bin/ask <"$work" >"$work/out" 2>"$work/err"
+check "ask with a directory for its questions" '' '^ask: cannot read standard input: Is a directory$'
 { cat data/books/book30.bin; head -c 61440 /dev/zero; } >"$work/long"
 says "$dates" ask "$work/long"
 check "ask with a book above the limit" $'1950 1 1\nREFUSED 1' ''

@@ -97,7 +97,11 @@ fn answer_all(book: &[u8]) {
     let mut kept = 0;
     let mut blocks_left = u64::MAX;
     while 0 < blocks_left {
-        let n = io::count(libc::read(libc::STDIN_FILENO, &mut block), &block);
+        let got = libc::read(libc::STDIN_FILENO, &mut block);
+        if got < 0 {
+            os::fail(b"ask: cannot read standard input");
+        }
+        let n = io::count(got, &block);
         if n == 0 {
             break;
         }

@@ -7,10 +7,11 @@ use Rattle.ask.proofs.answer_all.Statement.{statement}
 use Rattle.ask.proofs.answer_all.Tie as tie
 
 abbrev Inv-loop : tie.InvT-loop
-Inv-loop book block₀ line₀ kept₀ blocks-left₀ t7 block line kept blocks-left = (kept ≤ 1_001) × (length block ≡ 65_536) × (length t7 ≡ 1)
+Inv-loop book block₀ line₀ kept₀ blocks-left₀ t7 t8 block line kept blocks-left =
+    (kept ≤ 1_001) × (length block ≡ 65_536) × (length t7 ≡ 31) × (length t8 ≡ 1)
 
 abbrev μ-loop : tie.MeasureT-loop
-μ-loop book block₀ line₀ kept₀ blocks-left₀ t7 block line kept blocks-left = blocks-left
+μ-loop book block₀ line₀ kept₀ blocks-left₀ t7 t8 block line kept blocks-left = blocks-left
 
 loop-holds : tie.Need-loop-holds Inv-loop μ-loop
 loop-holds c = search needs
@@ -20,6 +21,12 @@ slice-aggregate-read c = search needs
 
 read-requires : tie.Need-read-requires Inv-loop μ-loop
 read-requires c κs = search needs
+
+slice-aggregate-fail : tie.Need-slice-aggregate-fail Inv-loop μ-loop
+slice-aggregate-fail c = search needs
+
+fail-requires : tie.Need-fail-requires Inv-loop μ-loop
+fail-requires c κs = search needs
 
 slice-aggregate-count : tie.Need-slice-aggregate-count Inv-loop μ-loop
 slice-aggregate-count c = search needs
@@ -66,6 +73,8 @@ answer-all-spec =
     loop-holds
     slice-aggregate-read
     read-requires
+    slice-aggregate-fail
+    fail-requires
     slice-aggregate-count
     count-requires
     array-share-prefix-block
