@@ -1,13 +1,10 @@
 #!/bin/sh
 # Builds the five archives of the exported calls and the two examples over them, and compares what they print with document 01's
 # figures; then every call with the Rust reference, on inputs from a seed. One line for each check; ends with 1 if one failed.
-#
-# The archives are for x86-64. On another machine, or with LINK_NATIVE=1, the modules that they are made of are compiled for this
-# machine by the kit's own compiler: same modules, same optimiser.
 cd "$(dirname "$0")/.." || exit 2
 work=$PWD/target/link
 mkdir -p "$work"
-. tests/modules.sh
+. tests/archives.sh
 failed=0
 
 check() { # NAME COMMAND..
@@ -19,13 +16,6 @@ check() { # NAME COMMAND..
         echo "FAILED $name (target/link/$name.log)"
         failed=1
     fi
-}
-
-native_archive() { # NAME
-    rm -f "$work/lib$1.a"
-    module_of "$1" || return 1
-    "$tools/clang" "--target=$machine-unknown-linux-gnu" -O3 -fPIC -ffp-contract=off -x ir "$work/module.bc" -c -o "$work/$1.o" &&
-        "$tools/llvm-ar" rcs "$work/lib$1.a" "$work/$1.o"
 }
 
 c_example() {
@@ -42,22 +32,12 @@ same_as_reference() {
     BELFRYWOOL_LIB=$archive cargo test --release -j1 --manifest-path bench/Cargo.toml --target-dir "$work/bench"
 }
 
-if [ "$machine" = x86_64 ] && [ -z "${LINK_NATIVE:-}" ]; then
-    archive=$PWD/target/staticlib
-    check archive rt staticlib link
-    check archive-about-a-centre rt staticlib centrelink
-    check archive-without-state rt staticlib almanaclink
-    check archive-of-repair rt staticlib mendlink
-    check archive-of-the-pane rt staticlib panelink
-else
-    echo "this machine is $machine: the archives' modules are compiled for it"
-    archive=$work
-    check archive native_archive link
-    check archive-about-a-centre native_archive centrelink
-    check archive-without-state native_archive almanaclink
-    check archive-of-repair native_archive mendlink
-    check archive-of-the-pane native_archive panelink
-fi
+[ "$archive" != "$work" ] || echo "this machine is $machine: the archives' modules are compiled for it"
+check archive make_archive link
+check archive-about-a-centre make_archive centrelink
+check archive-without-state make_archive almanaclink
+check archive-of-repair make_archive mendlink
+check archive-of-the-pane make_archive panelink
 check c-link c_example
 check rust-link rust_example
 check same-as-reference same_as_reference
