@@ -10,7 +10,7 @@ from checks import ROOT, WORK, check, ran
 from png import pixels
 
 # colours, and how many pixels of each a part has to have at least
-CRAFT, EARTH, JPL, WAY = ((0x1f, 0x5f, 0xa8), 45), ((0x2e, 0x8b, 0x57), 50), ((0xd2, 0x60, 0x1a), 15), ((0x1f, 0x5f, 0xa8), 300)
+CRAFT, EARTH, JPL, WAY = ((0x1f, 0x5f, 0xa8), 45), ((0x2e, 0x8b, 0x57), 50), ((0xd2, 0x60, 0x1a), 15), ((0x1f, 0x5f, 0xa8), 240)
 # parts of a picture: left, top, right and bottom as shares of it, and the colours that have to be there
 FLIGHT = {'the path': ((0, 0, 1, 0.65), (CRAFT, EARTH)), 'the range': ((0, 0.67, 0.5, 1), (CRAFT, JPL)),
           'the speed': ((0.5, 0.67, 1, 1), (CRAFT, JPL))}

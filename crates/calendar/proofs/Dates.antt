@@ -11,8 +11,8 @@ use Rattle.calendar.specs.declared.DateAnswer.{DateAnswer}
 use Rattle.calendar.specs.declared.DayAnswer.{DayAnswer}
 use Rattle.calendar.specs.Answers.{dateAnswer, dayAnswerOf}
 use Rattle.calendar.specs.Gregorian.{ymd, isLeap, monthLength, daysBeforeMonth, daysOfYears, isDate, dayOf, dayAfter, dateOf}
-use Rattle.calendar.proofs.Lengths.{length-of, days-of-years, daysOfMonths, lengthOfMonth, lengthOfYear, month-step, year-step, month-within, next-month, january-starts, december-ends, month-has-days}
-use Rattle.calendar.proofs.Runs.{later, same-run}
+use Rattle.lengths.proofs.Lengths.{length-of, days-of-years, daysOfMonths, lengthOfMonth, lengthOfYear, month-step, year-step, month-within, next-month, january-starts, december-ends, month-has-days}
+use Rattle.lengths.proofs.Runs.{later, same-run}
 
 -- a date from 1950 on, with no last year
 pub record Proper (date : Calendar) : Type 0 where

@@ -1,8 +1,12 @@
 // Dates of the Gregorian calendar from 1950 to 2049, and their days counted from 1950 January 1.
 
+use lengths::known::days_before_month;
+use lengths::known::days_before_year;
+use lengths::known::is_leap;
+use lengths::known::month_length;
 ghost use mathlib.Core.Path.{_≡_};
-ghost use Prim.Native.Nat.{_+_, _*_, _<_, _≤_};
-ghost use Rattle.calendar.specs.Gregorian.{ymd, isLeap, yearLength, monthLength, daysBeforeMonth, daysBeforeYear, isDate, dateOf};
+ghost use Prim.Native.Nat.{_+_, _<_, _≤_};
+ghost use Rattle.calendar.specs.Gregorian.{ymd, isLeap, yearLength, daysBeforeYear, isDate, dateOf};
 ghost use Rattle.calendar.specs.Answers.{dateAnswer, dayAnswer, julianAnswer};
 
 // A date.
@@ -25,45 +29,6 @@ pub enum DayAnswer {
 pub enum JulianAnswer {
     Twice(u64),
     Refused(u64),
-}
-
-const COMMON_YEAR: [u64; 12] = [31, 28, 31, 30, 31, 30, 31, 31, 30, 31, 30, 31];
-
-const LEAP_YEAR: [u64; 12] = [31, 29, 31, 30, 31, 30, 31, 31, 30, 31, 30, 31];
-
-// Within 1950 to 2049 every fourth year is leap: 2000 is the only year that 100 divides.
-fn is_leap(year: u64) -> bool
-    requires { ⌜ (1950 ≤ year) × (year ≤ 2049) ⌝ }
-    ensures { λ r. ⌜ r ≡ isLeap year ⌝ }
-{
-    year % 4 == 0
-}
-
-fn days_before_year(year: u64) -> u64
-    requires { ⌜ (1950 ≤ year) × (year ≤ 2049) ⌝ }
-    ensures { λ r. ⌜ r ≡ daysBeforeYear year ⌝ }
-{
-    let years = year - Calendar::FIRST_YEAR;
-    365 * years + (years + 1) / 4
-}
-
-fn month_length(leap: bool, month: u64) -> u64
-    requires { ⌜ (1 ≤ month) × (month ≤ 12) ⌝ }
-    ensures { λ r. ⌜ r ≡ monthLength leap month ⌝ }
-{
-    let i = (month - 1) as usize;
-    if leap { LEAP_YEAR[i] } else { COMMON_YEAR[i] }
-}
-
-fn days_before_month(leap: bool, month: u64) -> u64
-    requires { ⌜ (1 ≤ month) × (month ≤ 12) ⌝ }
-    ensures { λ r. ⌜ r ≡ daysBeforeMonth leap month ⌝ }
-{
-    let mut days = 0;
-    for m in 1..month {
-        days += month_length(leap, m);
-    }
-    days
 }
 
 // The date after so many days of a year.
@@ -114,7 +79,7 @@ impl Calendar {
 
     pub const LAST_DAY: u64 = 36_524;
 
-    pub const FIRST_YEAR: u64 = 1950;
+    pub const FIRST_YEAR: u64 = lengths::FIRST_YEAR;
 
     pub const LAST_YEAR: u64 = 2049;
 

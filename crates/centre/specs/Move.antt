@@ -1,26 +1,19 @@
 -- Document 02, R-6: "A separate call moves a state to another centre", and R-8: "a move to another centre works it out anew".
-use mathlib.Core.Bool.{not}
 use mathlib.Core.List.{List}
 use Prim.Native.Nat.{ℕ}
 use Rattle.basis.specs.Choice.{if_then_else_, _=?_}
-use Rattle.basis.specs.Floats.{_⊖_}
-use Rattle.basis.specs.Limits.{isMoment}
-use Rattle.state.specs.State.{position, velocity, injectionAt, finiteInjection, finiteState, settingAllowed, centreAllowed}
-use Rattle.state.specs.declared.Vector.{Vector}
+use Rattle.state.specs.State.{finiteInjection}
 use Rattle.state.specs.declared.State.{State}
 use Rattle.state.specs.declared.Injection.{Injection}
 use Rattle.state.specs.declared.Setting.{Setting}
-use Rattle.book.specs.Passes.{passes}
 use Rattle.book.specs.Lookup.{lookup}
 use Rattle.book.specs.Series as series
-use Rattle.series.specs.declared.Place.{Place}
-use Rattle.series.specs.declared.Velocity.{Velocity}
-use Rattle.book.specs.declared.Motion.{Motion}
 use Rattle.book.specs.declared.Lookup.{Lookup}
 use Rattle.book.specs.declared.Lookup.the-variants.{Entry, Nothing}
-use Rattle.gravity.specs.Pull.{minus}
 use Rattle.gravity.specs.Acceleration.{atRest}
 use Rattle.injection.specs.Injection.{kept}
+unfoldable pub use Rattle.shift.specs.Shift.{shifted}
+unfoldable pub use Rattle.movecheck.specs.Refusal.{moveRefusal}
 use Rattle.injection.specs.declared.InjectionAnswer.{InjectionAnswer}
 use Rattle.injection.specs.declared.InjectionAnswer.the-variants as injection
 use Rattle.centre.specs.declared.Seen.{Seen}
@@ -35,19 +28,6 @@ motionBy b t Nothing = Uncovered
 
 unfoldable pub motionOf : List ℕ → ℕ → ℕ → Seen
 motionOf b number t = if number =? 1 then Covered atRest else motionBy b t (lookup b number t)
-
--- "the new centre's position and velocity relative to the old"
-abbrev pub apart : Place → Place → Vector
-apart old new = record { x = new .x ⊖ old .x; y = new .y ⊖ old .y; z = new .z ⊖ old .z }
-
-abbrev pub velocityApart : Velocity → Velocity → Vector
-velocityApart old new = record { x = new .x ⊖ old .x; y = new .y ⊖ old .y; z = new .z ⊖ old .z }
-
--- "by subtracting" them
-unfoldable pub shifted : State → ℕ → Motion → Motion → Injection
-shifted s centre old new =
-    injectionAt (s .moment) centre (minus (position s) (apart (old .place) (new .place)))
-    (minus (velocity s) (velocityApart (old .velocity) (new .velocity)))
 
 -- R-8: "the rule's own 6 or 7 at its new state, after 7 (result)"
 abbrev pub movedBy : InjectionAnswer → MoveAnswer
@@ -69,16 +49,6 @@ unfoldable pub moveOf : List ℕ → Setting → State → ℕ → MoveAnswer
 moveOf b setting s centre =
     if s .centre =? centre then Moved s else
     moveBy b setting s centre (motionOf b (s .centre) (s .moment)) (motionOf b centre (s .moment))
-
--- 1, 4, "14, directly after 4", of the centre that it has and of the new one; "a move then gives 3, 7 (state)"; 0 where none of these comes
-unfoldable pub moveRefusal : List ℕ → Setting → State → ℕ → ℕ
-moveRefusal b setting s centre =
-    if not (passes b) then 1 else
-    if not (settingAllowed setting) then 4 else
-    if not (centreAllowed setting (s .centre)) then 14 else
-    if not (centreAllowed setting centre) then 14 else
-    if not (isMoment (s .moment)) then 3 else
-    if not (finiteState s) then 7 else 0
 
 -- "then .. 6, 7 (result), the number alone"
 unfoldable pub moveAnswer : List ℕ → Setting → State → ℕ → MoveAnswer

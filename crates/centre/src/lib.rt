@@ -1,24 +1,22 @@
 // (02, R-6) A state moved to another centre, (02, R-8) with the acceleration that the rule gives it there.
 
-use basis::END_OF_TIME;
-use basis::unless;
 use book::Lookup;
 use book::Motion;
 use book::Place;
 use book::Velocity;
-use gravity::known::difference;
 use injection::InjectionAnswer;
 use injection::known::kept_at;
+use movecheck::move_refusal;
+use shift::shifted_state;
 use state::Injection;
 use state::Setting;
 use state::State;
-use state::Vector;
 ghost use mathlib.Core.Bool.{true};
 ghost use mathlib.Core.Path.{_≡_};
 ghost use Rattle.state.specs.State.{centreAllowed};
 ghost use Rattle.book.specs.Passes.{passes};
 ghost use Rattle.gravity.specs.Acceleration.{atRest};
-ghost use Rattle.centre.specs.Move.{motionOf, apart, velocityApart, shifted, movedBy, keptOr7, moveBy, moveOf, moveRefusal, moveAnswer};
+ghost use Rattle.centre.specs.Move.{motionOf, movedBy, keptOr7, moveBy, moveOf, moveAnswer};
 
 pub enum MoveAnswer {
     Moved(State),
@@ -61,48 +59,6 @@ fn motion_of(book: &[u8], number: u64, moment: u64) -> Seen
     let place = book::known::place_at(book, entry, moment);
     let velocity = book::known::velocity_at(book, entry, moment);
     Seen::Covered(Motion { place, velocity })
-}
-
-// How far the new centre is from the old.
-fn apart_by(old: Place, new: Place) -> Vector
-    ensures { λ r. ⌜ r ≡ apart old new ⌝ }
-{
-    Vector {
-        x: new.x - old.x,
-        y: new.y - old.y,
-        z: new.z - old.z,
-    }
-}
-
-// How fast the new centre goes, against the old.
-fn velocity_apart(old: Velocity, new: Velocity) -> Vector
-    ensures { λ r. ⌜ r ≡ velocityApart old new ⌝ }
-{
-    Vector {
-        x: new.x - old.x,
-        y: new.y - old.y,
-        z: new.z - old.z,
-    }
-}
-
-fn shifted_state(s: State, centre: u64, old: Motion, new: Motion) -> Injection
-    ensures { λ r. ⌜ r ≡ shifted s centre old new ⌝ }
-{
-    let p = difference(state::position_of(s), apart_by(old.place, new.place));
-    let v = difference(
-        state::velocity_of(s),
-        velocity_apart(old.velocity, new.velocity),
-    );
-    Injection {
-        moment: s.moment,
-        centre,
-        x: p.x,
-        y: p.y,
-        z: p.z,
-        vx: v.x,
-        vy: v.y,
-        vz: v.z,
-    }
 }
 
 fn moved_by(answer: InjectionAnswer) -> MoveAnswer
@@ -150,24 +106,6 @@ fn moved(book: &[u8], setting: Setting, s: State, centre: u64) -> MoveAnswer
     let from = motion_of(book, s.centre, s.moment);
     let to = motion_of(book, centre, s.moment);
     move_by(book, setting, s, centre, from, to)
-}
-
-// The number of the first check that fails, 0 where none does: made first and then put in order, the last one first.
-fn move_refusal(book: &[u8], setting: Setting, s: State, centre: u64) -> u64
-    ensures { λ r. ⌜ r ≡ moveRefusal (now (book .entry)) setting s centre ⌝ }
-{
-    let passes = book::book_passes(book);
-    let allowed = state::setting_is_allowed(setting);
-    let from = state::centre_is_allowed(setting, s.centre);
-    let to = state::centre_is_allowed(setting, centre);
-    let begins = s.moment < END_OF_TIME;
-    let finite = state::state_is_finite(s);
-    let after_moment = unless(finite, 7, 0);
-    let after_to = unless(begins, 3, after_moment);
-    let after_from = unless(to, 14, after_to);
-    let after_setting = unless(from, 14, after_from);
-    let after_book = unless(allowed, 4, after_setting);
-    unless(passes, 1, after_book)
 }
 
 // The state about another centre: its position and velocity less those of the new centre, seen from the old.

@@ -9,8 +9,10 @@ ghost use Rattle.centre.specs.Move.{moveAnswer};
 ghost use Rattle.fixed.specs.Fixed.{fixedAnswer};
 ghost use Rattle.conic.specs.Conic.{conicAnswer};
 ghost use Rattle.handed.specs.Handed.{handed, answered};
-ghost use Rattle.lent.specs.Lent.{settingOf, vectorOf, injectionOf, stateOf, unkeptOf, guessesOf, bothIn};
-ghost use Rattle.lent.specs.Answers.{ofAcceleration, ofInjection, ofMove, ofFixed, ofConic, handedBack, ofFlight};
+ghost use Rattle.lent.specs.Lent.{settingOf, vectorOf, injectionOf, stateOf, unkeptOf, guessesOf};
+ghost use Rattle.lentconic.specs.Figures.{bothIn, ofConic};
+ghost use Rattle.lent.specs.Answers.{ofAcceleration, ofInjection, ofMove, handedBack, ofFlight};
+ghost use Rattle.lentearth.specs.Earth.{ofFixed};
 
 #[no_mangle]
 pub extern "C" fn belfry_pull(
@@ -159,7 +161,7 @@ pub extern "C" fn belfry_turn(
     ensures { λ r. ⌜ handed r (now (turned .exit)) ≡ answered (now (turned .entry))
         (ofFixed (fixedAnswer rule dut (unkeptOf moment centre (now (coordinates .entry))))) ⌝ }
 {
-    lent::calls::turned(rule, dut, moment, centre, coordinates, turned)
+    lentearth::turned(rule, dut, moment, centre, coordinates, turned)
 }
 
 #[no_mangle]
@@ -174,5 +176,5 @@ pub extern "C" fn belfry_orbit(
     ensures { λ r. ⌜ handed r (bothIn (now (names .exit)) (now (figures .exit))) ≡ answered (bothIn (now (names .entry)) (now (figures .entry)))
         (ofConic (conicAnswer m (unkeptOf moment centre (now (coordinates .entry))))) ⌝ }
 {
-    lent::calls::orbit(m, moment, centre, coordinates, names, figures)
+    lentconic::orbit(m, moment, centre, coordinates, names, figures)
 }

@@ -15,7 +15,7 @@ use Rattle.book.specs.declared.PositionAnswer.{PositionAnswer}
 use Rattle.book.specs.declared.PositionAnswer.the-variants as position
 use Rattle.book.proofs.Refused as book
 use Rattle.pull.specs.Pull.{negated, g, sound}
-use Rattle.pull.specs.Terms.{lastTerms, lastSound}
+use Rattle.terms.specs.Terms.{lastTerms, lastSound}
 use Rattle.sight.specs.Sky.{Sky, Bodies, Hidden, Listed, bodiesOf, atRest, stands, placeOf, seen, skyOf, sky}
 use Rattle.gravity.specs.Acceleration.{fromCentre, less, allSound, finished, accelerationAt, accelerationAnswer}
 use Rattle.gravity.specs.declared.AccelerationAnswer.{AccelerationAnswer}

@@ -14,8 +14,9 @@ use Rattle.state.specs.declared.Setting.{Setting}
 use Rattle.book.specs.declared.Motion.{Motion}
 use Rattle.book.specs.declared.PositionAnswer.the-variants as position
 use Rattle.pull.specs.Pull.{plus, minus, negated, g, sound}
-use Rattle.pull.specs.Terms.{lastTerms, lastSound}
-use Rattle.pull.specs.Sum.{pullOf, takenOff, lessBy, lessAll, vectorOf, startBy, oblateBy, sunlitBy}
+use Rattle.terms.specs.Terms.{lastTerms, lastSound}
+use Rattle.pull.specs.Sum.{pullOf, takenOff, lessBy, lessAll, vectorOf, startBy}
+use Rattle.terms.specs.Added.{oblateBy, sunlitBy}
 use Rattle.pull.specs.declared.Pull.{Pull}
 use Rattle.pull.specs.declared.Other.{Other}
 use Rattle.sight.specs.Sky.{Sky, Bodies, Hidden, Listed, bodiesOf, standing, nowhere, stands, placeOf, seen, skyOf, sky}

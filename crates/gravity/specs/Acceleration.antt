@@ -9,7 +9,7 @@ use Rattle.state.specs.declared.Vector.{Vector}
 use Rattle.state.specs.declared.Setting.{Setting}
 use Rattle.book.specs.Passes.{passes}
 use Rattle.pull.specs.Pull.{plus, minus, negated, g, sound}
-pub use Rattle.pull.specs.Terms.{lastTerms, lastSound}
+pub use Rattle.terms.specs.Terms.{lastTerms, lastSound}
 pub use Rattle.sight.specs.Sky.{Body, Sky, Bodies, Hidden, Listed, standing, nowhere, atRest, stands, seen, skyOf, placeOf}
 unfoldable pub use Rattle.sight.specs.Sky.{sky}
 use Rattle.gravity.specs.declared.AccelerationAnswer.{AccelerationAnswer}

@@ -7,7 +7,8 @@ use Rattle.state.specs.State.{used, coefficientOf}
 use Rattle.state.specs.declared.Vector.{Vector}
 use Rattle.state.specs.declared.Setting.{Setting}
 use Rattle.pull.specs.Pull.{minus}
-use Rattle.pull.specs.Sum.{pullOf, noPull, lessAll, startBy, vectorOf, oblateBy, sunlitBy}
+use Rattle.pull.specs.Sum.{pullOf, noPull, lessAll, startBy, vectorOf}
+use Rattle.terms.specs.Added.{oblateBy, sunlitBy}
 use Rattle.pull.specs.declared.Pull.{Pull}
 use Rattle.pull.specs.declared.Other.{Other}
 use Rattle.sight.specs.Sky.{nowhere}

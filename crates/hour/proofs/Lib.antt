@@ -1,7 +1,2 @@
 pub mod BothRules
-pub mod Century
-pub mod Less
-pub mod LongDivision
 pub mod OneAnswer
-pub mod Rounding
-pub mod Sum

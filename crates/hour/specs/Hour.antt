@@ -1,11 +1,11 @@
 -- Document 01, "Time" and "Hour angle", and document 02, R-9: UT, the two rules, each one exact fraction, and the answer with its refusals.
 use mathlib.Core.Bool.{Bool, not}
-use Prim.Native.Nat.{ℕ, _+_, _-_, _*_, _/_, _%_, _^_}
-use lib.IntN.{pos}
+use Prim.Native.Nat.{ℕ, _-_, _/_, _%_}
 use Rattle.basis.specs.Choice.{if_then_else_, _<?_, _≤?_, _=?_}
 use Rattle.basis.specs.Limits.{isMoment, isDUT, dayLength}
-use Rattle.hour.specs.Fraction.{Fraction, intoCircle}
-use Rattle.hour.specs.Sidereal.{sidereal1982}
+use Rattle.rounding.specs.Fraction.{Fraction, intoCircle}
+use Rattle.oldrule.specs.DocumentOne.{documentOne}
+use Rattle.rule1982.specs.Sidereal.{sidereal1982}
 use Rattle.hour.specs.declared.HourAnswer.{HourAnswer}
 use Rattle.hour.specs.declared.HourAnswer.the-variants.{Parts, Refused}
 
@@ -15,25 +15,6 @@ utDay moment dut = (moment - dut) / dayLength
 
 abbrev pub utTime : ℕ → ℕ → ℕ
 utTime moment dut = (moment - dut) % dayLength
-
--- document 01's rule, of d whole days and t milliseconds of UT: what the fourth term is divided by
-abbrev pub slowing : ℕ → ℕ
-slowing d = 10 ^ 15 + 521 * d
-
--- the third and the fourth term's divisors, 10^7 and 10^15 + 521·d, together: the denominator of the sum
-abbrev pub denominator : ℕ → ℕ
-denominator d = 10 ^ 7 * slowing d
-
--- the four terms over that denominator: the first two times the whole of it, the third and the fourth times the other's divisor
-abbrev pub numerator : ℕ → ℕ → ℕ
-numerator d t =
-    1_000_755_426_000 * denominator d
-    + 9_856_473_460 * d * denominator d
-    + 29_015 * (d * d) * slowing d
-    + 417_807_417 * 10 ^ 11 * t * 10 ^ 7
-
-abbrev pub documentOne : ℕ → ℕ → Fraction
-documentOne d t = record { numerator = pos (numerator d t); denominator = denominator d }
 
 -- "Keep both and choose by a setting": rule 0 is document 01's, rule 1 that of 1982
 abbrev pub isRule : ℕ → Bool

@@ -1,5 +1,1 @@
-pub mod Century
-pub mod Division
-pub mod Fraction
 pub mod Hour
-pub mod Sidereal

@@ -1,80 +1,19 @@
-// The calls about a state, over numbers and memory that a caller lends: what the exported calls of the crates above stand on.
+// The calls about a state under a book, over numbers and memory that a caller lends: what the exported calls of the crates above stand on.
 
-use crate::figures_of;
 use crate::guesses_of;
 use crate::hand_back_whole;
-use crate::injection_of;
-use crate::kind_of;
-use crate::setting_of;
-use crate::state_of;
-use crate::unkept_of;
-use crate::vector_of;
 use centre::MoveAnswer;
-use conic::ConicAnswer;
-use fixed::FixedAnswer;
-use gravity::AccelerationAnswer;
-use injection::InjectionAnswer;
+pub use lentpull::inject;
+pub use lentpull::pull;
+use lentstate::setting_of;
+use lentstate::state_of;
 ghost use mathlib.Core.Path.{_≡_};
-ghost use Rattle.gravity.specs.Acceleration.{accelerationAnswer};
-ghost use Rattle.injection.specs.Injection.{injectionAnswer};
 ghost use Rattle.motion.specs.Run.{runAnswer};
 ghost use Rattle.centre.specs.Move.{moveAnswer};
-ghost use Rattle.fixed.specs.Fixed.{fixedAnswer};
-ghost use Rattle.conic.specs.Conic.{conicAnswer};
 ghost use Rattle.handed.specs.Handed.{handed, answered};
-ghost use Rattle.lent.specs.Lent.{settingOf, vectorOf, injectionOf, stateOf, unkeptOf, guessesOf, bothIn};
-ghost use Rattle.lent.specs.Answers.{ofAcceleration, ofInjection, ofMove, ofFixed, ofConic, handedBack, ofFlight};
-
-pub fn pull(
-    book: &[u8],
-    coefficients: &[f64; 6],
-    extras: &[f64; 3],
-    dut: u32,
-    rule: u64,
-    moment: u64,
-    centre: u64,
-    position: &[f64; 3],
-    acceleration: &mut [f64; 3],
-) -> u64
-    ensures { λ r. ⌜ handed r (now (acceleration .exit)) ≡ answered (now (acceleration .entry))
-        (ofAcceleration (accelerationAnswer (now (book .entry)) (settingOf (now (coefficients .entry)) (now (extras .entry)) dut rule) centre moment
-        (vectorOf (now (position .entry))))) ⌝ }
-{
-    let setting = setting_of(*coefficients, *extras, dut, rule);
-    match gravity::acceleration(book, setting, centre, moment, vector_of(*position)) {
-        AccelerationAnswer::Is(a) => {
-            *acceleration = [a.x, a.y, a.z];
-            0
-        }
-        AccelerationAnswer::Refused(k) => k,
-    }
-}
-
-// The state with the acceleration that the rule gives it.
-pub fn inject(
-    book: &[u8],
-    coefficients: &[f64; 6],
-    extras: &[f64; 3],
-    dut: u32,
-    rule: u64,
-    moment: u64,
-    centre: u64,
-    coordinates: &[f64; 6],
-    state: &mut [f64; 9],
-) -> u64
-    ensures { λ r. ⌜ handed r (now (state .exit)) ≡ answered (now (state .entry))
-        (ofInjection (injectionAnswer (now (book .entry)) (settingOf (now (coefficients .entry)) (now (extras .entry)) dut rule)
-        (injectionOf moment centre (now (coordinates .entry))))) ⌝ }
-{
-    let setting = setting_of(*coefficients, *extras, dut, rule);
-    match injection::inject(book, setting, injection_of(moment, centre, *coordinates)) {
-        InjectionAnswer::Injected(s) => {
-            *state = [s.x, s.y, s.z, s.vx, s.vy, s.vz, s.ax, s.ay, s.az];
-            0
-        }
-        InjectionAnswer::Refused(k) => k,
-    }
-}
+ghost use Rattle.lentstate.specs.Groups.{settingOf, stateOf};
+ghost use Rattle.lent.specs.Lent.{guessesOf};
+ghost use Rattle.lent.specs.Answers.{ofMove, handedBack, ofFlight};
 
 // What is read and what is written stand apart: the next call reads what this one wrote. The centre is the one given.
 pub fn fly(
@@ -130,48 +69,5 @@ pub fn moved(
             0
         }
         MoveAnswer::Refused(k) => k,
-    }
-}
-
-// Earth-fixed coordinates by a rule of the hour angle.
-pub fn turned(
-    rule: u64,
-    dut: u32,
-    moment: u64,
-    centre: u64,
-    coordinates: &[f64; 6],
-    turned: &mut [f64; 6],
-) -> u64
-    ensures { λ r. ⌜ handed r (now (turned .exit)) ≡ answered (now (turned .entry))
-        (ofFixed (fixedAnswer rule dut (unkeptOf moment centre (now (coordinates .entry))))) ⌝ }
-{
-    match fixed::earth_fixed(rule, dut, unkept_of(moment, centre, *coordinates)) {
-        FixedAnswer::Fixed(t) => {
-            *turned = [t.x, t.y, t.z, t.vx, t.vy, t.vz];
-            0
-        }
-        FixedAnswer::Refused(k) => k,
-    }
-}
-
-pub fn orbit(
-    m: f64,
-    moment: u64,
-    centre: u64,
-    coordinates: &[f64; 6],
-    names: &mut [u64; 2],
-    figures: &mut [f64; 5],
-) -> u64
-    ensures { λ r. ⌜ handed r (bothIn (now (names .exit)) (now (figures .exit))) ≡ answered (bothIn (now (names .entry)) (now (figures .entry)))
-        (ofConic (conicAnswer m (unkeptOf moment centre (now (coordinates .entry))))) ⌝ }
-{
-    match conic::conic_figures(m, unkept_of(moment, centre, *coordinates)) {
-        ConicAnswer::Figures(c) => {
-            let conic = c.conic;
-            *names = [c.centre, kind_of(conic)];
-            *figures = figures_of(conic);
-            0
-        }
-        ConicAnswer::Refused(k) => k,
     }
 }

@@ -11,8 +11,10 @@ ghost use Rattle.fixed.specs.Fixed.{fixedAnswer};
 ghost use Rattle.sphere.specs.Sphere.{sphereAnswer};
 ghost use Rattle.conic.specs.Conic.{conicAnswer};
 ghost use Rattle.handed.specs.Handed.{handed, answered};
-ghost use Rattle.lent.specs.Lent.{settingOf, noExtras, vectorOf, injectionOf, unkeptOf, guessesOf, bothIn, sphereOf};
-ghost use Rattle.lent.specs.Answers.{ofAcceleration, ofFixed, ofConic, handedBack, ofRun, ofSphere};
+ghost use Rattle.lent.specs.Lent.{settingOf, noExtras, vectorOf, injectionOf, unkeptOf, guessesOf};
+ghost use Rattle.lentearth.specs.Earth.{sphereOf, ofFixed, ofSphere};
+ghost use Rattle.lentconic.specs.Figures.{bothIn, ofConic};
+ghost use Rattle.lent.specs.Answers.{ofAcceleration, handedBack, ofRun};
 
 #[no_mangle]
 pub extern "C" fn belfry_acceleration(
@@ -110,7 +112,7 @@ pub extern "C" fn belfry_earth_fixed(
     ensures { λ r. ⌜ handed r (now (turned .exit)) ≡ answered (now (turned .entry))
         (ofFixed (fixedAnswer 0 dut (unkeptOf moment 1 (now (coordinates .entry))))) ⌝ }
 {
-    lent::calls::turned(0, dut, moment, 1, coordinates, turned)
+    lentearth::turned(0, dut, moment, 1, coordinates, turned)
 }
 
 #[no_mangle]
@@ -125,7 +127,7 @@ pub extern "C" fn belfry_from_sphere(
     ensures { λ r. ⌜ handed r (now (coordinates .exit)) ≡ answered (now (coordinates .entry))
         (ofSphere (sphereAnswer (sphereOf (now (sizes .entry)) (now (angles .entry))) rule moment dut)) ⌝ }
 {
-    match sphere::from_sphere(lent::sphere_of(*sizes, *angles), rule, moment, dut) {
+    match sphere::from_sphere(lentearth::sphere_of(*sizes, *angles), rule, moment, dut) {
         SphereAnswer::Injected(s) => {
             *coordinates = [s.x, s.y, s.z, s.vx, s.vy, s.vz];
             0
@@ -145,5 +147,5 @@ pub extern "C" fn belfry_conic(
     ensures { λ r. ⌜ handed r (bothIn (now (names .exit)) (now (figures .exit))) ≡ answered (bothIn (now (names .entry)) (now (figures .entry)))
         (ofConic (conicAnswer m (unkeptOf moment 1 (now (coordinates .entry))))) ⌝ }
 {
-    lent::calls::orbit(m, moment, 1, coordinates, names, figures)
+    lentconic::orbit(m, moment, 1, coordinates, names, figures)
 }

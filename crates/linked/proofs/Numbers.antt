@@ -47,7 +47,9 @@ use Rattle.fixed.specs.Fixed.{afterHour, finiteFixed, finiteAnswer, fixedAnswer
 use Rattle.conic.specs.Conic.{unfit, _before_, refusal, orbitAnswer, orbit, figuresAbout, conicAnswer}
 use Rattle.conic.specs.declared.ConicAnswer.{ConicAnswer}
 use Rattle.almanaclink.specs.Answers.{ofDate, ofDay, ofJulian, ofHour, ofRoot, ofSineCosine, ofPosition}
-use Rattle.lent.specs.Answers.{ofAcceleration, ofInjection, ofMove, ofFixed, ofSphere, ofConic}
+use Rattle.lent.specs.Answers.{ofAcceleration, ofInjection, ofMove}
+use Rattle.lentearth.specs.Earth.{ofFixed, ofSphere}
+use Rattle.lentconic.specs.Figures.{ofConic}
 use Rattle.linked.specs.Table.{tabled, told, outcomeTold}
 
 -- 0 for none, or a number of the table

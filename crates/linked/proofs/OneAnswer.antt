@@ -22,8 +22,10 @@ use Rattle.sphere.specs.Sphere.{sphereAnswer}
 use Rattle.conic.specs.Conic.{conicAnswer}
 use Rattle.handed.specs.Handed.{Handed, handed, answered}
 use Rattle.almanaclink.specs.Answers.{ofDate, ofDay, ofJulian, ofHour, ofRoot, ofSineCosine, ofPosition}
-use Rattle.lent.specs.Lent.{settingOf, noExtras, vectorOf, injectionOf, stateOf, unkeptOf, guessesOf, Both, bothIn, sphereOf}
-use Rattle.lent.specs.Answers.{ofAcceleration, ofInjection, ofMove, ofFixed, ofConic, RunMemory, handedBack, ofRun, ofFlight, ofSphere}
+use Rattle.lent.specs.Lent.{settingOf, noExtras, vectorOf, injectionOf, stateOf, unkeptOf, guessesOf}
+use Rattle.lentearth.specs.Earth.{sphereOf, ofFixed, ofSphere}
+use Rattle.lentconic.specs.Figures.{Both, bothIn, ofConic}
+use Rattle.lent.specs.Answers.{ofAcceleration, ofInjection, ofMove, RunMemory, handedBack, ofRun, ofFlight}
 use Rattle.almanaclink.proofs.belfry_date as date
 use Rattle.almanaclink.proofs.belfry_day as day
 use Rattle.almanaclink.proofs.belfry_twice_julian_date as twice-julian-date

@@ -16,7 +16,7 @@ use Rattle.start.specs.Start.{withinSteps}
 use Rattle.motion.specs.Kept.{kept, entriesAfter, MayStep, MayWalk}
 use Rattle.motion.specs.declared.Outcome.{Outcome}
 use Rattle.motion.specs.declared.Outcome.the-variants.{Arrived, Going, Refused}
-use Rattle.motion.specs.declared.Stepped.the-variants as stepped
+use Rattle.arrival.specs.declared.Stepped.the-variants as stepped
 use Rattle.start.proofs.Allowed.{away}
 use Rattle.motion.proofs.OneStep.{done}
 use Rattle.motion.proofs.Walked.{handedOn, handedOff}

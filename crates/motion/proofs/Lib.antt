@@ -1,5 +1,4 @@
-pub mod Answered
-pub mod OneStep
+pub use Rattle.stages.proofs.OneStep
 pub mod Runs
 pub mod Start
 pub mod Walked

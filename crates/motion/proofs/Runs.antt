@@ -7,7 +7,7 @@ use native.Mathlib.Omega.{arith}
 use borrow.Author.Tests.{eq-eqb, ne-eqb}
 use Rattle.basis.specs.Choice.{if_then_else_}
 use Rattle.state.specs.declared.State.{State}
-use Rattle.motion.specs.Step.{Moved, On, Off}
+use Rattle.stages.specs.Step.{Moved, On, Off}
 use Rattle.motion.specs.Run.{Reached, ended, counted, atTarget, afterwards, runTo}
 use Rattle.motion.specs.Kept.{countedBy}
 use Rattle.motion.specs.declared.Outcome.the-variants.{Arrived, Going, Refused}

@@ -11,7 +11,7 @@ use Rattle.state.specs.declared.State.{State}
 use Rattle.state.specs.declared.Setting.{Setting}
 use Rattle.book.specs.Passes.{passes}
 use Rattle.gravity.specs.declared.Guesses.{Guesses}
-use Rattle.motion.specs.Step.{step}
+use Rattle.stages.specs.Step.{step}
 use Rattle.start.specs.Start.{startRefusal}
 use Rattle.motion.specs.Run.{Reached, runTo, withGuesses, refusedAtOnce, runAnswer}
 use Rattle.motion.specs.Kept.{MayWalk}

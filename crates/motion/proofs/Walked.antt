@@ -13,16 +13,18 @@ use Rattle.state.specs.declared.Setting.{Setting}
 use Rattle.gravity.specs.Sight.{sights, foundIn, refusalIn}
 use Rattle.gravity.specs.declared.Guesses.{Guesses}
 use Rattle.gravity.proofs.Under.{allClear, seenEntry}
-use Rattle.motion.specs.Step.{Moved, On, Off, step}
+use Rattle.stages.specs.Step.{Moved, On, Off, step}
 use Rattle.motion.specs.Run.{Reached, ended, runTo, guessesAt, guessesAfter, handedBack, withGuesses}
-use Rattle.motion.specs.Kept.{kept, entriesAfter, guessesFrom, countedBy, MayStep, MayWalk, Walking}
+use Rattle.arrival.specs.Kept.{kept}
+use Rattle.stages.specs.Entries.{entriesAfter, MayStep}
+use Rattle.motion.specs.Kept.{guessesFrom, countedBy, MayWalk, Walking}
 use Rattle.motion.specs.declared.RunAnswer.{RunAnswer}
 use Rattle.motion.specs.declared.Outcome.{Outcome}
 use Rattle.motion.specs.declared.Outcome.the-variants.{Arrived, Going, Refused}
-use Rattle.motion.specs.declared.Stepped.{Stepped}
-use Rattle.motion.specs.declared.Stepped.the-variants as stepped
+use Rattle.arrival.specs.declared.Stepped.{Stepped}
+use Rattle.arrival.specs.declared.Stepped.the-variants as stepped
 use Rattle.start.proofs.Allowed.{away}
-use Rattle.motion.proofs.OneStep.{Done, done}
+use Rattle.stages.proofs.OneStep.{Done, done}
 use Rattle.motion.proofs.Runs.{runArrived, runGoing, runRefused, runOn, countNone, countOne, countEnded}
 
 -- ---- one step nearer to the target

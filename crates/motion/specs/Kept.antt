@@ -1,4 +1,4 @@
--- What the code hands from one step to the next beside the state: the entries in which the bodies were found at the new moment.
+-- What the loop over the steps keeps: the guesses from step to step, and where it stands.
 use mathlib.Core.Bool.{Bool, true, false}
 use mathlib.Core.List.{List}
 use mathlib.Core.Path.{_≡_}
@@ -7,34 +7,15 @@ use Rattle.basis.specs.Choice.{if_then_else_}
 use Rattle.basis.specs.Limits.{endOfTime}
 use Rattle.book.specs.Passes.{passes}
 use lib.Ieee.{Float}
-use Rattle.state.specs.State.{used, startingPosition, centreAllowed, lookedUp}
+use Rattle.state.specs.State.{used, centreAllowed, lookedUp}
 use Rattle.state.specs.declared.Setting.{Setting}
 use Rattle.state.specs.declared.State.{State}
-use Rattle.state.specs.declared.Injection.{Injection}
-use Rattle.gravity.specs.Sight.{sights, accelerationBy}
-use Rattle.gravity.specs.declared.Sights.{Sights}
 use Rattle.gravity.specs.declared.Guesses.{Guesses}
-use Rattle.injection.specs.Injection.{keptBy}
-use Rattle.motion.specs.Step.{Moved, On, Off, movedBy, step}
+pub use Rattle.arrival.specs.Kept.{kept}
+pub use Rattle.stages.specs.Entries.{entriesAfter, MayStep}
+use Rattle.stages.specs.Step.{step}
 use Rattle.start.specs.Start.{withinSteps}
 use Rattle.motion.specs.Run.{Reached, runTo, guessesAfter}
-use Rattle.motion.specs.declared.Stepped.{Stepped}
-use Rattle.motion.specs.declared.Stepped.the-variants as stepped
-
-abbrev pub kept : Guesses → Moved → Stepped
-kept entries (On s) = stepped.On s entries
-kept entries (Off k) = stepped.Off k
-
-abbrev pub entriesAfter : List ℕ → Setting → ℕ → State → Guesses
-entriesAfter b setting h s = sights b setting (s .centre) (s .moment + h) .entries
-
--- the acceleration of the new state, under the bodies that are known at its moment
-abbrev pub keepingUnder : Sights → Setting → Injection → Moved
-keepingUnder bodies setting i = movedBy (keptBy i (accelerationBy bodies setting (startingPosition i)))
-
--- what a step may lean on
-abbrev pub MayStep : Setting → State → Type 0
-MayStep setting s = (s .moment < endOfTime) × (centreAllowed setting (s .centre) ≡ true)
 
 abbrev pub guessFrom : Float → Bool → ℕ → ℕ → ℕ
 guessFrom m lit entry given = if lookedUp m lit then entry else given

@@ -1,4 +1,4 @@
-pub mod Step
+pub use Rattle.stages.specs.Step
 pub mod Walk
 pub mod Run
 pub mod Kept

@@ -11,7 +11,7 @@ use Rattle.book.specs.Lookup.{lookup}
 use Rattle.gravity.specs.Sight.{entryOr}
 use Rattle.gravity.specs.declared.Guesses.{Guesses}
 use Rattle.start.specs.Start.{startRefusal}
-use Rattle.motion.specs.Step.{Moved, On, Off, step}
+use Rattle.stages.specs.Step.{Moved, On, Off, step}
 use Rattle.motion.specs.declared.Outcome.{Outcome}
 use Rattle.motion.specs.declared.Outcome.the-variants.{Arrived, Going, Refused}
 use Rattle.motion.specs.declared.RunAnswer.{RunAnswer}

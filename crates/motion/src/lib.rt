@@ -1,9 +1,9 @@
 // The motion of a spacecraft: steps of a fixed length under a book of bodies, run in portions.
 
 pub mod known;
-mod stages;
 mod walking;
 
+pub use arrival::Stepped;
 use basis::END_OF_TIME;
 use gravity::Guesses;
 use state::Setting;
@@ -22,12 +22,6 @@ pub struct RunAnswer {
     pub steps: u32,
     pub state: State,
     pub guesses: Guesses,
-}
-
-// A step done, with the entries in which the bodies were found at its end, or the number by which it is refused.
-pub enum Stepped {
-    On(State, Guesses),
-    Off(u64),
 }
 
 // Steps of h milliseconds from a state to a target, as many as the budget allows.

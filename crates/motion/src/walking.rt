@@ -2,13 +2,13 @@
 
 use crate::Outcome;
 use crate::RunAnswer;
-use crate::Stepped;
-use crate::known::step_under;
+use arrival::Stepped;
 use gravity::Guesses;
+use stages::known::step_under;
 use state::Setting;
 use state::State;
 ghost use mathlib.Core.Path.{_≡_};
-ghost use Rattle.motion.specs.Step.{step};
+ghost use Rattle.stages.specs.Step.{step};
 ghost use Rattle.motion.specs.Run.{handedBack, runTo, withGuesses};
 ghost use Rattle.motion.specs.Kept.{guessFrom, guessesFrom, MayWalk};
 

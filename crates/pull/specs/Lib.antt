@@ -1,3 +1,2 @@
 pub mod Pull
-pub mod Terms
 pub mod Sum

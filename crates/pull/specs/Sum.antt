@@ -1,14 +1,12 @@
--- What the code makes of pulls: a pull told together with whether its lengths are sound, sums of them, and the last terms.
+-- What the code makes of pulls: a pull told together with whether its lengths are sound, and sums of them.
 use mathlib.Core.Bool.{Bool, true, _&&_}
 use mathlib.Core.List.{List, [], _∷_}
 use lib.Ieee.{Float, neg}
 use Rattle.basis.specs.Choice.{if_then_else_}
-use Rattle.basis.specs.Floats.{_⊕_, _⊖_, _⊗_, _⊘_, zero64, whole}
-use Rattle.state.specs.State.{n, used}
+use Rattle.basis.specs.Floats.{_⊕_, _⊖_, _⊗_, _⊘_, zero64}
+use Rattle.state.specs.State.{used}
 use Rattle.state.specs.declared.Vector.{Vector}
-use Rattle.state.specs.declared.Setting.{Setting}
 use Rattle.pull.specs.Pull.{g, sound, divisible, minus}
-use Rattle.pull.specs.Terms.{oblate, sunlit, soundIf}
 use Rattle.pull.specs.declared.Pull.{Pull}
 use Rattle.pull.specs.declared.TwoPulls.{TwoPulls}
 use Rattle.pull.specs.declared.ThreePulls.{ThreePulls}
@@ -62,29 +60,3 @@ twoPullsOf u a v b = record { first = pullOf u a; second = pullOf v b }
 
 abbrev pub pullsOf : Vector → Float → Vector → Float → Vector → Float → ThreePulls
 pullsOf u a v b w c = record { first = pullOf u a; second = pullOf v b; third = pullOf w c }
-
--- a sum with the oblate Earth, whose pull is known
-abbrev pub flattenedBy : Setting → Vector → Pull → Pull → Pull
-flattenedBy s Q by sum =
-    let u = (Q .z ⊗ Q .z) ⊘ n Q in
-    let part = (s .a ⊗ s .a) ⊘ n Q in
-    let side = whole 1 ⊖ whole 5 ⊗ u in
-    record {
-      x = sum .x ⊖ ((s .j ⊗ by .x) ⊗ part) ⊗ side;
-      y = sum .y ⊖ ((s .j ⊗ by .y) ⊗ part) ⊗ side;
-      z = sum .z ⊖ ((s .j ⊗ by .z) ⊗ part) ⊗ (whole 3 ⊖ whole 5 ⊗ u);
-      sound = sum .sound && by .sound;
-    }
-
--- the last terms, with the Earth and the Sun where they stand from the centre
-unfoldable pub oblateBy : Setting → Vector → Vector → Pull → Pull
-oblateBy s home P sum =
-    let Q = minus P home in
-    let a = oblate s Q (vectorOf sum) in
-    record { x = a .x; y = a .y; z = a .z; sound = soundIf (used (s .j)) Q (sum .sound) }
-
-unfoldable pub sunlitBy : Setting → Vector → Vector → Pull → Pull
-sunlitBy s sun P sum =
-    let S = minus P sun in
-    let a = sunlit s S (vectorOf sum) in
-    record { x = a .x; y = a .y; z = a .z; sound = soundIf (used (s .k)) S (sum .sound) }

@@ -1,7 +1,6 @@
-// The pull of one body, sums of pulls, and the two last terms of the acceleration.
+// The pull of one body, and sums of pulls.
 
 pub mod pulls;
-pub mod terms;
 
 use state::Vector;
 

@@ -14,8 +14,9 @@ use lib.Ieee.Fits.{down-pos, odd-fits, nan-fits}
 use lib.Ieee.Exact.{odd-sign}
 use lib.Ieee.Positive.{positive}
 use Rattle.root.specs.Root.{NearestRoot, IsRoot, nearestRoot, rootOfUnits, positiveRoot, rootOf}
-use Rattle.root.proofs.WholeRoots.{nearest-unique, nearestRoot-is}
-use Rattle.root.proofs.Values.{four-pow, four-pos, value-unique, value-cross, Fitting, fits-says}
+use Rattle.wholeroot.proofs.WholeRoots.{nearest-unique, nearestRoot-is}
+use Rattle.wholeroot.proofs.Powers.{four-pow, four-pos}
+use Rattle.apart.proofs.Values.{value-unique, value-cross, Fitting, fits-says}
 
 -- ---- uniqueness
 

@@ -12,7 +12,7 @@ use borrow.Author.Tests.{le-ltb}
 use Rattle.basis.proofs.Clear.{clear, odd-clear, round-clear}
 use Rattle.root.specs.declared.RootAnswer.the-variants.{Value, Refused}
 use Rattle.root.specs.Root.{nearestRoot, rootOfUnits, positiveRoot, rootOf, negative, rootAnswer}
-use Rattle.root.proofs.Tests.{number-below}
+use Rattle.apart.proofs.Tests.{number-below}
 
 pub clear-not-negative : (x : Float) → T (clear x) → negative x ≡ false
 unfolding lt ofBits

@@ -1,3 +1,1 @@
 pub mod Root
-pub mod Parts
-pub mod Digits

@@ -1,26 +1,19 @@
 -- Document 01, "Root, sine and cosine": "IEEE 754 squareRoot of a finite non-negative float, subnormals included; each zero gives itself", stated "over whole numbers, by comparing squares".
 -- A float `fin s m e` is m·2^e, negative where s is true, and 2^e is `up e / down e`. `HasValue x false a c` says that x is finite, has no minus sign and is a / c.
 -- `size n` is how many binary digits n has, and `odd 54 false q k l` is the float q·2^k / 2^l, for a q of 54 digits at most.
-use mathlib.Core.Path.{_≡_}
 use mathlib.Core.Bool.{Bool, true, false, not, _||_}
-use Prim.Native.Nat.{ℕ, zero, suc, _+_, _-_, _*_, _/_, _%_, _^_, _≤_, _<_}
+use Prim.Native.Nat.{ℕ, zero, suc, _-_, _*_, _/_, _^_, _≤_, _<_}
 use lib.IntN.{ℤ}
 use lib.Ieee.{Float, nan, inf, fin, binary64, low, up, down, size, odd, lt, ofBits}
 use lib.Ieee.Scale.{finite}
 use lib.Ieee.Exact.{HasValue}
-use Rattle.basis.specs.Choice.{if_then_else_, _<?_, _≤?_}
+use Rattle.basis.specs.Choice.{if_then_else_}
+pub use Rattle.wholeroot.specs.Nearest.{NearestRoot}
+unfoldable pub use Rattle.wholeroot.specs.Nearest.{wholeRoot, nearestRoot}
 use Rattle.root.specs.declared.TwoRoots.{TwoRoots}
 use Rattle.root.specs.declared.ThreeRoots.{ThreeRoots}
 use Rattle.root.specs.declared.RootAnswer.{RootAnswer}
 use Rattle.root.specs.declared.RootAnswer.the-variants.{Value, Refused}
-
--- q is the whole number nearest √n: √n lies from q - 1/2 to q + 1/2, where 2q - 1 and 2q + 1 are compared with 2√n by their squares.
--- A tie goes to the even q. None ever comes, since these squares are odd and 4n is not.
-pub record NearestRoot (n q : ℕ) : Type 0 where
-  pub from : (2 * q - 1) * (2 * q - 1) ≤ 4 * n
-  pub to : 4 * n ≤ (2 * q + 1) * (2 * q + 1)
-  pub from-tie : (2 * q - 1) * (2 * q - 1) ≡ 4 * n → q % 2 ≡ 0
-  pub to-tie : 4 * n ≡ (2 * q + 1) * (2 * q + 1) → q % 2 ≡ 0
 
 -- y is the square root of x, which is finite and above zero. x is n·4^k / 4^l, so that the exact root is √n·2^k / 2^l; √n has the 53 binary digits that a float keeps;
 -- and y is q·2^k / 2^l for the whole number q nearest √n. (No root is so small that a float would keep fewer digits: from 2^-1074 on it is 2^-537 or more.)
@@ -34,16 +27,6 @@ pub record IsRoot (x y : Float) : Type 0 where
   pub most : n < 2 ^ 53 * 2 ^ 53
   pub nearest : NearestRoot n q
   pub answer : HasValue y false (q * 2 ^ k) (2 ^ l)
-
--- the greatest whole number whose square is at most n, for an n below 4^d: twice that of n / 4, or one more
-unfoldable pub wholeRoot : ℕ → ℕ → ℕ
-wholeRoot zero n = 0
-wholeRoot (suc d) n = let r = 2 * wholeRoot d (n / 4) in if (r + 1) * (r + 1) ≤? n then r + 1 else r
-
--- the whole number nearest √n, for an n below 4^53
-unfoldable pub nearestRoot : ℕ → ℕ
-unfolding wholeRoot
-nearestRoot n = let r = wholeRoot 53 n in if (2 * r + 1) * (2 * r + 1) <? 4 * n then r + 1 else r
 
 -- The root of N / 4^l, above zero, where the smallest float is 2^-l: √N of the smallest floats. √N has 53 + k binary digits, of which the float keeps 53:
 -- they are those of √n for n = N / 4^k, which leaves nothing over.

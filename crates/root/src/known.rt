@@ -3,16 +3,19 @@
 
 use crate::ThreeRoots;
 use crate::TwoRoots;
-use crate::digits;
 use crate::parts;
+use apart::opened;
+use wholeroot::known::nearest_root;
+use wholeroot::known::three_nearest_roots;
+use wholeroot::known::two_nearest_roots;
 ghost use mathlib.Core.Path.{_≡_};
 ghost use Rattle.root.specs.Root.{rootOf, twoRootsOf, rootsOf};
 
 pub fn square_root(x: f64) -> f64
     ensures { λ r. ⌜ r ≡ rootOf x ⌝ }
 {
-    let p = parts::opened(x);
-    let q = digits::nearest_root(p.m);
+    let p = opened(x);
+    let q = nearest_root(p.m);
     parts::closed(x, p, q)
 }
 
@@ -20,9 +23,9 @@ pub fn square_root(x: f64) -> f64
 pub fn two_roots(a: f64, b: f64) -> TwoRoots
     ensures { λ r. ⌜ r ≡ twoRootsOf a b ⌝ }
 {
-    let p = parts::opened(a);
-    let q = parts::opened(b);
-    let d = digits::two_nearest_roots(p.m, q.m);
+    let p = opened(a);
+    let q = opened(b);
+    let d = two_nearest_roots(p.m, q.m);
     TwoRoots {
         a: parts::closed(a, p, d.a),
         b: parts::closed(b, q, d.b),
@@ -33,10 +36,10 @@ pub fn two_roots(a: f64, b: f64) -> TwoRoots
 pub fn square_roots(a: f64, b: f64, c: f64) -> ThreeRoots
     ensures { λ r. ⌜ r ≡ rootsOf a b c ⌝ }
 {
-    let p = parts::opened(a);
-    let q = parts::opened(b);
-    let s = parts::opened(c);
-    let d = digits::three_nearest_roots(p.m, q.m, s.m);
+    let p = opened(a);
+    let q = opened(b);
+    let s = opened(c);
+    let d = three_nearest_roots(p.m, q.m, s.m);
     ThreeRoots {
         a: parts::closed(a, p, d.a),
         b: parts::closed(b, q, d.b),

@@ -1,6 +1,5 @@
 // The square root of a float, by additions, shifts and comparisons of whole numbers.
 
-mod digits;
 pub mod known;
 mod parts;
 

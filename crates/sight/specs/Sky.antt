@@ -6,6 +6,7 @@ use lib.Ieee.{Float}
 use Rattle.basis.specs.Choice.{if_then_else_, _=?_}
 use Rattle.basis.specs.Floats.{zero64}
 use Rattle.state.specs.State.{used, lookedUp}
+pub use Rattle.state.specs.State.{nowhere}
 use Rattle.state.specs.declared.Vector.{Vector}
 use Rattle.state.specs.declared.Setting.{Setting}
 use Rattle.book.specs.Position.{bodyAt}
@@ -28,9 +29,6 @@ pub data Sky : Type 0 where
 
 abbrev pub standing : Place → Vector
 standing p = record { x = p .x; y = p .y; z = p .z }
-
-abbrev pub nowhere : Vector
-nowhere = record { x = zero64; y = zero64; z = zero64 }
 
 -- position and velocity from the Earth: "the Earth's is zero", and it needs no cover
 abbrev pub atRest : Motion

@@ -1,7 +1,5 @@
 // An injection as launch crews speak it, taken to 1950.0 axes (02, R-4).
 
-mod turns;
-
 use basis::CIRCLE;
 use basis::unless;
 use hour::HourAnswer;

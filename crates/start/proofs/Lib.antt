@@ -1,4 +1,3 @@
-pub mod Allowed
+pub use Rattle.way.proofs.Allowed
 pub mod Passed
-pub mod Order
 pub mod Parted

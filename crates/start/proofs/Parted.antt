@@ -13,7 +13,8 @@ use Rattle.state.specs.declared.Setting.{Setting}
 use Rattle.book.specs.Passes.{passes}
 use Rattle.injection.specs.Injection.{orderRefusal}
 use Rattle.start.specs.Start.{orLater, startRefusal}
-use Rattle.start.specs.Parts.{openingRefusal, wayRefusal}
+use Rattle.opening.specs.Opening.{openingRefusal}
+use Rattle.way.specs.Way.{wayRefusal}
 
 -- what comes after a check comes after the number of it and those before
 one : (ok : Bool) (k later rest : ℕ) → orLater (if not ok then suc k else later) rest ≡ (if not ok then suc k else orLater later rest)

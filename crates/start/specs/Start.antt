@@ -1,22 +1,15 @@
 -- Document 01, "The step and the run" and "Refusal numbers", and document 02, R-6 and R-8: what a run call is checked for before its first step.
-use mathlib.Core.Bool.{Bool, not, _&&_}
+use mathlib.Core.Bool.{not}
 use mathlib.Core.List.{List}
-use Prim.Native.Nat.{ℕ, _-_, _%_}
-use Rattle.basis.specs.Choice.{if_then_else_, _≤?_, _=?_}
+use Prim.Native.Nat.{ℕ}
+use Rattle.basis.specs.Choice.{if_then_else_, _=?_}
 use Rattle.basis.specs.Limits.{isMoment}
 use Rattle.state.specs.State.{finiteState, settingAllowed, centreAllowed}
 use Rattle.state.specs.declared.State.{State}
 use Rattle.state.specs.declared.Setting.{Setting}
 use Rattle.book.specs.Passes.{passes}
 use Rattle.injection.specs.Injection.{orderRefusal}
-
--- "Step h is an even number of ms, 2 to 86,400,000"
-abbrev pub stepAllowed : ℕ → Bool
-stepAllowed h = (2 ≤? h) && (h ≤? 86_400_000) && (h % 2 =? 0)
-
--- 5: "target before the state, or not a whole number of steps away"
-abbrev pub withinSteps : ℕ → ℕ → ℕ → Bool
-withinSteps t h target = (t ≤? target) && ((target - t) % h =? 0)
+pub use Rattle.way.specs.Way.{stepAllowed, withinSteps}
 
 -- a check that gives its own number, before later ones
 abbrev pub orLater : ℕ → ℕ → ℕ

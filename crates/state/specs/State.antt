@@ -1,16 +1,20 @@
 -- Document 01, "Setting, state, acceleration", and document 02, R-6, R-7, R-8 and R-9: what a state and a setting hold, and which are allowed.
-use mathlib.Core.Bool.{Bool, not, _&&_, _||_}
-use lib.Ieee.{Float, binary64, toBits}
+use mathlib.Core.Bool.{Bool, _&&_}
+use lib.Ieee.{Float}
 use lib.Ieee.Scale.{finite}
 use Prim.Native.Nat.{ℕ}
-use Rattle.basis.specs.Choice.{if_then_else_, _=?_, _≤?_}
-use Rattle.basis.specs.Floats.{_⊕_, _⊗_, zero64, above0, below0}
+use Rattle.basis.specs.Choice.{if_then_else_, _=?_}
+use Rattle.basis.specs.Floats.{_⊕_, _⊗_, zero64}
 use Rattle.basis.specs.Limits.{isDUT}
 use Rattle.hour.specs.Hour.{isRule}
+pub use Rattle.allowed.specs.Allowed.{sameBits, used, coefficientAllowed, earthAllowed, isBody, lookedUp}
 use Rattle.state.specs.declared.Vector.{Vector}
 use Rattle.state.specs.declared.State.{State}
 use Rattle.state.specs.declared.Injection.{Injection}
 use Rattle.state.specs.declared.Setting.{Setting}
+
+abbrev pub nowhere : Vector
+nowhere = record { x = zero64; y = zero64; z = zero64 }
 
 abbrev pub position : State → Vector
 position s = record { x = s .x; y = s .y; z = s .z }
@@ -53,10 +57,6 @@ carrying i a =
 abbrev pub bare : State → Injection
 bare s = injectionAt (s .moment) (s .centre) (position s) (velocity s)
 
--- "by its bits": +0.0 is not -0.0, and what is not finite is nobody's
-abbrev pub sameBits : Float → Float → Bool
-sameBits x y = finite x && finite y && (toBits binary64 x =? toBits binary64 y)
-
 unfoldable pub sameVector : Vector → Vector → Bool
 sameVector u v = sameBits (u .x) (v .x) && sameBits (u .y) (v .y) && sameBits (u .z) (v .z)
 
@@ -72,17 +72,6 @@ finiteState s = finiteVector (position s) && finiteVector (velocity s)
 
 abbrev pub finiteInjection : Injection → Bool
 finiteInjection i = finiteVector (startingPosition i) && finiteVector (startingVelocity i)
-
--- "A body is used when its coefficient is above 0"
-abbrev pub used : Float → Bool
-used m = above0 m
-
--- "Coefficients are finite and not negative; the Earth's is above 0"
-abbrev pub coefficientAllowed : Float → Bool
-coefficientAllowed m = finite m && not (below0 m)
-
-abbrev pub earthAllowed : Float → Bool
-earthAllowed m = finite m && above0 m
 
 unfoldable pub coefficientsAllowed : Setting → Bool
 coefficientsAllowed s =
@@ -100,10 +89,6 @@ termsAllowed s = coefficientAllowed (s .j) && coefficientAllowed (s .a) && coeff
 unfoldable pub settingAllowed : Setting → Bool
 settingAllowed s = coefficientsAllowed s && termsAllowed s && isDUT (s .dut) && isRule (s .rule)
 
--- "centre, 1 to 6"
-abbrev pub isBody : ℕ → Bool
-isBody number = (1 ≤? number) && (number ≤? 6)
-
 -- the coefficient of the body of that number, "1 to 6"; outside there is none, and 0 stands for it
 unfoldable pub coefficientOf : Setting → ℕ → Float
 coefficientOf s number =
@@ -117,8 +102,3 @@ coefficientOf s number =
 -- "The centre must be a used body": document 02, R-6, "a centre outside 1 to 6 or unused is 14"
 unfoldable pub centreAllowed : Setting → ℕ → Bool
 centreAllowed s centre = used (coefficientOf s centre)
-
--- document 02, R-7: "With K above 0 the Sun is looked up as a used body, even where its coefficient is 0 and it does not pull": a body of
--- coefficient m is looked up where it pulls, or where it is lit
-abbrev pub lookedUp : Float → Bool → Bool
-lookedUp m lit = used m || lit

@@ -1,7 +1,12 @@
 // A spacecraft's state, the setting it moves under, and the tests that both have to pass.
 
+use allowed::bits_agree;
+use allowed::coefficient_is_allowed;
+use allowed::earth_is_allowed;
+pub use allowed::is_body;
+pub use allowed::is_looked_up;
 ghost use mathlib.Core.Path.{_≡_};
-ghost use Rattle.state.specs.State.{position, velocity, acceleration, startingPosition, carrying, sameBits, sameVector, n, finiteVector, finiteState, finiteInjection, coefficientAllowed, earthAllowed, coefficientsAllowed, termsAllowed, settingAllowed, isBody, coefficientOf, centreAllowed, used, lookedUp};
+ghost use Rattle.state.specs.State.{position, velocity, acceleration, startingPosition, carrying, sameVector, n, finiteVector, finiteState, finiteInjection, coefficientsAllowed, termsAllowed, settingAllowed, coefficientOf, centreAllowed, used};
 
 pub struct Vector {
     pub x: f64,
@@ -112,17 +117,6 @@ pub fn carrying(i: Injection, a: Vector) -> State
     }
 }
 
-fn bits_agree(x: f64, y: f64) -> bool
-    ensures { λ r. ⌜ r ≡ sameBits x y ⌝ }
-{
-    if basis::is_finite(x) {
-        if basis::is_finite(y) {
-            return f64::to_bits(x) == f64::to_bits(y);
-        }
-    }
-    false
-}
-
 // Whether two vectors are finite and have the same bits.
 pub fn vectors_agree(u: Vector, v: Vector) -> bool
     ensures { λ r. ⌜ r ≡ sameVector u v ⌝ }
@@ -176,25 +170,6 @@ pub fn injection_is_finite(i: Injection) -> bool
     false
 }
 
-// Whether a body other than the Earth may have the coefficient m.
-fn coefficient_is_allowed(m: f64) -> bool
-    ensures { λ r. ⌜ r ≡ coefficientAllowed m ⌝ }
-{
-    if m < 0.0 {
-        return false;
-    }
-    basis::is_finite(m)
-}
-
-fn earth_is_allowed(m: f64) -> bool
-    ensures { λ r. ⌜ r ≡ earthAllowed m ⌝ }
-{
-    if 0.0 < m {
-        return basis::is_finite(m);
-    }
-    false
-}
-
 fn coefficients_are_allowed(s: Setting) -> bool
     ensures { λ r. ⌜ r ≡ coefficientsAllowed s ⌝ }
 {
@@ -241,16 +216,6 @@ pub fn setting_is_allowed(s: Setting) -> bool
     false
 }
 
-// Whether there is a body of that number.
-pub fn is_body(number: u64) -> bool
-    ensures { λ r. ⌜ r ≡ isBody number ⌝ }
-{
-    if number < 1 {
-        return false;
-    }
-    number <= 6
-}
-
 // The coefficient of the body of that number; 0 where there is no such body.
 pub fn coefficient_of(s: Setting, number: u64) -> f64
     ensures { λ r. ⌜ r ≡ coefficientOf s number ⌝ }
@@ -270,16 +235,6 @@ pub fn centre_is_allowed(s: Setting, centre: u64) -> bool
     ensures { λ r. ⌜ r ≡ centreAllowed s centre ⌝ }
 {
     0.0 < coefficient_of(s, centre)
-}
-
-// (02, R-7) Whether a body is looked up: it pulls, or it is lit up by K.
-pub fn is_looked_up(coefficient: f64, lit: bool) -> bool
-    ensures { λ r. ⌜ r ≡ lookedUp coefficient lit ⌝ }
-{
-    if 0.0 < coefficient {
-        return true;
-    }
-    lit
 }
 
 pub fn sun_shines(s: Setting) -> bool

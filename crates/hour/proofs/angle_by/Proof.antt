@@ -1,5 +1,5 @@
 -- `hour::angle_by` meets its contract: one rule in each branch. Assumes nothing.
-use mathlib.Core.Path.{ap, _∙_, sym}
+use mathlib.Core.Path.{_≡_, ap, _∙_, sym}
 use Prim.Native.Nat.{ℕ}
 use borrow.Author.Needs.{needs}
 use native.Mathlib.Omega.{arith}
@@ -11,13 +11,18 @@ angle-requires : tie.Need-angle-requires
 angle-requires c κs = search needs
 
 returns : tie.Need-returns
+unfolding siderealAngle
 returns c = let a = c .before .before .args in c .angle .ensures ∙ ap (λ (x : ℕ). siderealAngle x (a .d) (a .t)) (sym (c .before .if1 .taken))
 
 angle-1982-requires : tie.Need-angle-1982-requires
 angle-1982-requires c κs = search needs
 
 returns-2 : tie.Need-returns-2
-returns-2 c = let a = c .before .before in c .angle-1982 .ensures ∙ ap (λ (x : ℕ). siderealAngle x (a .args .d) (a .args .t)) (omega (arith, a .pre .0, c .before .if1 .left))
+unfolding siderealAngle
+returns-2 c =
+    let a = c .before .before in
+    let one : 1 ≡ a .args .rule = omega (arith, a .pre .0, c .before .if1 .left) in
+    c .angle-1982 .ensures ∙ ap (λ (x : ℕ). siderealAngle x (a .args .d) (a .args .t)) one
 
 pub angle-by-spec : {M : Type 1} → statement M
 angle-by-spec = tie.close (tie.spec angle-requires returns angle-1982-requires returns-2)

@@ -6,7 +6,7 @@ use native.Mathlib.Omega.{arith}
 use borrow.Author.Needs.{needs}
 use denote.Ref.{now}
 use Rattle.book.specs.Calm.{Ready}
-use Rattle.motion.specs.Step.{step}
+use Rattle.stages.specs.Step.{step}
 use Rattle.motion.specs.Run.{runTo}
 use Rattle.motion.specs.Kept.{Walking}
 use Rattle.motion.specs.declared.Outcome.the-variants.{Arrived, Going, Refused}

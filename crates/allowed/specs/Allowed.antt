@@ -1,0 +1,31 @@
+-- Document 01, "Setting, state, acceleration", and document 02, R-6, R-7 and R-8: what is asked of single numbers.
+use mathlib.Core.Bool.{Bool, not, _&&_, _||_}
+use lib.Ieee.{Float, binary64, toBits}
+use lib.Ieee.Scale.{finite}
+use Prim.Native.Nat.{ℕ}
+use Rattle.basis.specs.Choice.{_=?_, _≤?_}
+use Rattle.basis.specs.Floats.{above0, below0}
+
+-- "by its bits": +0.0 is not -0.0, and what is not finite is nobody's
+abbrev pub sameBits : Float → Float → Bool
+sameBits x y = finite x && finite y && (toBits binary64 x =? toBits binary64 y)
+
+-- "A body is used when its coefficient is above 0"
+abbrev pub used : Float → Bool
+used m = above0 m
+
+-- "Coefficients are finite and not negative; the Earth's is above 0"
+abbrev pub coefficientAllowed : Float → Bool
+coefficientAllowed m = finite m && not (below0 m)
+
+abbrev pub earthAllowed : Float → Bool
+earthAllowed m = finite m && above0 m
+
+-- "centre, 1 to 6"
+abbrev pub isBody : ℕ → Bool
+isBody number = (1 ≤? number) && (number ≤? 6)
+
+-- document 02, R-7: "With K above 0 the Sun is looked up as a used body, even where its coefficient is 0 and it does not pull": a body of
+-- coefficient m is looked up where it pulls, or where it is lit
+abbrev pub lookedUp : Float → Bool → Bool
+lookedUp m lit = used m || lit

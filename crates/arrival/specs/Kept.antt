@@ -1,0 +1,20 @@
+-- What the code hands on beside the new state: the entries in which the bodies were found at its moment.
+use Prim.Native.Nat.{ℕ}
+use Rattle.state.specs.State.{startingPosition}
+use Rattle.state.specs.declared.Setting.{Setting}
+use Rattle.state.specs.declared.Injection.{Injection}
+use Rattle.gravity.specs.Sight.{accelerationBy}
+use Rattle.gravity.specs.declared.Sights.{Sights}
+use Rattle.gravity.specs.declared.Guesses.{Guesses}
+use Rattle.injection.specs.Injection.{keptBy}
+use Rattle.arrival.specs.Arrival.{Moved, On, Off, movedBy}
+use Rattle.arrival.specs.declared.Stepped.{Stepped}
+use Rattle.arrival.specs.declared.Stepped.the-variants as stepped
+
+abbrev pub kept : Guesses → Moved → Stepped
+kept entries (On s) = stepped.On s entries
+kept entries (Off k) = stepped.Off k
+
+-- the acceleration of the new state, under the bodies that are known at its moment
+abbrev pub keepingUnder : Sights → Setting → Injection → Moved
+keepingUnder bodies setting i = movedBy (keptBy i (accelerationBy bodies setting (startingPosition i)))

@@ -1,0 +1,26 @@
+-- `lengths::known::days_before_year` meets its contract: the law of the days of up to a hundred years. Assumes nothing.
+use mathlib.Core.Path.{sym}
+use Prim.Native.Nat.{_-_}
+use borrow.Author.Needs.{needs}
+use native.Mathlib.Omega.{arith}
+use Rattle.lengths.proofs.Lengths.{days-of-years}
+use Rattle.lengths.proofs.known.days_before_year.Statement.{statement}
+use Rattle.lengths.proofs.known.days_before_year.Tie as tie
+
+sub-years : tie.Need-sub-years
+sub-years c = search needs
+
+mul-result : tie.Need-mul-result
+mul-result c = search needs
+
+add-result : tie.Need-add-result
+add-result c = search needs
+
+add-result-2 : tie.Need-add-result-2
+add-result-2 c = search needs
+
+returns : tie.Need-returns
+returns c = sym (days-of-years (c .args .year - 1950) (omega arith))
+
+pub days-before-year-spec : {M : Type 1} → statement M
+days-before-year-spec = tie.close (tie.spec sub-years mul-result add-result add-result-2 returns)

@@ -1,0 +1,10 @@
+-- `lengths::known::is_leap` meets its contract: the Gregorian rule within 1950 to 2049. Assumes nothing.
+use Rattle.lengths.proofs.Lengths.{leap-here}
+use Rattle.lengths.proofs.known.is_leap.Statement.{statement}
+use Rattle.lengths.proofs.known.is_leap.Tie as tie
+
+returns : tie.Need-returns
+returns c = leap-here (c .args .year) (c .pre .0) (c .pre .1)
+
+pub is-leap-spec : {M : Type 1} → statement M
+is-leap-spec = tie.close (tie.spec returns)

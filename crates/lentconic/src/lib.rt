@@ -1,0 +1,50 @@
+// The figures of a conic, over numbers and memory that a caller lends.
+
+use conic::Conic;
+use conic::ConicAnswer;
+use lentstate::unkept_of;
+ghost use mathlib.Core.Path.{_≡_};
+ghost use Rattle.conic.specs.Conic.{conicAnswer};
+ghost use Rattle.handed.specs.Handed.{handed, answered};
+ghost use Rattle.lentstate.specs.Groups.{unkeptOf};
+ghost use Rattle.lentconic.specs.Figures.{kindOf, figuresOf, bothIn, ofConic};
+
+fn kind_of(conic: Conic) -> u64
+    ensures { λ r. ⌜ r ≡ kindOf conic ⌝ }
+{
+    match conic {
+        Conic::Ellipse { a, e, p, q, far } => 1,
+        Conic::Hyperbola { a, e, p, q, v } => 2,
+    }
+}
+
+fn figures_of(conic: Conic) -> [f64; 5]
+    ensures { λ r. ⌜ r ≡ figuresOf conic ⌝ }
+{
+    match conic {
+        Conic::Ellipse { a, e, p, q, far } => [a, e, p, q, far],
+        Conic::Hyperbola { a, e, p, q, v } => [a, e, p, q, v],
+    }
+}
+
+pub fn orbit(
+    m: f64,
+    moment: u64,
+    centre: u64,
+    coordinates: &[f64; 6],
+    names: &mut [u64; 2],
+    figures: &mut [f64; 5],
+) -> u64
+    ensures { λ r. ⌜ handed r (bothIn (now (names .exit)) (now (figures .exit))) ≡ answered (bothIn (now (names .entry)) (now (figures .entry)))
+        (ofConic (conicAnswer m (unkeptOf moment centre (now (coordinates .entry))))) ⌝ }
+{
+    match conic::conic_figures(m, unkept_of(moment, centre, *coordinates)) {
+        ConicAnswer::Figures(c) => {
+            let conic = c.conic;
+            *names = [c.centre, kind_of(conic)];
+            *figures = figures_of(conic);
+            0
+        }
+        ConicAnswer::Refused(k) => k,
+    }
+}

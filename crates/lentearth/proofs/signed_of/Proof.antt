@@ -1,0 +1,25 @@
+-- `lentearth::signed_of` meets its contract. Assumes nothing.
+use mathlib.Core.Path.{_≡_}
+use Prim.Native.Nat.{_+_, _-_}
+use native.Mathlib.Omega.{arith}
+use borrow.Author.Tests.{lt-ltb, le-ltb}
+use Rattle.lentearth.proofs.signed_of.Statement.{statement}
+use Rattle.lentearth.proofs.signed_of.Tie as tie
+
+returns : tie.Need-returns
+returns c = rw (lt-ltb _ _ (c .if1 .taken))
+
+sub-t3 : tie.Need-sub-t3
+sub-t3 c = omega arith
+
+add-t4 : tie.Need-add-t4
+add-t4 c = omega arith
+
+returns-2 : tie.Need-returns-2
+returns-2 c =
+    let b = c .before .args .bits in
+    let e : 0xffff_ffff_ffff_ffff - b + 1 ≡ 0x1_0000_0000_0000_0000 - b = let l = c .before .fits .bits in omega arith in
+    rw (le-ltb _ _ (c .if1 .left), e)
+
+pub signed-of-spec : {M : Type 1} → statement M
+signed-of-spec = tie.close (tie.spec returns sub-t3 add-t4 returns-2)

@@ -1,0 +1,63 @@
+// The Earth-fixed call, and the numbers of an injection as launch crews speak it, over what a caller lends.
+
+use fixed::FixedAnswer;
+use lentstate::unkept_of;
+use sphere::Signed;
+use sphere::Sphere;
+ghost use mathlib.Core.Path.{_≡_};
+ghost use Rattle.fixed.specs.Fixed.{fixedAnswer};
+ghost use Rattle.handed.specs.Handed.{handed, answered};
+ghost use Rattle.lentstate.specs.Groups.{unkeptOf};
+ghost use Rattle.lentearth.specs.Earth.{signedOf, sphereOf, ofFixed};
+
+// A number of 64 bits with a sign, as C has it.
+fn signed_of(bits: u64) -> Signed
+    ensures { λ r. ⌜ r ≡ signedOf bits ⌝ }
+{
+    if bits < 0x8000_0000_0000_0000 {
+        return Signed {
+            below: false,
+            parts: bits,
+        };
+    }
+    Signed {
+        below: true,
+        parts: 0xffff_ffff_ffff_ffff - bits + 1,
+    }
+}
+
+pub fn sphere_of(sizes: [f64; 2], angles: [u64; 4]) -> Sphere
+    ensures { λ r. ⌜ r ≡ sphereOf sizes angles ⌝ }
+{
+    let latitude = signed_of(angles[0]);
+    let path = signed_of(angles[2]);
+    Sphere {
+        radius: sizes[0],
+        latitude,
+        longitude: angles[1],
+        speed: sizes[1],
+        path,
+        azimuth: angles[3],
+    }
+}
+
+// Earth-fixed coordinates by a rule of the hour angle.
+pub fn turned(
+    rule: u64,
+    dut: u32,
+    moment: u64,
+    centre: u64,
+    coordinates: &[f64; 6],
+    turned: &mut [f64; 6],
+) -> u64
+    ensures { λ r. ⌜ handed r (now (turned .exit)) ≡ answered (now (turned .entry))
+        (ofFixed (fixedAnswer rule dut (unkeptOf moment centre (now (coordinates .entry))))) ⌝ }
+{
+    match fixed::earth_fixed(rule, dut, unkept_of(moment, centre, *coordinates)) {
+        FixedAnswer::Fixed(t) => {
+            *turned = [t.x, t.y, t.z, t.vx, t.vy, t.vz];
+            0
+        }
+        FixedAnswer::Refused(k) => k,
+    }
+}

@@ -1,0 +1,16 @@
+-- What a call for the acceleration or an injection returns, and what it leaves in the memory that it was lent.
+use mathlib.Core.List.{List}
+use lib.Ieee.{Float}
+use Rattle.gravity.specs.declared.AccelerationAnswer.{AccelerationAnswer}
+use Rattle.injection.specs.declared.InjectionAnswer.{InjectionAnswer}
+use Rattle.handed.specs.Handed.{Answer, Accepted, Refused}
+use Rattle.lentstate.specs.Groups.{vectorIn, wholeIn}
+
+abbrev pub ofAcceleration : AccelerationAnswer → Answer (List Float)
+ofAcceleration (AccelerationAnswer.Is a) = Accepted (vectorIn a)
+ofAcceleration (AccelerationAnswer.Refused k) = Refused k
+
+-- an injection leaves the moment as it was, and its centre was given
+abbrev pub ofInjection : InjectionAnswer → Answer (List Float)
+ofInjection (InjectionAnswer.Injected s) = Accepted (wholeIn s)
+ofInjection (InjectionAnswer.Refused k) = Refused k

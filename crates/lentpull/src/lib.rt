@@ -1,0 +1,64 @@
+// The acceleration and the injection, over numbers and memory that a caller lends.
+
+use gravity::AccelerationAnswer;
+use injection::InjectionAnswer;
+use lentstate::injection_of;
+use lentstate::setting_of;
+use lentstate::vector_of;
+ghost use mathlib.Core.Path.{_≡_};
+ghost use Rattle.gravity.specs.Acceleration.{accelerationAnswer};
+ghost use Rattle.injection.specs.Injection.{injectionAnswer};
+ghost use Rattle.handed.specs.Handed.{handed, answered};
+ghost use Rattle.lentstate.specs.Groups.{settingOf, vectorOf, injectionOf};
+ghost use Rattle.lentpull.specs.Answers.{ofAcceleration, ofInjection};
+
+pub fn pull(
+    book: &[u8],
+    coefficients: &[f64; 6],
+    extras: &[f64; 3],
+    dut: u32,
+    rule: u64,
+    moment: u64,
+    centre: u64,
+    position: &[f64; 3],
+    acceleration: &mut [f64; 3],
+) -> u64
+    ensures { λ r. ⌜ handed r (now (acceleration .exit)) ≡ answered (now (acceleration .entry))
+        (ofAcceleration (accelerationAnswer (now (book .entry)) (settingOf (now (coefficients .entry)) (now (extras .entry)) dut rule) centre moment
+        (vectorOf (now (position .entry))))) ⌝ }
+{
+    let setting = setting_of(*coefficients, *extras, dut, rule);
+    match gravity::acceleration(book, setting, centre, moment, vector_of(*position)) {
+        AccelerationAnswer::Is(a) => {
+            *acceleration = [a.x, a.y, a.z];
+            0
+        }
+        AccelerationAnswer::Refused(k) => k,
+    }
+}
+
+// The state with the acceleration that the rule gives it.
+pub fn inject(
+    book: &[u8],
+    coefficients: &[f64; 6],
+    extras: &[f64; 3],
+    dut: u32,
+    rule: u64,
+    moment: u64,
+    centre: u64,
+    coordinates: &[f64; 6],
+    state: &mut [f64; 9],
+) -> u64
+    ensures { λ r. ⌜ handed r (now (state .exit)) ≡ answered (now (state .entry))
+        (ofInjection (injectionAnswer (now (book .entry)) (settingOf (now (coefficients .entry)) (now (extras .entry)) dut rule)
+        (injectionOf moment centre (now (coordinates .entry))))) ⌝ }
+{
+    let setting = setting_of(*coefficients, *extras, dut, rule);
+    match injection::inject(book, setting, injection_of(moment, centre, *coordinates)) {
+        InjectionAnswer::Injected(s) => {
+            *state = [s.x, s.y, s.z, s.vx, s.vy, s.vz, s.ax, s.ay, s.az];
+            0
+        }
+        InjectionAnswer::Refused(k) => k,
+    }
+}

@@ -1,0 +1,2 @@
+pub mod LongDivision
+pub mod Sum

@@ -1,0 +1,43 @@
+-- `oldrule::known::fourth_term` meets its contract: a hundredfold and three times a thousandfold make 10^11. Assumes nothing.
+use mathlib.Core.Path.{ap, _∙_}
+use Prim.Native.Nat.{ℕ}
+use borrow.Author.Needs.{needs}
+use native.Mathlib.Omega.{arith}
+use Rattle.oldrule.specs.Division.{division}
+use Rattle.oldrule.proofs.LongDivision.{started}
+use Rattle.oldrule.proofs.known.fourth_term.Statement.{statement}
+use Rattle.oldrule.proofs.known.fourth_term.Tie as tie
+
+mul-divide : tie.Need-mul-divide
+mul-divide c = search needs
+
+divide-requires : tie.Need-divide-requires
+divide-requires c κs = search needs
+
+three-digits-on-requires : tie.Need-three-digits-on-requires
+three-digits-on-requires c κs = omega (arith, started 3700 (c .divide .ensures) (omega arith) (omega arith))
+
+three-digits-on-requires-2 : tie.Need-three-digits-on-requires-2
+three-digits-on-requires-2 c κs = omega (arith, started 3700 (c .before .divide .ensures) (omega arith) (omega arith))
+
+three-digits-on-requires-3 : tie.Need-three-digits-on-requires-3
+three-digits-on-requires-3 c κs = omega (arith, started 3700 (c .before .before .divide .ensures) (omega arith) (omega arith))
+
+returns : tie.Need-returns
+returns c =
+    c .three-digits-on3 .ensures .continues _
+    (c .before .three-digits-on2 .ensures .continues _
+    (c .before .before .three-digits-on .ensures .continues _
+    (c .before .before .before .divide .ensures)))
+    ∙ ap (λ (n : ℕ). division n (c .before .before .before .before .args .divisor)) (omega arith)
+
+pub fourth-term-spec : {M : Type 1} → statement M
+fourth-term-spec =
+    tie.close
+    (tie.spec
+    mul-divide
+    divide-requires
+    three-digits-on-requires
+    three-digits-on-requires-2
+    three-digits-on-requires-3
+    returns)

@@ -1,0 +1,23 @@
+-- Document 01, "Hour angle": the four terms as one exact fraction.
+use Prim.Native.Nat.{ℕ, _+_, _*_, _^_}
+use lib.IntN.{pos}
+use Rattle.rounding.specs.Fraction.{Fraction}
+
+-- document 01's rule, of d whole days and t milliseconds of UT: what the fourth term is divided by
+abbrev pub slowing : ℕ → ℕ
+slowing d = 10 ^ 15 + 521 * d
+
+-- the third and the fourth term's divisors, 10^7 and 10^15 + 521·d, together: the denominator of the sum
+abbrev pub denominator : ℕ → ℕ
+denominator d = 10 ^ 7 * slowing d
+
+-- the four terms over that denominator: the first two times the whole of it, the third and the fourth times the other's divisor
+abbrev pub numerator : ℕ → ℕ → ℕ
+numerator d t =
+    1_000_755_426_000 * denominator d
+    + 9_856_473_460 * d * denominator d
+    + 29_015 * (d * d) * slowing d
+    + 417_807_417 * 10 ^ 11 * t * 10 ^ 7
+
+abbrev pub documentOne : ℕ → ℕ → Fraction
+documentOne d t = record { numerator = pos (numerator d t); denominator = denominator d }

@@ -1,0 +1,12 @@
+-- `orbit::cross_product` meets its contract, operation by operation. Assumes nothing.
+use mathlib.Core.Path.{refl}
+use Rattle.orbit.specs.Orbit.{cross}
+use Rattle.orbit.proofs.cross_product.Statement.{statement}
+use Rattle.orbit.proofs.cross_product.Tie as tie
+
+returns : tie.Need-returns
+unfolding cross
+returns c = refl
+
+pub cross-product-spec : {M : Type 1} → statement M
+cross-product-spec = tie.close (tie.spec returns)

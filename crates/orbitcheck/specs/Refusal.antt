@@ -1,0 +1,31 @@
+-- Document 01, "Earth-fixed turn and conic": the refusals of a conic's figures.
+use mathlib.Core.Bool.{not}
+use Prim.Native.Nat.{ℕ}
+use lib.Ieee.{Float, eq}
+use lib.Ieee.Scale.{finite}
+use Rattle.basis.specs.Choice.{if_then_else_, _=?_}
+use Rattle.basis.specs.Floats.{zero64}
+use Rattle.orbitcheck.specs.declared.Orbit.{Orbit}
+
+-- the refusal of a figure, 0 for none: 7 where it is not finite, and its own number where it is zero, 0 if it may be
+unfoldable pub unfit : Float → ℕ → ℕ
+unfit x own = if not (finite x) then 7 else if eq x zero64 then own else 0
+
+-- the first of two refusals
+infixl 20 _before_
+unfoldable pub _before_ : ℕ → ℕ → ℕ
+k before next = if k =? 0 then next else k
+
+-- "in written order ..: one not finite or n zero 7, c3 zero 9, n(C) zero 10"
+unfoldable pub refusal : Orbit → ℕ
+refusal o =
+    unfit (o .n) 7
+    before unfit (o .v2) 0
+    before unfit (o .c3) 9
+    before unfit (o .nc) 10
+    before unfit (o .p) 0
+    before unfit (o .e2) 0
+    before unfit (o .e) 0
+    before unfit (o .a) 0
+    before unfit (o .q) 0
+    before unfit (o .last) 0

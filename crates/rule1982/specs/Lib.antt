@@ -1,0 +1,2 @@
+pub mod Century
+pub mod Sidereal

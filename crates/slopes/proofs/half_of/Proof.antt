@@ -1,0 +1,16 @@
+-- `slopes::half_of` meets its contract. Assumes nothing.
+use lib.Ieee.{ofBits, round}
+use Rattle.slopes.specs.Slopes.{half}
+use borrow.Author.Needs.{needs}
+use Rattle.slopes.proofs.half_of.Statement.{statement}
+use Rattle.slopes.proofs.half_of.Tie as tie
+
+seconds-requires : tie.Need-seconds-requires
+seconds-requires c κs = search needs
+
+returns : tie.Need-returns
+unfolding half ofBits round
+returns c = rw (c .seconds .ensures)
+
+pub half-of-spec : {M : Type 1} → statement M
+half-of-spec = tie.close (tie.spec seconds-requires returns)

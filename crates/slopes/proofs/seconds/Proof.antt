@@ -1,0 +1,17 @@
+-- `slopes::seconds` meets its contract. Assumes nothing.
+use mathlib.Core.Path.{refl}
+use lib.Ieee.{ofBits, ofInt, round}
+use Rattle.slopes.specs.Slopes.{stepH}
+use borrow.Author.Needs.{needs}
+use Rattle.slopes.proofs.seconds.Statement.{statement}
+use Rattle.slopes.proofs.seconds.Tie as tie
+
+int-to-float-result : tie.Need-int-to-float-result
+int-to-float-result c = search needs
+
+returns : tie.Need-returns
+unfolding stepH ofBits ofInt round
+returns c = refl
+
+pub seconds-spec : {M : Type 1} → statement M
+seconds-spec = tie.close (tie.spec int-to-float-result returns)

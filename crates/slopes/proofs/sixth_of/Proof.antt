@@ -1,0 +1,16 @@
+-- `slopes::sixth_of` meets its contract. Assumes nothing.
+use lib.Ieee.{ofBits, ofInt, round}
+use Rattle.slopes.specs.Slopes.{sixth}
+use borrow.Author.Needs.{needs}
+use Rattle.slopes.proofs.sixth_of.Statement.{statement}
+use Rattle.slopes.proofs.sixth_of.Tie as tie
+
+seconds-requires : tie.Need-seconds-requires
+seconds-requires c κs = search needs
+
+returns : tie.Need-returns
+unfolding sixth ofBits ofInt round
+returns c = rw (c .seconds .ensures)
+
+pub sixth-of-spec : {M : Type 1} → statement M
+sixth-of-spec = tie.close (tie.spec seconds-requires returns)

@@ -1,0 +1,12 @@
+-- `slopes::toward` meets its contract. Assumes nothing.
+use mathlib.Core.Path.{refl}
+use Rattle.slopes.specs.Slopes.{along}
+use Rattle.slopes.proofs.toward.Statement.{statement}
+use Rattle.slopes.proofs.toward.Tie as tie
+
+returns : tie.Need-returns
+unfolding along
+returns c = refl
+
+pub toward-spec : {M : Type 1} → statement M
+toward-spec = tie.close (tie.spec returns)

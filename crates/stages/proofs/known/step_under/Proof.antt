@@ -1,0 +1,19 @@
+-- `stages::known::step_under` meets its contract. Assumes nothing.
+use Rattle.stages.specs.Step.{step}
+use borrow.Author.Needs.{needs}
+use Rattle.stages.proofs.known.step_under.Statement.{statement}
+use Rattle.stages.proofs.known.step_under.Tie as tie
+
+second-stage-requires : tie.Need-second-stage-requires
+second-stage-requires c κs = search needs
+
+returns : tie.Need-returns
+unfolding step
+returns c = c .second-stage .ensures
+
+pub step-under-spec : {M : Type 1} → statement M
+step-under-spec =
+    tie.close
+    (tie.spec
+    second-stage-requires
+    returns)

@@ -1,0 +1,104 @@
+// One step, stage by stage, for a book that is known to pass: not a public call, but what the crates above step with once a run's checks
+// are made.
+
+use arrival::Stepped;
+use arrival::known::finish;
+use gravity::AccelerationAnswer;
+use gravity::Guesses;
+use gravity::Sights;
+use gravity::known::acceleration_under;
+use gravity::known::sights_at;
+use slopes::half_of;
+use slopes::seconds;
+use slopes::toward;
+use state::Setting;
+use state::State;
+use state::Vector;
+ghost use mathlib.Core.Path.{_≡_};
+ghost use Prim.Native.Nat.{_+_, _/_};
+ghost use Rattle.book.specs.Calm.{Ready};
+ghost use Rattle.state.specs.State.{acceleration};
+ghost use Rattle.gravity.specs.Acceleration.{accelerationAt};
+ghost use Rattle.gravity.specs.Sight.{sights};
+ghost use Rattle.arrival.specs.Kept.{kept};
+ghost use Rattle.stages.specs.Step.{stage2, stage3, stage4, keeping, step};
+ghost use Rattle.stages.specs.Entries.{entriesAfter, MayStep};
+
+fn fourth_stage(
+    book: &[u8],
+    setting: Setting,
+    s: State,
+    h: u32,
+    g: Guesses,
+    calm: bool,
+    a2: Vector,
+    a3: Vector,
+) -> Stepped
+    requires { ⌜ (Ready (now book) calm) × (MayStep setting s) ⌝ }
+    ensures { λ r. ⌜ r ≡ kept (entriesAfter (now (book .entry)) setting h s) (stage4 (accelerationAt (now (book .entry)) setting (s .centre))
+        (keeping (accelerationAt (now (book .entry)) setting (s .centre))) h s (acceleration s) a2 a3) ⌝ }
+{
+    let v3 = toward(state::velocity_of(s), half_of(h), a2);
+    let p4 = toward(state::position_of(s), seconds(h), v3);
+    let bodies = sights_at(book, setting, s.centre, s.moment + h as u64, g, calm);
+    let answer = acceleration_under(bodies, setting, p4);
+    match answer {
+        AccelerationAnswer::Is(a4) => finish(setting, s, h, bodies, a2, a3, a4),
+        AccelerationAnswer::Refused(k) => Stepped::Off(k),
+    }
+}
+
+fn third_stage(
+    book: &[u8],
+    setting: Setting,
+    s: State,
+    h: u32,
+    g: Guesses,
+    calm: bool,
+    bodies: Sights,
+    a2: Vector,
+) -> Stepped
+    requires { ⌜ (Ready (now book) calm) × (MayStep setting s) ⌝ }
+    requires { ⌜ bodies ≡ sights (now book) setting (s .centre) (s .moment + h / 2) ⌝ }
+    ensures { λ r. ⌜ r ≡ kept (entriesAfter (now (book .entry)) setting h s) (stage3 (accelerationAt (now (book .entry)) setting (s .centre))
+        (keeping (accelerationAt (now (book .entry)) setting (s .centre))) h s (acceleration s) a2) ⌝ }
+{
+    let half = half_of(h);
+    let v2 = toward(state::velocity_of(s), half, state::acceleration_of(s));
+    let p3 = toward(state::position_of(s), half, v2);
+    let answer = acceleration_under(bodies, setting, p3);
+    match answer {
+        AccelerationAnswer::Is(a3) => fourth_stage(book, setting, s, h, g, calm, a2, a3),
+        AccelerationAnswer::Refused(k) => Stepped::Off(k),
+    }
+}
+
+// The first stage's acceleration is the state's own. The two middle stages stand at one moment: its bodies are looked up once.
+fn second_stage(book: &[u8], setting: Setting, s: State, h: u32, g: Guesses, calm: bool) -> Stepped
+    requires { ⌜ (Ready (now book) calm) × (MayStep setting s) ⌝ }
+    ensures { λ r. ⌜ r ≡ kept (entriesAfter (now (book .entry)) setting h s) (stage2 (accelerationAt (now (book .entry)) setting (s .centre))
+        (keeping (accelerationAt (now (book .entry)) setting (s .centre))) h s (acceleration s)) ⌝ }
+{
+    let p2 = toward(state::position_of(s), half_of(h), state::velocity_of(s));
+    let bodies = sights_at(book, setting, s.centre, s.moment + (h / 2) as u64, g, calm);
+    let answer = acceleration_under(bodies, setting, p2);
+    match answer {
+        AccelerationAnswer::Is(a2) => third_stage(book, setting, s, h, g, calm, bodies, a2),
+        AccelerationAnswer::Refused(k) => Stepped::Off(k),
+    }
+}
+
+// One step from s. `calm` is told only of a book in which no velocity can overflow.
+pub fn step_under(
+    book: &[u8],
+    setting: Setting,
+    s: State,
+    h: u32,
+    g: Guesses,
+    calm: bool,
+) -> Stepped
+    requires { ⌜ (Ready (now book) calm) × (MayStep setting s) ⌝ }
+    ensures { λ r. ⌜ r ≡ kept (entriesAfter (now (book .entry)) setting h s) (step (now (book .entry)) setting h s) ⌝ }
+{
+    second_stage(book, setting, s, h, g, calm)
+}

@@ -1,0 +1,12 @@
+-- `turns::place_on` meets its contract, operation by operation. Assumes nothing.
+use mathlib.Core.Path.{refl}
+use Rattle.turns.specs.Turns.{placeOn}
+use Rattle.turns.proofs.place_on.Statement.{statement}
+use Rattle.turns.proofs.place_on.Tie as tie
+
+returns : tie.Need-returns
+unfolding placeOn
+returns c = refl
+
+pub place-on-spec : {M : Type 1} → statement M
+place-on-spec = tie.close (tie.spec returns)

@@ -1,0 +1,44 @@
+// The way from a moment to a target in steps of one length.
+
+use basis::unless;
+ghost use mathlib.Core.Path.{_≡_};
+ghost use mathlib.Core.Bool.{_&&_};
+ghost use Rattle.basis.specs.Choice.{_≤?_};
+ghost use Rattle.way.specs.Way.{stepAllowed, withinSteps, wayRefusal};
+
+const LONGEST_STEP: u32 = 86_400_000;
+
+fn step_is_allowed(h: u32) -> bool
+    ensures { λ r. ⌜ r ≡ stepAllowed h ⌝ }
+{
+    if h < 2 {
+        return false;
+    }
+    if LONGEST_STEP < h {
+        return false;
+    }
+    h % 2 == 0
+}
+
+// Steps of no length lead nowhere.
+fn is_within_steps(moment: u64, h: u32, target: u64) -> bool
+    ensures { λ r. ⌜ r ≡ ((1 ≤? h) && withinSteps moment h target) ⌝ }
+{
+    if h < 1 {
+        return false;
+    }
+    if target < moment {
+        return false;
+    }
+    (target - moment) % (h as u64) == 0
+}
+
+// The checks of the way, 2 and 5.
+pub fn way(moment: u64, h: u32, target: u64) -> u64
+    ensures { λ r. ⌜ r ≡ wayRefusal moment h target ⌝ }
+{
+    let length = step_is_allowed(h);
+    let reaches = is_within_steps(moment, h, target);
+    let after_length = unless(reaches, 5, 0);
+    unless(length, 2, after_length)
+}

@@ -1,0 +1,26 @@
+-- `wholeroot::known::first` meets its contract. Assumes nothing.
+use Prim.Native.Nat.{_-_, _^_}
+use native.Mathlib.Omega.{arith}
+use borrow.Author.Needs.{needs}
+use Rattle.wholeroot.proofs.known.first.Statement.{statement}
+use Rattle.wholeroot.proofs.known.first.Tie as tie
+
+sub-w : tie.Need-sub-w
+sub-w c = search needs
+
+add-t3 : tie.Need-add-t3
+add-t3 c = search needs
+
+returns : tie.Need-returns
+returns c = record {
+  q = 2 ^ 52;
+  w = c .args .m - 2 ^ 52;
+  square = omega arith;
+  rest = omega arith;
+  room = omega arith;
+  v-is = omega arith;
+  t-is = omega arith;
+}
+
+pub first-spec : {M : Type 1} → statement M
+first-spec = tie.close (tie.spec sub-w add-t3 returns)

@@ -1,0 +1,66 @@
+-- `wholeroot::known::two_nearest_roots` meets its contract, each lane as in `nearest_root`. Assumes nothing.
+use mathlib.Core.Path.{refl}
+use Prim.Native.Nat.{_*_, _^_}
+use Rattle.wholeroot.specs.Digits.{LaneOf}
+use Rattle.wholeroot.proofs.Turns.{Weight, falls, weight, turning, turned, found}
+use Rattle.wholeroot.proofs.known.two_nearest_roots.Statement.{statement}
+use Rattle.wholeroot.proofs.known.two_nearest_roots.Tie as tie
+
+abbrev Inv-loop : tie.InvT-loop
+Inv-loop a b s₀ t₀ g₀ s t g = Weight g × LaneOf (a * 2 ^ 52) g (s .v) (s .t) × LaneOf (b * 2 ^ 52) g (t .v) (t .t)
+
+abbrev μ-loop : tie.MeasureT-loop
+μ-loop a b s₀ t₀ g₀ s t g = g
+
+first-requires : tie.Need-first-requires Inv-loop μ-loop
+first-requires c κs = (c .pre .0, c .pre .1)
+
+first-requires-2 : tie.Need-first-requires-2 Inv-loop μ-loop
+first-requires-2 c κs = (c .before .pre .2, c .before .pre .3)
+
+loop-holds : tie.Need-loop-holds Inv-loop μ-loop
+loop-holds c = ((26, refl), c .before .first .ensures, c .first2 .ensures)
+
+two-turns-requires : tie.Need-two-turns-requires Inv-loop μ-loop
+two-turns-requires c κs = let i = c .before .loop .inv in turning (i .1) (i .0) (c .loop-test .taken)
+
+two-turns-requires-2 : tie.Need-two-turns-requires-2 Inv-loop μ-loop
+two-turns-requires-2 c κs = let i = c .before .before .loop .inv in turning (i .2) (i .0) (c .before .loop-test .taken)
+
+loop-less : tie.Need-loop-less Inv-loop μ-loop
+loop-less c = falls (c .before .before .before .loop .inv .0) (c .before .before .loop-test .taken)
+
+loop-again : tie.Need-loop-again Inv-loop μ-loop
+loop-again c =
+    let i = c .before .before .before .loop .inv in
+    (weight (i .0) (c .before .before .loop-test .taken), c .before .two-turns .ensures _ (i .1), c .two-turns2 .ensures _ (i .2))
+
+last-requires : tie.Need-last-requires Inv-loop μ-loop
+last-requires c κs = let i = c .before .loop .inv in turned (i .1) (i .0) (c .loop-test .left)
+
+last-requires-2 : tie.Need-last-requires-2 Inv-loop μ-loop
+last-requires-2 c κs = let i = c .before .before .loop .inv in turned (i .2) (i .0) (c .before .loop-test .left)
+
+returns : tie.Need-returns Inv-loop μ-loop
+returns c =
+    let left = c .before .before in
+    let i = left .before .loop .inv in
+    let p = left .before .before .before .before .pre in
+    (found (c .before .last .ensures) (p .1) (i .1) (i .0) (left .loop-test .left), found (c .last2 .ensures) (p .3) (i .2) (i .0) (left .loop-test .left))
+
+pub two-nearest-roots-spec : {M : Type 1} → statement M
+two-nearest-roots-spec =
+    tie.close
+    (tie.spec
+    Inv-loop
+    μ-loop
+    first-requires
+    first-requires-2
+    loop-holds
+    two-turns-requires
+    two-turns-requires-2
+    loop-less
+    loop-again
+    last-requires
+    last-requires-2
+    returns)
