@@ -10,11 +10,11 @@ use dialogue::put::Out;
 use dialogue::put::put_floats;
 use dialogue::put::put_numbers;
 use dialogue::put::put_refused;
-use dialogue::values::narrowed;
-use dialogue::values::nth_float;
 use hour::HourAnswer;
 use root::RootAnswer;
 use sine::SineCosineAnswer;
+use values::known::narrowed;
+use values::known::nth_float;
 ghost use Prim.Native.Nat.{_+_, _≤_};
 ghost use Rattle.dialogue.specs.Room.{Between};
 

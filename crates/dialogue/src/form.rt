@@ -1,13 +1,11 @@
 // The numbers of a call: a line is a name and fields, each behind one space.
 
 use text::Field;
+pub use values::Numbers;
 ghost use Prim.Native.Nat.{_≤_};
 ghost use mathlib.Core.Path.{_≡_};
 ghost use lib.ListN.{length, take};
 ghost use Rattle.dialogue.specs.Call.{below32, cap, aboveZero, belowZero, readSigned, readPrinted, fieldAt, fieldsFrom, startsWith, callOf, told};
-
-// As many as the longest call has. A float stands as its bits.
-pub type Numbers = [u64; 30];
 
 fn starts_with(line: &[u8], name: &[u8]) -> bool
     ensures { λ r. ⌜ r ≡ startsWith (now (line .entry)) (now (name .entry)) ⌝ }

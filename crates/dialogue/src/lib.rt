@@ -1,6 +1,4 @@
-// What the programs that answer line by line share: the fields of a line, the values that they stand for, and rows of numbers in an
-// answer. These are inner functions of the programs: their callers know that there is room.
+// What the programs that answer line by line share: the fields of a line, and rows of numbers in an answer. These are inner functions of the programs: their callers know that there is room.
 
 pub mod form;
 pub mod put;
-pub mod values;

@@ -1,25 +1,16 @@
 -- How an injection as launch crews speak it and Earth-fixed coordinates lie in lent memory, and what such a call leaves there. Every array
 -- has the length that its type says, so that nan and 0 never come in where an element is read.
-use Prim.Native.Nat.{ℕ, _-_}
-use mathlib.Core.Bool.{true, false}
+use Prim.Native.Nat.{ℕ}
 use mathlib.Core.List.{List, [], _∷_}
 use lib.ListN.{getD}
 use lib.Ieee.{Float, nan}
-use Rattle.basis.specs.Choice.{if_then_else_, _<?_}
 use Rattle.fixed.specs.declared.EarthFixed.{EarthFixed}
 use Rattle.fixed.specs.declared.FixedAnswer.{FixedAnswer}
-use Rattle.sphere.specs.declared.Signed.{Signed}
+use Rattle.sphere.specs.Signed.{signedOf}
 use Rattle.sphere.specs.declared.Sphere.{Sphere}
 use Rattle.sphere.specs.declared.SphereAnswer.{SphereAnswer}
 use Rattle.handed.specs.Handed.{Answer, Accepted, Refused}
 use Rattle.lentstate.specs.Groups.{startIn}
-
--- read: 64 bits as a number with a sign, as C has it
-abbrev pub signedOf : ℕ → Signed
-signedOf bits =
-    if bits <? 0x8000_0000_0000_0000
-    then record { below = false; parts = bits }
-    else record { below = true; parts = 0x1_0000_0000_0000_0000 - bits }
 
 -- read: radius and speed; latitude, longitude, path angle and azimuth
 abbrev pub sphereOf : List Float → List ℕ → Sphere

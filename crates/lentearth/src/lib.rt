@@ -2,29 +2,13 @@
 
 use fixed::FixedAnswer;
 use lentstate::unkept_of;
-use sphere::Signed;
 use sphere::Sphere;
+use sphere::signed_of;
 ghost use mathlib.Core.Path.{_≡_};
 ghost use Rattle.fixed.specs.Fixed.{fixedAnswer};
 ghost use Rattle.handed.specs.Handed.{handed, answered};
 ghost use Rattle.lentstate.specs.Groups.{unkeptOf};
-ghost use Rattle.lentearth.specs.Earth.{signedOf, sphereOf, ofFixed};
-
-// A number of 64 bits with a sign, as C has it.
-fn signed_of(bits: u64) -> Signed
-    ensures { λ r. ⌜ r ≡ signedOf bits ⌝ }
-{
-    if bits < 0x8000_0000_0000_0000 {
-        return Signed {
-            below: false,
-            parts: bits,
-        };
-    }
-    Signed {
-        below: true,
-        parts: 0xffff_ffff_ffff_ffff - bits + 1,
-    }
-}
+ghost use Rattle.lentearth.specs.Earth.{sphereOf, ofFixed};
 
 pub fn sphere_of(sizes: [f64; 2], angles: [u64; 4]) -> Sphere
     ensures { λ r. ⌜ r ≡ sphereOf sizes angles ⌝ }

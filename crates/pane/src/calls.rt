@@ -6,15 +6,15 @@ use dialogue::put::Out;
 use dialogue::put::put_floats;
 use dialogue::put::put_numbers;
 use dialogue::put::put_refused;
-use dialogue::values::guesses_from;
-use dialogue::values::narrowed;
-use dialogue::values::state_from;
 use live::FrameAnswer;
 use live::Pane;
 use live::TakeAnswer;
 use motion::Outcome;
 use motion::RunAnswer;
 use text::known::put_bytes;
+use values::known::guesses_from;
+use values::known::narrowed;
+use values::known::state_from;
 ghost use Prim.Native.Nat.{_+_, _≤_};
 ghost use Rattle.dialogue.specs.Room.{Between};
 

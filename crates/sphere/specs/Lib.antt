@@ -1,1 +1,2 @@
 pub mod Sphere
+pub mod Signed

@@ -14,6 +14,7 @@ ghost use mathlib.Core.Path.{_≡_};
 ghost use Prim.Native.Nat.{_≤_};
 ghost use Rattle.hour.specs.declared.HourAnswer.the-variants.{Parts};
 ghost use Rattle.hour.specs.Hour.{siderealAnswer};
+ghost use Rattle.sphere.specs.Signed.{signedOf};
 ghost use Rattle.sphere.specs.Sphere.{quarter, anglesAllowed, partsOf, placeOf, velocityOf, injected, sizesAllowed, injectionAnswer, sphereAnswer};
 
 // 90 degrees in parts.
@@ -38,6 +39,22 @@ pub struct Sphere {
 pub enum SphereAnswer {
     Injected(Injection),
     Refused(u64),
+}
+
+// A number of 64 bits with a sign, as C has it.
+pub fn signed_of(bits: u64) -> Signed
+    ensures { λ r. ⌜ r ≡ signedOf bits ⌝ }
+{
+    if bits < 0x8000_0000_0000_0000 {
+        return Signed {
+            below: false,
+            parts: bits,
+        };
+    }
+    Signed {
+        below: true,
+        parts: 0xffff_ffff_ffff_ffff - bits + 1,
+    }
 }
 
 fn parts_of(a: Signed) -> u64

@@ -1,28 +1,34 @@
-// The numbers of a call's fields as the values that the crates below take.
+// The numbers of a call's fields as the values that the crates below take, each from a place that is known to have numbers enough behind it.
 
-use crate::form::Numbers;
+use crate::Numbers;
 use gravity::Guesses;
-use sphere::Signed;
 use sphere::Sphere;
+use sphere::signed_of;
 use state::Injection;
 use state::Setting;
 use state::State;
 use state::Vector;
+ghost use mathlib.Core.Path.{_≡_};
 ghost use Prim.Native.Nat.{_+_, _≤_};
+ghost use Rattle.values.specs.Values.{narrow, nthFloat, vectorFrom, injectionFrom, stateFrom, unkeptFrom, oldSetting, settingFrom, guessesFrom, sphereFrom};
 
 // The reader has seen that a number of 32 bits has no more of them.
-pub fn narrowed(number: u64) -> u32 {
+pub fn narrowed(number: u64) -> u32
+    ensures { λ r. ⌜ r ≡ narrow number ⌝ }
+{
     (number % 4_294_967_296) as u32
 }
 
 pub fn nth_float(v: &Numbers, i: usize) -> f64
     requires { ⌜ i + 1 ≤ 30 ⌝ }
+    ensures { λ r. ⌜ r ≡ nthFloat (now (v .entry)) i ⌝ }
 {
-    text::float_of_bits(v[i])
+    fields::float_of_bits(v[i])
 }
 
 pub fn vector_from(v: &Numbers, i: usize) -> Vector
     requires { ⌜ i + 3 ≤ 30 ⌝ }
+    ensures { λ r. ⌜ r ≡ vectorFrom (now (v .entry)) i ⌝ }
 {
     Vector {
         x: nth_float(v, i),
@@ -34,6 +40,7 @@ pub fn vector_from(v: &Numbers, i: usize) -> Vector
 // Position and velocity from a field on.
 pub fn injection_from(v: &Numbers, moment: u64, centre: u64, i: usize) -> Injection
     requires { ⌜ i + 6 ≤ 30 ⌝ }
+    ensures { λ r. ⌜ r ≡ injectionFrom (now (v .entry)) moment centre i ⌝ }
 {
     let p = vector_from(v, i);
     let w = vector_from(v, i + 3);
@@ -52,6 +59,7 @@ pub fn injection_from(v: &Numbers, moment: u64, centre: u64, i: usize) -> Inject
 // A whole state from a field on: moment, centre, position, velocity and acceleration.
 pub fn state_from(v: &Numbers, i: usize) -> State
     requires { ⌜ i + 11 ≤ 30 ⌝ }
+    ensures { λ r. ⌜ r ≡ stateFrom (now (v .entry)) i ⌝ }
 {
     let injection = injection_from(v, v[i], v[i + 1], i + 2);
     state::carrying(injection, vector_from(v, i + 8))
@@ -60,6 +68,7 @@ pub fn state_from(v: &Numbers, i: usize) -> State
 // For a call that does not read the acceleration: an old line has none, and zero stands for it.
 pub fn unkept_from(v: &Numbers, moment: u64, i: usize) -> State
     requires { ⌜ i + 6 ≤ 30 ⌝ }
+    ensures { λ r. ⌜ r ≡ unkeptFrom (now (v .entry)) moment i ⌝ }
 {
     let none = Vector {
         x: 0.0,
@@ -70,7 +79,9 @@ pub fn unkept_from(v: &Numbers, moment: u64, i: usize) -> State
 }
 
 // The first seven numbers are six coefficients and DUT. An old line has no more of a setting: J, A and K are zero, and the rule is 0.
-pub fn old_setting(v: &Numbers) -> Setting {
+pub fn old_setting(v: &Numbers) -> Setting
+    ensures { λ r. ⌜ r ≡ oldSetting (now (v .entry)) ⌝ }
+{
     Setting {
         earth: nth_float(v, 0),
         moon: nth_float(v, 1),
@@ -87,7 +98,9 @@ pub fn old_setting(v: &Numbers) -> Setting {
 }
 
 // The first eleven numbers: behind DUT come J, A, K and the rule.
-pub fn setting_of(v: &Numbers) -> Setting {
+pub fn setting_of(v: &Numbers) -> Setting
+    ensures { λ r. ⌜ r ≡ settingFrom (now (v .entry)) ⌝ }
+{
     let mut setting = old_setting(v);
     setting.j = nth_float(v, 7);
     setting.a = nth_float(v, 8);
@@ -98,6 +111,7 @@ pub fn setting_of(v: &Numbers) -> Setting {
 
 pub fn guesses_from(v: &Numbers, i: usize) -> Guesses
     requires { ⌜ i + 5 ≤ 30 ⌝ }
+    ensures { λ r. ⌜ r ≡ guessesFrom (now (v .entry)) i ⌝ }
 {
     Guesses {
         moon: v[i],
@@ -108,22 +122,10 @@ pub fn guesses_from(v: &Numbers, i: usize) -> Guesses
     }
 }
 
-// 64 bits with a sign, as an angle of an injection.
-fn signed_of(bits: u64) -> Signed {
-    if bits < 0x8000_0000_0000_0000 {
-        return Signed {
-            below: false,
-            parts: bits,
-        };
-    }
-    Signed {
-        below: true,
-        parts: 0xffff_ffff_ffff_ffff - bits + 1,
-    }
-}
-
 // After the rule, DUT and the moment come radius, latitude, longitude, speed, path angle and azimuth.
-pub fn sphere_of(v: &Numbers) -> Sphere {
+pub fn sphere_of(v: &Numbers) -> Sphere
+    ensures { λ r. ⌜ r ≡ sphereFrom (now (v .entry)) ⌝ }
+{
     let latitude = signed_of(v[4]);
     let path = signed_of(v[7]);
     Sphere {

@@ -1,0 +1,12 @@
+-- An angle with a sign, as it lies in 64 bits.
+use Prim.Native.Nat.{ℕ, _-_}
+use mathlib.Core.Bool.{true, false}
+use Rattle.basis.specs.Choice.{if_then_else_, _<?_}
+use Rattle.sphere.specs.declared.Signed.{Signed}
+
+-- as C has a number with a sign
+abbrev pub signedOf : ℕ → Signed
+signedOf bits =
+    if bits <? 0x8000_0000_0000_0000
+    then record { below = false; parts = bits }
+    else record { below = true; parts = 0x1_0000_0000_0000_0000 - bits }

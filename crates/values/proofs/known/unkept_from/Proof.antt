@@ -1,0 +1,17 @@
+-- `values::known::unkept_from` meets its contract. Assumes nothing.
+use mathlib.Core.Path.{refl}
+use borrow.Author.Needs.{needs}
+use Rattle.values.proofs.known.unkept_from.Statement.{statement}
+use Rattle.values.proofs.known.unkept_from.Tie as tie
+
+injection-from-requires : tie.Need-injection-from-requires
+injection-from-requires c κs = search needs
+
+carrying-requires : tie.Need-carrying-requires
+carrying-requires c κs = search needs
+
+returns : tie.Need-returns
+returns c = rw (c .carrying .ensures, c .before .injection-from .ensures) refl
+
+pub unkept-from-spec : {M : Type 1} → statement M
+unkept-from-spec = tie.close (tie.spec injection-from-requires carrying-requires returns)
