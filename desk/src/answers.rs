@@ -1,7 +1,9 @@
 //! What the page is told, as JSON written by hand. Figures come as text with their units' places, and each centre's with the
 //! whole state as `ask` prints it.
 
-use crate::calls::State;
+use belfrywool::State;
+
+use crate::calls::place;
 use crate::desk::{Figures, Moment, Shown, Word};
 use crate::flight::Point;
 use crate::times::{clock_text, date_text, span_text};
@@ -31,7 +33,7 @@ fn decimal(x: f64, places: usize) -> String {
 
 /// MOMENT CENTRE X Y Z VX VY VZ AX AY AZ, floats as their bits.
 fn state_text(s: &State) -> String {
-    let floats: String = s.coordinates.iter().map(|x| format!(" {:016x}", x.to_bits())).collect();
+    let floats: String = s.coordinates.iter().chain(&s.acceleration).map(|x| format!(" {:016x}", x.to_bits())).collect();
     format!("{} {}{floats}", s.moment, s.centre)
 }
 
@@ -41,7 +43,7 @@ fn about(f: &Figures) -> String {
     format!(
         "{{\"state\":{},\"at\":{},\"range\":{},\"speed\":{},\"pull\":{},\"gauge\":{pull:?}}}",
         quoted(&state_text(&f.state)),
-        vector(&f.state.position()),
+        vector(&place(f.state.coordinates)),
         quoted(&decimal(f.range, 1)),
         quoted(&decimal(f.speed, 4)),
         quoted(&decimal(pull, 5)),

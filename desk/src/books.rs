@@ -114,7 +114,9 @@ pub fn parted(book: &[u8], end: u64) -> [Vec<u8>; 2] {
 #[cfg(test)]
 mod tests {
     use super::*;
-    use crate::calls::{book_passes, position};
+    use belfrywool::book_passes;
+
+    use crate::calls::position;
 
     const WHOLE: &[u8] = include_bytes!("../../data/books/book31all.bin");
     const END: u64 = 411_358_200_000;

@@ -1,11 +1,12 @@
 //! The desk: a clock, a flight under a book, and the pane; and all that is known of the clock's moment.
 
+use belfrywool::{moved, Frame, Pane, State};
+
 use crate::books::parted;
-use crate::calls::{self, State, MOON};
+use crate::calls::{length, place, position, rates, turned, MOON};
 use crate::clock::Clock;
 use crate::flight::{Flight, Point};
 use crate::order::{self, Order};
-use crate::pane::{Frame, Pane};
 use crate::refusals::meaning;
 use crate::times::moment_of;
 
@@ -77,8 +78,8 @@ pub fn ordered() -> Order {
 }
 
 fn figures(state: State) -> Result<Figures, u64> {
-    let [position, velocity, acceleration] = [0, 3, 6].map(|i| calls::length(&state.coordinates[i..i + 3]));
-    Ok(Figures { state, range: position?, speed: velocity?, pull: acceleration? })
+    let (range, speed) = (length(place(state.coordinates))?, length(rates(state.coordinates))?);
+    Ok(Figures { state, range, speed, pull: length(state.acceleration)? })
 }
 
 fn the_night() -> (Book, Option<(u64, Book)>) {
@@ -118,26 +119,26 @@ impl Desk {
 
     fn word(&self, moment: u64) -> Word {
         match self.pane.frame(moment) {
-            Frame::Current(position) => match self.shown(position) {
+            Ok(Frame::Current(position)) => match self.shown(position) {
                 Ok(shown) => Word::Current(Box::new(shown)),
                 Err(number) => Word::Refused(number),
             },
-            Frame::Late(late) => Word::Late(late),
-            Frame::Empty => Word::Empty,
-            Frame::Refused(number) => Word::Refused(number),
+            Ok(Frame::Late(late)) => Word::Late(late),
+            Ok(Frame::Empty) => Word::Empty,
+            Err(number) => Word::Refused(number),
         }
     }
 
     /// The figures of a current frame. The clock never goes back and no run goes past it, so that such a frame stands at the last
     /// state reached: velocity and acceleration are that state's, and the position is the pane's.
-    fn shown(&self, position: [f64; 3]) -> Result<Shown, u64> {
+    fn shown(&self, at: [f64; 3]) -> Result<Shown, u64> {
         let (book, setting, mut state) = (&self.book.bytes, self.flight.setting(), self.flight.state());
-        state.coordinates[..3].copy_from_slice(&position);
+        state.coordinates[..3].copy_from_slice(&at);
         Ok(Shown {
             earth: figures(state)?,
-            moon: figures(calls::moved(book, setting, &state, MOON)?)?,
-            fixed: calls::turned(setting, &state)?,
-            moon_at: calls::position(book, MOON, state.moment)?,
+            moon: figures(moved(book, setting, &state, MOON)?)?,
+            fixed: turned(setting, &state)?,
+            moon_at: position(book, MOON, state.moment)?,
         })
     }
 

@@ -1,9 +1,10 @@
 //! The flight, walked in portions: each call of `belfry_fly` goes on from the state and the guesses that the last one handed back, and
 //! what it answers is fed to the pane.
 
-use crate::calls::{self, Ran, Setting, State, ARRIVED, GOING, MOON};
+use belfrywool::{fly, inject, moved, Outcome, Pane, Ran, Setting, State, EARTH};
+
+use crate::calls::{place, position, turned, MOON};
 use crate::order::Order;
-use crate::pane::Pane;
 use crate::times::SECOND;
 
 /// Steps of a second, so that the flight comes to every moment of the clock.
@@ -36,18 +37,18 @@ pub struct Flight {
 
 fn point(book: &[u8], setting: &Setting, state: &State) -> Result<Point, u64> {
     Ok(Point {
-        earth: state.position(),
-        moon: calls::moved(book, setting, state, MOON)?.position(),
-        fixed: calls::turned(setting, state)?,
-        moon_at: calls::position(book, MOON, state.moment)?,
+        earth: place(state.coordinates),
+        moon: place(moved(book, setting, state, MOON)?.coordinates),
+        fixed: turned(setting, state)?,
+        moon_at: position(book, MOON, state.moment)?,
     })
 }
 
 impl Flight {
     /// At the injection, which is the pane's first state.
     pub fn begun(order: &Order, book: &[u8], pane: &mut Pane) -> Result<Flight, u64> {
-        let state = calls::inject(book, &order.setting, order.moment, &order.coordinates)?;
-        pane.take(&state);
+        let state = inject(book, &order.setting, &State::bare(order.moment, EARTH, order.coordinates))?;
+        pane.take(&state)?;
         let (injection, target) = (order.moment, order.target);
         let mut flight =
             Flight { setting: order.setting, injection, target, state, guesses: [0; 5], refusal: None, points: Vec::new() };
@@ -63,14 +64,15 @@ impl Flight {
         self.refusal = None;
         while self.state.moment < target {
             let ran = self.portion(book, target, most);
-            pane.feed(&ran);
-            match ran.answer {
-                ARRIVED | GOING => {
+            // A state that is not taken leaves the pane as it was, and the pane's word tells it.
+            let _ = pane.feed(&ran);
+            match ran.outcome {
+                Outcome::Arrived | Outcome::Going => {
                     (self.state, self.guesses, most) = (ran.state, ran.guesses, u32::MAX);
                     self.keep(book);
                 }
-                _ if ran.steps > 0 => most = ran.steps,
-                number => {
+                Outcome::Refused(_) if ran.steps > 0 => most = ran.steps,
+                Outcome::Refused(number) => {
                     self.refusal = Some(number);
                     break;
                 }
@@ -82,7 +84,7 @@ impl Flight {
     fn portion(&self, book: &[u8], target: u64, most: u32) -> Ran {
         let left = PORTION - (self.state.moment - self.injection) % PORTION;
         let budget = most.min((left / SECOND) as u32);
-        calls::fly(book, &self.setting, &self.state, STEP, target, budget, &self.guesses)
+        fly(book, &self.setting, &self.state, STEP, target, budget, &self.guesses)
     }
 
     /// Keeps the place of the state, if it is one of those that are kept.

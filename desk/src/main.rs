@@ -8,7 +8,6 @@ mod desk;
 mod flight;
 mod order;
 mod pages;
-mod pane;
 mod refusals;
 mod request;
 mod serve;

@@ -1,8 +1,8 @@
 //! An order of 144 bytes, as `strip144` takes it: coefficients, injection, step, DUT, target, then J, A and K.
 
-use crate::calls::Setting;
+use belfrywool::Setting;
 
-#[derive(Clone, Copy, Debug, PartialEq)]
+#[derive(Clone, Copy, Debug)]
 pub struct Order {
     pub setting: Setting,
     pub moment: u64,

@@ -1,7 +1,5 @@
 //! Moments as text and back. A moment is milliseconds of ephemeris time since 0h 1950 January 1.
 
-use crate::calls;
-
 pub const SECOND: u64 = 1000;
 const MINUTE: u64 = 60 * SECOND;
 const HOUR: u64 = 60 * MINUTE;
@@ -19,7 +17,7 @@ pub fn clock_text(moment: u64) -> String {
 
 /// The date, where the calendar has it.
 pub fn date_text(moment: u64) -> Option<String> {
-    let [year, month, day] = calls::date(moment / DAY).ok()?;
+    let [year, month, day] = belfrywool::date(moment / DAY).ok()?;
     Some(format!("{year}-{month:02}-{day:02}"))
 }
 
@@ -42,7 +40,8 @@ fn time_of_day(text: &str) -> Option<u64> {
 pub fn moment_of(text: &str, after: u64) -> Option<u64> {
     match text.split_once('T') {
         Some((date, time)) => {
-            let day = calls::day(fields(date, '-', [4, 2, 2])?).ok()?;
+            let [year, month, day] = fields(date, '-', [4, 2, 2])?;
+            let day = belfrywool::day(year, month, day).ok()?;
             Some(day * DAY + time_of_day(time)?)
         }
         None => {

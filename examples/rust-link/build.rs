@@ -7,7 +7,9 @@ fn main() {
     let folder = var("BELFRYWOOL_LIB").unwrap_or_else(|_| format!("{here}/../../target/staticlib"));
     println!("cargo:rerun-if-env-changed=BELFRYWOOL_LIB");
     println!("cargo:rustc-link-search=native={folder}");
-    for name in ["link", "centrelink", "almanaclink", "mendlink", "panelink"] {
+    let asked = [("link", "CARGO_FEATURE_LINK"), ("mendlink", "CARGO_FEATURE_MENDLINK")];
+    let asked = asked.iter().filter(|(_, feature)| var(feature).is_ok()).map(|(name, _)| *name);
+    for name in ["centrelink", "almanaclink", "panelink"].into_iter().chain(asked) {
         println!("cargo:rerun-if-changed={folder}/lib{name}.a");
         println!("cargo:rustc-link-lib=static={name}");
     }
