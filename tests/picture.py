@@ -10,7 +10,7 @@ from checks import ROOT, WORK, check, ran
 from png import pixels
 
 # colours, and how many pixels of each a part has to have at least
-CRAFT, EARTH, JPL, WAY = ((0x1f, 0x5f, 0xa8), 45), ((0x2e, 0x8b, 0x57), 50), ((0xd2, 0x60, 0x1a), 15), ((0x1f, 0x5f, 0xa8), 240)
+CRAFT, EARTH, JPL, WAY = ((0x1f, 0x5f, 0xa8), 45), ((0x2e, 0x8b, 0x57), 50), ((0xd2, 0x60, 0x1a), 15), ((0x1f, 0x5f, 0xa8), 300)
 # parts of a picture: left, top, right and bottom as shares of it, and the colours that have to be there
 FLIGHT = {'the path': ((0, 0, 1, 0.65), (CRAFT, EARTH)), 'the range': ((0, 0.67, 0.5, 1), (CRAFT, JPL)),
           'the speed': ((0.5, 0.67, 1, 1), (CRAFT, JPL))}
@@ -18,9 +18,13 @@ FLOORS = {'the way': ((0, 0.1, 0.27, 1), (WAY,)), 'the upper floors': ((0.27, 0.
           'the lower floors': ((0.27, 0.55, 1, 1), ())}
 
 
-def rendered(name, svg):
+# how wide a picture is rendered: the floors are wider than the flight, and have smaller print
+NARROW, WIDE = 460, 560
+
+
+def rendered(name, svg, width=NARROW):
     (WORK / f'{name}.svg').write_text(svg)
-    status, _, told = ran('rsvg-convert', '-w', '460', WORK / f'{name}.svg', '-o', WORK / f'{name}.png')
+    status, _, told = ran('rsvg-convert', '-w', str(width), WORK / f'{name}.svg', '-o', WORK / f'{name}.png')
     if status:
         sys.exit(f'FAILED {name} is rendered: {told}')
     return pixels(WORK / f'{name}.png')
@@ -44,12 +48,12 @@ def lacking(rows, part):
     return lost + [f'colour {colour}: {found[colour]}' for colour, least in colours if found[colour] < least]
 
 
-def shown(name, svg, parts):
-    rows = rendered(name, svg)
+def shown(name, svg, parts, width=NARROW):
+    rows = rendered(name, svg, width)
     for part, where in parts.items():
         lost = lacking(rows, where)
         check(f'{name}.svg shows {part}', not lost, lost)
-    rows = rendered(f'{name}-blank', re.sub(r'(?m)^<(polyline|circle|path|text|line|rect x).*', '', svg))
+    rows = rendered(f'{name}-blank', re.sub(r'(?m)^<(polyline|circle|path|text|line|rect x).*', '', svg), width)
     check(f'{name}.svg with nothing on its ground is seen as blank', all(lacking(rows, where) for where in parts.values()))
 
 
@@ -61,7 +65,7 @@ def main():
     lost = [part for part, where in FLIGHT.items() if lacking(rendered('cut', cut), where)]
     check('flight.svg without its speed curve is seen', lost == ['the speed'], lost)
     floors = (ROOT / 'docs/architecture.svg').read_text()
-    shown('architecture', floors, FLOORS)
+    shown('architecture', floors, FLOORS, WIDE)
     check('docs/flight.svg is what ./flight draws', (ROOT / 'docs/flight.svg').read_text() == svg, 'cp target/flight.svg docs/')
     status, out, told = ran('docs/draw-architecture')
     fresh = status == 0 and out.decode() == floors
