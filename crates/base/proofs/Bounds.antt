@@ -13,7 +13,7 @@ use lib.Ieee.Fits.{down-pos, up-pos, round-is}
 use lib.Ieee.Scale.{finite, overflow}
 use lib.Ieee.Exact.{HasValue, round-exact}
 use lib.Ieee.Order.{round-mono, transfer, drop, kept}
-use Rattle.basis.proofs.Clear.{clear, round-clear}
+use Rattle.base.proofs.Clear.{clear, round-clear}
 
 -- x is finite and at most n / d in size
 abbrev pub Within : ℕ → ℕ → Float → Type 0

@@ -1,7 +1,7 @@
 -- Document 01, "Time": the limits of moments, days and DUT, in whole milliseconds, and of angles, in parts.
 use mathlib.Core.Bool.{Bool}
 use Prim.Native.Nat.{ℕ}
-use Rattle.basis.specs.Choice.{_<?_, _≤?_}
+use Rattle.base.specs.Choice.{_<?_, _≤?_}
 
 -- moments are "0 up to but not including" this
 abbrev pub endOfTime : ℕ

@@ -3,7 +3,7 @@
 ghost use mathlib.Core.Path.{_≡_};
 ghost use mathlib.Core.Bool.{not};
 ghost use lib.Ieee.Scale.{finite};
-ghost use Rattle.basis.specs.Choice.{if_then_else_};
+ghost use Rattle.base.specs.Choice.{if_then_else_};
 
 // Moments are whole milliseconds from 0 up to but not including this.
 pub const END_OF_TIME: u64 = 3_155_760_000_000;

@@ -4,15 +4,15 @@ use mathlib.Core.Path.{_≡_, refl, ap, sym, _∙_}
 use Prim.Native.Nat.{ℕ, zero, suc, _+_, _-_, _≤_, _<_}
 use native.Mathlib.Omega.{arith}
 use borrow.Author.Tests.{leb-true, ltb-true, ltb-false, le-leb}
-use Rattle.basis.specs.Choice.{if_then_else_, _<?_, _≤?_}
-use Rattle.basis.specs.Limits.{lastDay}
+use Rattle.base.specs.Choice.{if_then_else_, _<?_, _≤?_}
+use Rattle.base.specs.Limits.{lastDay}
 use Rattle.calendar.specs.declared.Calendar.{Calendar}
 use Rattle.calendar.specs.declared.DateAnswer.{DateAnswer}
 use Rattle.calendar.specs.declared.DayAnswer.{DayAnswer}
 use Rattle.calendar.specs.Answers.{dateAnswer, dayAnswerOf}
 use Rattle.calendar.specs.Gregorian.{ymd, isLeap, monthLength, daysBeforeMonth, daysOfYears, isDate, dayOf, dayAfter, dateOf}
 use Rattle.lengths.proofs.Lengths.{length-of, days-of-years, daysOfMonths, lengthOfMonth, lengthOfYear, month-step, year-step, month-within, next-month, january-starts, december-ends, month-has-days}
-use Rattle.lengths.proofs.Runs.{later, same-run}
+use Rattle.calendar_lengths.proofs.Runs.{later, same-run}
 
 -- a date from 1950 on, with no last year
 pub record Proper (date : Calendar) : Type 0 where

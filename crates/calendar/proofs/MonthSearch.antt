@@ -4,7 +4,7 @@ use mathlib.Core.Path.{_≡_, ap, sym}
 use Prim.Native.Nat.{ℕ, _+_, _-_, _≤_, _<_}
 use native.Mathlib.Omega.{arith}
 use Rattle.calendar.specs.Gregorian.{ymd, isLeap, yearLength, monthLength, daysBeforeMonth, daysBeforeYear, dateOf}
-use Rattle.lengths.proofs.Lengths.{next-month, january-starts, december-ends}
+use Rattle.calendar_lengths.proofs.Lengths.{next-month, january-starts, december-ends}
 use Rattle.calendar.proofs.Dates.{found}
 
 -- the elapsed days of a year reach to a month, or past it, by rest

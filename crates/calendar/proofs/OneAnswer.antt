@@ -1,6 +1,6 @@
 -- Any two results that the promise of a call of the calendar allows are equal. Assumes nothing.
 use mathlib.Core.Path.{refl}
-use Rattle.basis.proofs.OneAnswer.{OneAnswer, one-answer}
+use Rattle.base.proofs.OneAnswer.{OneAnswer, one-answer}
 use Rattle.calendar.specs.Answers.{dateAnswer, dayAnswer, julianAnswer}
 use Rattle.calendar.proofs.Calendar.from_day as from-day
 use Rattle.calendar.proofs.Calendar.from_date as from-date

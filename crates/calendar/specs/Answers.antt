@@ -1,7 +1,7 @@
 -- Document 01, refusal 8: "no such date within 1950 to 2049, or day above 36,524".
 use Prim.Native.Nat.{ℕ, _+_, _*_}
-use Rattle.basis.specs.Choice.{if_then_else_, _≤?_}
-use Rattle.basis.specs.Limits.{lastDay}
+use Rattle.base.specs.Choice.{if_then_else_, _≤?_}
+use Rattle.base.specs.Limits.{lastDay}
 use Rattle.calendar.specs.declared.Calendar.{Calendar}
 use Rattle.calendar.specs.declared.DateAnswer.{DateAnswer}
 use Rattle.calendar.specs.declared.DayAnswer.{DayAnswer}

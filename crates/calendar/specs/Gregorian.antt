@@ -1,9 +1,9 @@
 -- Document 01, "Time": days counted from 1950 January 1 by the Gregorian calendar. Months and days of a month are counted from 1.
 use mathlib.Core.Bool.{Bool, _&&_}
 use Prim.Native.Nat.{ℕ, zero, suc, _+_, _-_}
-use Rattle.basis.specs.Choice.{if_then_else_, _<?_, _≤?_}
-pub use Rattle.lengths.specs.Lengths.{isLeap, yearLength, monthLengths, monthLength, total, daysBeforeYear}
-unfoldable pub use Rattle.lengths.specs.Lengths.{daysBeforeMonth, daysOfYears}
+use Rattle.base.specs.Choice.{if_then_else_, _<?_, _≤?_}
+pub use Rattle.calendar_lengths.specs.Lengths.{isLeap, yearLength, monthLengths, monthLength, total, daysBeforeYear}
+unfoldable pub use Rattle.calendar_lengths.specs.Lengths.{daysBeforeMonth, daysOfYears}
 use Rattle.calendar.specs.declared.Calendar.{Calendar}
 
 abbrev pub ymd : ℕ → ℕ → ℕ → Calendar

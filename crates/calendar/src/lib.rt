@@ -1,9 +1,9 @@
 // Dates of the Gregorian calendar from 1950 to 2049, and their days counted from 1950 January 1.
 
-use lengths::known::days_before_month;
-use lengths::known::days_before_year;
-use lengths::known::is_leap;
-use lengths::known::month_length;
+use calendar_lengths::inner::days_before_month;
+use calendar_lengths::inner::days_before_year;
+use calendar_lengths::inner::is_leap;
+use calendar_lengths::inner::month_length;
 ghost use mathlib.Core.Path.{_≡_};
 ghost use Prim.Native.Nat.{_+_, _<_, _≤_};
 ghost use Rattle.calendar.specs.Gregorian.{ymd, isLeap, yearLength, daysBeforeYear, isDate, dateOf};
@@ -79,7 +79,7 @@ impl Calendar {
 
     pub const LAST_DAY: u64 = 36_524;
 
-    pub const FIRST_YEAR: u64 = lengths::FIRST_YEAR;
+    pub const FIRST_YEAR: u64 = calendar_lengths::FIRST_YEAR;
 
     pub const LAST_YEAR: u64 = 2049;
 

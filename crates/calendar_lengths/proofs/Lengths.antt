@@ -7,10 +7,10 @@ use native.Mathlib.Nat.{add-sub-of-le, le-of-suc-le-suc, not-suc-le-zero}
 use native.Mathlib.Omega.{arith}
 use lib.ListN.{getD, take, length}
 use borrow.Author.Tests.{leb-true, eqb-true, eqb-false, eq-eqb}
-use Rattle.basis.specs.Choice.{if_then_else_, _≤?_, _=?_}
-use Rattle.basis.specs.Limits.{lastDay}
-use Rattle.lengths.specs.Lengths.{isLeap, yearLength, monthLengths, monthLength, total, daysBeforeMonth, daysOfYears, daysBeforeYear}
-use Rattle.lengths.proofs.Runs.{later}
+use Rattle.base.specs.Choice.{if_then_else_, _≤?_, _=?_}
+use Rattle.base.specs.Limits.{lastDay}
+use Rattle.calendar_lengths.specs.Lengths.{isLeap, yearLength, monthLengths, monthLength, total, daysBeforeMonth, daysOfYears, daysBeforeYear}
+use Rattle.calendar_lengths.proofs.Runs.{later}
 
 both : (a b : Bool) → (a && b) ≡ true → (a ≡ true) × (b ≡ true)
 both true b e = (refl, e)

@@ -3,7 +3,7 @@
 use crate::FIRST_YEAR;
 ghost use mathlib.Core.Path.{_≡_};
 ghost use Prim.Native.Nat.{_≤_};
-ghost use Rattle.lengths.specs.Lengths.{isLeap, monthLength, daysBeforeMonth, daysBeforeYear};
+ghost use Rattle.calendar_lengths.specs.Lengths.{isLeap, monthLength, daysBeforeMonth, daysBeforeYear};
 
 const COMMON_YEAR: [u64; 12] = [31, 28, 31, 30, 31, 30, 31, 31, 30, 31, 30, 31];
 

@@ -3,12 +3,12 @@ use mathlib.Core.Bool.{Bool, true, false}
 use mathlib.Core.Path.{_≡_, refl}
 use Prim.Native.Nat.{ℕ, _/_, _%_, _<_}
 use native.Mathlib.Omega.{arith}
-use Rattle.basis.specs.Choice.{if_then_else_, _=?_}
-use Rattle.basis.specs.Limits.{circle}
-use Rattle.rule1982.specs.Sidereal.{sidereal1982}
-use Rattle.oldrule.specs.DocumentOne.{denominator, numerator, documentOne}
+use Rattle.base.specs.Choice.{if_then_else_, _=?_}
+use Rattle.base.specs.Limits.{circle}
+use Rattle.hour_1982.specs.Sidereal.{sidereal1982}
+use Rattle.hour_old.specs.DocumentOne.{denominator, numerator, documentOne}
 use Rattle.hour.specs.Hour.{ruleOf, hourAngle, siderealAngle}
-use Rattle.rounding.proofs.Rounding.{Rounded, rounded, into-circle-below}
+use Rattle.hour_rounding.proofs.Rounding.{Rounded, rounded, into-circle-below}
 
 denominator-above : (rule d t : ℕ) → 0 < ruleOf rule d t .denominator
 denominator-above rule d t = by (rule =? 0)

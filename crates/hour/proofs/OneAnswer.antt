@@ -3,9 +3,9 @@ use mathlib.Core.Bool.{Bool, true, false, not}
 use mathlib.Core.Path.{_≡_, refl}
 use Prim.Native.Nat.{ℕ, _<_}
 use native.Mathlib.Omega.{arith}
-use Rattle.basis.specs.Choice.{if_then_else_, _<?_}
-use Rattle.basis.specs.Limits.{isMoment, isDUT, circle}
-use Rattle.basis.proofs.OneAnswer.{OneAnswer, one-answer}
+use Rattle.base.specs.Choice.{if_then_else_, _<?_}
+use Rattle.base.specs.Limits.{isMoment, isDUT, circle}
+use Rattle.base.proofs.OneAnswer.{OneAnswer, one-answer}
 use Rattle.hour.specs.declared.HourAnswer.the-variants.{Parts, Refused}
 use Rattle.hour.specs.Hour.{utDay, utTime, isRule, siderealAngle, hourAnswer, siderealAnswer}
 use Rattle.hour.proofs.BothRules.{angle-below}

@@ -1,11 +1,11 @@
 -- Document 01, "Time" and "Hour angle", and document 02, R-9: UT, the two rules, each one exact fraction, and the answer with its refusals.
 use mathlib.Core.Bool.{Bool, not}
 use Prim.Native.Nat.{ℕ, _-_, _/_, _%_}
-use Rattle.basis.specs.Choice.{if_then_else_, _<?_, _≤?_, _=?_}
-use Rattle.basis.specs.Limits.{isMoment, isDUT, dayLength}
-use Rattle.rounding.specs.Fraction.{Fraction, intoCircle}
-use Rattle.oldrule.specs.DocumentOne.{documentOne}
-use Rattle.rule1982.specs.Sidereal.{sidereal1982}
+use Rattle.base.specs.Choice.{if_then_else_, _<?_, _≤?_, _=?_}
+use Rattle.base.specs.Limits.{isMoment, isDUT, dayLength}
+use Rattle.hour_rounding.specs.Fraction.{Fraction, intoCircle}
+use Rattle.hour_old.specs.DocumentOne.{documentOne}
+use Rattle.hour_1982.specs.Sidereal.{sidereal1982}
 use Rattle.hour.specs.declared.HourAnswer.{HourAnswer}
 use Rattle.hour.specs.declared.HourAnswer.the-variants.{Parts, Refused}
 

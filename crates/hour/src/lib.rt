@@ -2,7 +2,7 @@
 
 ghost use mathlib.Core.Path.{_≡_};
 ghost use Prim.Native.Nat.{_<_, _≤_};
-ghost use Rattle.basis.specs.Limits.{dayLength, lastDay};
+ghost use Rattle.base.specs.Limits.{dayLength, lastDay};
 ghost use Rattle.hour.specs.Hour.{hourAnswer, siderealAngle, siderealAnswer};
 
 // Rule 0 is document 01's, rule 1 that of 1982.
@@ -19,27 +19,27 @@ fn angle_by(rule: u64, d: u64, t: u64) -> u64
     ensures { λ r. ⌜ r ≡ siderealAngle rule d t ⌝ }
 {
     if rule == 0 {
-        return oldrule::known::angle(d, t);
+        return hour_old::inner::angle(d, t);
     }
-    rule1982::known::angle_1982(d, t)
+    hour_1982::inner::angle_1982(d, t)
 }
 
 pub fn sidereal(rule: u64, moment: u64, dut: u32) -> HourAnswer
     ensures { λ r. ⌜ r ≡ siderealAnswer rule moment dut ⌝ }
 {
-    if basis::LONGEST_DUT < dut {
+    if base::LONGEST_DUT < dut {
         return HourAnswer::Refused(4);
     }
     if LAST_RULE < rule {
         return HourAnswer::Refused(4);
     }
-    if basis::END_OF_TIME <= moment {
+    if base::END_OF_TIME <= moment {
         return HourAnswer::Refused(3);
     }
     let lag = dut as u64;
     if lag <= moment {
         let ut = moment - lag;
-        return HourAnswer::Parts(angle_by(rule, ut / basis::DAY_LENGTH, ut % basis::DAY_LENGTH));
+        return HourAnswer::Parts(angle_by(rule, ut / base::DAY_LENGTH, ut % base::DAY_LENGTH));
     }
     HourAnswer::Refused(3)
 }

@@ -4,14 +4,14 @@ use Prim.Native.Nat.{ℕ, _+_, _-_, _*_, _/_, _%_, _^_, _≤_, _<_}
 use lib.IntN.{ℤ, pos, _+ℤ_, _-ℤ_, _*ℤ_}
 use native.Mathlib.Nat.{div-add-mod', mul-le-mul, mod-lt, add-assoc}
 use native.Mathlib.Omega.{arith}
-use Rattle.basis.specs.Limits.{circle}
-use Rattle.rule1982.specs.declared.Spans.{Spans}
-use Rattle.rule1982.specs.declared.DaySpans.{DaySpans}
+use Rattle.base.specs.Limits.{circle}
+use Rattle.hour_1982.specs.declared.Spans.{Spans}
+use Rattle.hour_1982.specs.declared.DaySpans.{DaySpans}
 use Rattle.rule1982.specs.Century.{Spelled, Digits, RateSpelled, DaySpelled, spelled, daySpelled, rateFrom, secondsFrom}
-use Rattle.rule1982.specs.Sidereal.{span, centuries, secondsOf, rateOf, secondsSum, sidereal1982}
-use Rattle.rounding.specs.Fraction.{intoCircle}
-use Rattle.rounding.proofs.Less.{Less, less-pos, less-add, less-minus, less-mul, less-as}
-use Rattle.rounding.proofs.Rounding.{carried, circles-added}
+use Rattle.hour_1982.specs.Sidereal.{span, centuries, secondsOf, rateOf, secondsSum, sidereal1982}
+use Rattle.hour_rounding.specs.Fraction.{intoCircle}
+use Rattle.hour_rounding.proofs.Less.{Less, less-pos, less-add, less-minus, less-mul, less-as}
+use Rattle.hour_rounding.proofs.Rounding.{carried, circles-added}
 
 -- T is s/span - 1
 less-centuries : (d : ℕ) → Less (centuries d) (2 * d + 36_525) span

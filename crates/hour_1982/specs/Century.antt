@@ -2,9 +2,9 @@
 -- on, so that nothing is negative; a number's fraction stands in digits of base span.
 use mathlib.Core.Path.{_≡_}
 use Prim.Native.Nat.{ℕ, _+_, _-_, _*_, _^_, _≤_, _<_}
-use Rattle.rule1982.specs.Sidereal.{span}
-use Rattle.rule1982.specs.declared.Spans.{Spans}
-use Rattle.rule1982.specs.declared.DaySpans.{DaySpans}
+use Rattle.hour_1982.specs.Sidereal.{span}
+use Rattle.hour_1982.specs.declared.Spans.{Spans}
+use Rattle.hour_1982.specs.declared.DaySpans.{DaySpans}
 
 -- whole + first/span + second/span², over span²
 abbrev pub spelled : Spans → ℕ

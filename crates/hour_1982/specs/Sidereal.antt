@@ -2,7 +2,7 @@
 -- Its decimals stand as they are printed, with _ for the point: 24110_54841 is 24110.54841 in units of its last place.
 use Prim.Native.Nat.{ℕ, _*_, _^_}
 use lib.IntN.{ℤ, pos, _+ℤ_, _-ℤ_, _*ℤ_}
-use Rattle.rounding.specs.Fraction.{Fraction}
+use Rattle.hour_rounding.specs.Fraction.{Fraction}
 
 -- "T = (2d - 36,525)/73,050": its two whole numbers, the first "negative before 2000"
 abbrev pub centuries : ℕ → ℤ

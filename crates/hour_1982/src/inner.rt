@@ -3,13 +3,13 @@
 
 use crate::DaySpans;
 use crate::Spans;
-use basis::CIRCLE;
+use base::CIRCLE;
 ghost use mathlib.Core.Path.{_≡_};
 ghost use Prim.Native.Nat.{_+_, _*_, _<_, _≤_};
-ghost use Rattle.basis.specs.Limits.{dayLength, lastDay};
-ghost use Rattle.rule1982.specs.Century.{Spelled, RateSpelled, DaySpelled};
-ghost use Rattle.rounding.specs.Fraction.{intoCircle};
-ghost use Rattle.rule1982.specs.Sidereal.{sidereal1982};
+ghost use Rattle.base.specs.Limits.{dayLength, lastDay};
+ghost use Rattle.hour_1982.specs.Century.{Spelled, RateSpelled, DaySpelled};
+ghost use Rattle.hour_rounding.specs.Fraction.{intoCircle};
+ghost use Rattle.hour_1982.specs.Sidereal.{sidereal1982};
 
 const SPAN: u64 = 73_050;
 

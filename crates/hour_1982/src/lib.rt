@@ -1,6 +1,6 @@
 // The rule of 1982 for the hour angle, as one fraction rounded down once.
 
-pub mod known;
+pub mod inner;
 
 // whole + first/73,050 + second/73,050²
 struct Spans {

@@ -3,9 +3,9 @@ use mathlib.Core.Path.{_≡_, ap, _∙_}
 use Prim.Native.Nat.{ℕ, _+_, _*_, _/_, _%_, _<_}
 use native.Mathlib.Nat.{mod-lt, div-lt-iff-lt-mul}
 use native.Mathlib.Omega.{arith}
-use Rattle.oldrule.specs.declared.Division.{Division}
-use Rattle.oldrule.specs.Division.{division, Room, ThreeDigitsOn}
-use Rattle.rounding.proofs.Rounding.{quotient-on, rest-on}
+use Rattle.hour_old.specs.declared.Division.{Division}
+use Rattle.hour_old.specs.Division.{division, Room, ThreeDigitsOn}
+use Rattle.hour_rounding.proofs.Rounding.{quotient-on, rest-on}
 
 pub quotient-below : {n d : ℕ} (bound : ℕ) → 0 < d → n < bound * d → n / d < bound
 quotient-below bound h below = div-lt-iff-lt-mul h .1 below

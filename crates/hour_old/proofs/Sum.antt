@@ -3,13 +3,13 @@ use mathlib.Core.Path.{_≡_, ap, _∙_, sym}
 use Prim.Native.Nat.{ℕ, _+_, _*_, _/_, _%_, _^_, _≤_, _<_}
 use native.Mathlib.Nat.{mul-le-mul}
 use native.Mathlib.Omega.{arith}
-use Rattle.oldrule.specs.Division.{division}
-use Rattle.oldrule.specs.declared.Division.{Division}
-use Rattle.basis.specs.Limits.{dayLength, lastDay, circle}
-use Rattle.rounding.specs.Fraction.{intoCircle}
-use Rattle.oldrule.specs.DocumentOne.{slowing, denominator, documentOne}
-use Rattle.rounding.proofs.Rounding.{rounded-once}
-use Rattle.oldrule.proofs.LongDivision.{started, quotient-below}
+use Rattle.hour_old.specs.Division.{division}
+use Rattle.hour_old.specs.declared.Division.{Division}
+use Rattle.base.specs.Limits.{dayLength, lastDay, circle}
+use Rattle.hour_rounding.specs.Fraction.{intoCircle}
+use Rattle.hour_old.specs.DocumentOne.{slowing, denominator, documentOne}
+use Rattle.hour_rounding.proofs.Rounding.{rounded-once}
+use Rattle.hour_old.proofs.LongDivision.{started, quotient-below}
 
 abbrev fourth : ℕ → ℕ
 fourth t = 417_807_417 * 10 ^ 11 * t

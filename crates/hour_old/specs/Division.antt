@@ -1,8 +1,8 @@
 -- Long division three digits at a time, for dividends beyond 64 bits: what the private functions promise.
 use mathlib.Core.Path.{_≡_}
 use Prim.Native.Nat.{ℕ, _+_, _*_, _/_, _%_, _≤_, _<_}
-use Rattle.basis.specs.Limits.{dayLength}
-use Rattle.oldrule.specs.declared.Division.{Division}
+use Rattle.base.specs.Limits.{dayLength}
+use Rattle.hour_old.specs.declared.Division.{Division}
 
 abbrev pub division : ℕ → ℕ → Division
 division dividend divisor = record { quotient = dividend / divisor; rest = dividend % divisor }

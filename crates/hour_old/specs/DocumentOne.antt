@@ -1,7 +1,7 @@
 -- Document 01, "Hour angle": the four terms as one exact fraction.
 use Prim.Native.Nat.{ℕ, _+_, _*_, _^_}
 use lib.IntN.{pos}
-use Rattle.rounding.specs.Fraction.{Fraction}
+use Rattle.hour_rounding.specs.Fraction.{Fraction}
 
 -- document 01's rule, of d whole days and t milliseconds of UT: what the fourth term is divided by
 abbrev pub slowing : ℕ → ℕ

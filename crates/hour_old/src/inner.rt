@@ -1,13 +1,13 @@
 // Document 01's sum within 64 bits, by long division three digits at a time.
 
 use crate::Division;
-use basis::CIRCLE;
+use base::CIRCLE;
 ghost use mathlib.Core.Path.{_≡_};
 ghost use Prim.Native.Nat.{_*_, _/_, _<_, _≤_, _^_};
-ghost use Rattle.basis.specs.Limits.{dayLength, lastDay};
-ghost use Rattle.rounding.specs.Fraction.{intoCircle};
-ghost use Rattle.oldrule.specs.Division.{division, Room, ThreeDigitsOn, TurnRoom};
-ghost use Rattle.oldrule.specs.DocumentOne.{documentOne};
+ghost use Rattle.base.specs.Limits.{dayLength, lastDay};
+ghost use Rattle.hour_rounding.specs.Fraction.{intoCircle};
+ghost use Rattle.hour_old.specs.Division.{division, Room, ThreeDigitsOn, TurnRoom};
+ghost use Rattle.hour_old.specs.DocumentOne.{documentOne};
 
 fn divide(dividend: u64, divisor: u64) -> Division
     requires { ⌜ 0 < divisor ⌝ }

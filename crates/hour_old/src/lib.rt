@@ -1,6 +1,6 @@
 // Document 01's rule for the hour angle, as one fraction rounded down once.
 
-pub mod known;
+pub mod inner;
 
 struct Division {
     quotient: u64,

@@ -5,9 +5,9 @@ use Prim.Native.Nat.{ℕ, suc, _+_, _-_, _*_, _/_, _%_, _≤_, _<_}
 use lib.IntN.{ℤ, pos, negsuc, _+ℤ_, _*ℤ_}
 use native.Mathlib.Nat.{div-add-mod', mul-add-div-right, mul-add-mod-self-right, add-mul-div-right, add-mul-mod-self-right, mod-eq-of-lt, div-eq-of-lt-le, div-lt-iff-lt-mul, div-div-eq-div-mul, mod-lt, mul-comm}
 use native.Mathlib.Omega.{arith}
-use Rattle.basis.specs.Limits.{circle}
-use Rattle.rounding.specs.Fraction.{Fraction, floor, rest, intoCircle}
-use Rattle.rounding.proofs.Less.{Less, less-pos, less-add, less-mul, less-as, less-one}
+use Rattle.base.specs.Limits.{circle}
+use Rattle.hour_rounding.specs.Fraction.{Fraction, floor, rest, intoCircle}
+use Rattle.hour_rounding.proofs.Less.{Less, less-pos, less-add, less-mul, less-as, less-one}
 
 rest-below : (z : ℤ) (m : ℕ) → 0 < m → rest z m < m
 rest-below (pos n) m h = mod-lt n h

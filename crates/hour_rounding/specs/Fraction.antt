@@ -1,7 +1,7 @@
 -- An exact value as one fraction of whole numbers, "rounded down once and brought into one circle". Both rules of the hour angle end here.
 use Prim.Native.Nat.{ℕ, _-_, _/_, _%_}
 use lib.IntN.{ℤ, pos, negsuc}
-use Rattle.basis.specs.Limits.{circle}
+use Rattle.base.specs.Limits.{circle}
 
 -- numerator over denominator, which is above 0
 pub record Fraction : Type 0 where

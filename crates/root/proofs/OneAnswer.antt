@@ -1,6 +1,6 @@
 -- Any two results that the promise of `root` allows are equal. Assumes nothing.
 use mathlib.Core.Path.{refl}
-use Rattle.basis.proofs.OneAnswer.{OneAnswer, one-answer}
+use Rattle.base.proofs.OneAnswer.{OneAnswer, one-answer}
 use Rattle.root.specs.Root.{rootAnswer}
 use Rattle.root.proofs.root as root
 

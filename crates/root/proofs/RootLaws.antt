@@ -14,9 +14,9 @@ use lib.Ieee.Fits.{down-pos, odd-fits, nan-fits}
 use lib.Ieee.Exact.{odd-sign}
 use lib.Ieee.Positive.{positive}
 use Rattle.root.specs.Root.{NearestRoot, IsRoot, nearestRoot, rootOfUnits, positiveRoot, rootOf}
-use Rattle.wholeroot.proofs.WholeRoots.{nearest-unique, nearestRoot-is}
-use Rattle.wholeroot.proofs.Powers.{four-pow, four-pos}
-use Rattle.apart.proofs.Values.{value-unique, value-cross, Fitting, fits-says}
+use Rattle.root_digits.proofs.WholeRoots.{nearest-unique, nearestRoot-is}
+use Rattle.root_digits.proofs.Powers.{four-pow, four-pos}
+use Rattle.root_split.proofs.Values.{value-unique, value-cross, Fitting, fits-says}
 
 -- ---- uniqueness
 

@@ -9,10 +9,10 @@ use lib.IntN.{ℤ}
 use lib.Ieee.{Float, nan, inf, fin, Format, binary64, up, down, size, odd, add, mul, lt, ofBits, low}
 use lib.Ieee.Scale.{finite}
 use borrow.Author.Tests.{le-ltb}
-use Rattle.basis.proofs.Clear.{clear, odd-clear, round-clear}
+use Rattle.base.proofs.Clear.{clear, odd-clear, round-clear}
 use Rattle.root.specs.declared.RootAnswer.the-variants.{Value, Refused}
 use Rattle.root.specs.Root.{nearestRoot, rootOfUnits, positiveRoot, rootOf, negative, rootAnswer}
-use Rattle.apart.proofs.Tests.{number-below}
+use Rattle.root_split.proofs.Tests.{number-below}
 
 pub clear-not-negative : (x : Float) → T (clear x) → negative x ≡ false
 unfolding lt ofBits

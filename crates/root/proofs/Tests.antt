@@ -5,7 +5,7 @@ use Prim.Native.Nat.{ℕ, zero, suc, _+_, _*_, _<_}
 use native.Mathlib.Omega.{arith}
 use lib.Ieee.{Float, nan, inf, fin, binary64, up, down, ofBits, lt, sub}
 use borrow.Author.Tests.{ltb-true}
-use Rattle.apart.proofs.Tests.{null, top, number-above, number-below}
+use Rattle.root_split.proofs.Tests.{null, top, number-above, number-below}
 use Rattle.root.specs.Root.{rootOf}
 
 pub root-infinity : (x : Float) → lt null x ≡ true → lt x top ≡ false → top ≡ rootOf x

@@ -7,8 +7,8 @@ use lib.IntN.{ℤ}
 use lib.Ieee.{Float, nan, inf, fin, binary64, low, up, down, size, odd, lt, ofBits}
 use lib.Ieee.Scale.{finite}
 use lib.Ieee.Exact.{HasValue}
-use Rattle.basis.specs.Choice.{if_then_else_}
-pub use Rattle.wholeroot.specs.Nearest.{NearestRoot}
+use Rattle.base.specs.Choice.{if_then_else_}
+pub use Rattle.root_digits.specs.Nearest.{NearestRoot}
 unfoldable pub use Rattle.wholeroot.specs.Nearest.{wholeRoot, nearestRoot}
 use Rattle.root.specs.declared.TwoRoots.{TwoRoots}
 use Rattle.root.specs.declared.ThreeRoots.{ThreeRoots}

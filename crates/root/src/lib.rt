@@ -1,6 +1,6 @@
 // The square root of a float, by additions, shifts and comparisons of whole numbers.
 
-pub mod known;
+pub mod inner;
 mod parts;
 
 ghost use mathlib.Core.Path.{_≡_};
@@ -26,11 +26,11 @@ pub struct ThreeRoots {
 pub fn root(x: f64) -> RootAnswer
     ensures { λ r. ⌜ r ≡ rootAnswer x ⌝ }
 {
-    if basis::is_finite(x) {
+    if base::is_finite(x) {
         if x < 0.0 {
             return RootAnswer::Refused(11);
         }
-        return RootAnswer::Value(known::square_root(x));
+        return RootAnswer::Value(inner::square_root(x));
     }
     RootAnswer::Refused(11)
 }

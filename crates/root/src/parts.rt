@@ -1,10 +1,10 @@
 // The root put together from a float's parts and its digits' root.
 
-use apart::Parts;
+use root_split::Parts;
 ghost use mathlib.Core.Path.{_≡_};
 ghost use Prim.Native.Nat.{_*_, _^_};
-ghost use Rattle.wholeroot.specs.Nearest.{nearestRoot};
-ghost use Rattle.apart.specs.Parts.{Opened};
+ghost use Rattle.root_digits.specs.Nearest.{nearestRoot};
+ghost use Rattle.root_split.specs.Parts.{Opened};
 ghost use Rattle.root.specs.Root.{rootOf};
 
 // The root of x, of which q is the digits' root. A zero and a NaN are their own roots.

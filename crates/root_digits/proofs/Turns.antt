@@ -3,9 +3,9 @@ use mathlib.Core.Path.{_≡_, _∙_, subst}
 use Prim.Native.Nat.{ℕ, zero, suc, _*_, _/_, _%_, _^_, _≤_, _<_}
 use native.Mathlib.Nat.{pow-succ'}
 use native.Mathlib.Omega.{arith}
-use Rattle.wholeroot.specs.Digits.{LaneOf, Turning, Turned, EndsAt}
-use Rattle.wholeroot.specs.Nearest.{nearestRoot}
-use Rattle.wholeroot.proofs.Powers.{four-pos}
+use Rattle.root_digits.specs.Digits.{LaneOf, Turning, Turned, EndsAt}
+use Rattle.root_digits.specs.Nearest.{nearestRoot}
+use Rattle.root_digits.proofs.Powers.{four-pos}
 
 abbrev pub Weight : ℕ → Type 0
 Weight g = (i : ℕ) × (g ≡ 4 ^ i)

@@ -7,8 +7,8 @@ use native.Mathlib.Numerals.{add-one}
 use native.Mathlib.Omega.{arith}
 use lib.Dec.{leb, ltb}
 use borrow.Author.Tests.{leb-true, leb-false, ltb-true, ltb-false, lt-ltb, le-ltb}
-use Rattle.basis.specs.Choice.{if_then_else_}
-use Rattle.wholeroot.specs.Nearest.{NearestRoot, wholeRoot, nearestRoot}
+use Rattle.base.specs.Choice.{if_then_else_}
+use Rattle.root_digits.specs.Nearest.{NearestRoot, wholeRoot, nearestRoot}
 
 square-next : (r : ℕ) → (r + 1) * (r + 1) ≡ r * r + 2 * r + 1
 square-next r = simp (add-mul, mul-add, one-mul, mul-one) (omega arith)

@@ -1,7 +1,7 @@
 -- What a lane of the digit loop holds. A lane finds the whole root of n by its binary digits, from the highest down.
 use mathlib.Core.Path.{_≡_}
 use Prim.Native.Nat.{ℕ, _+_, _*_, _/_, _%_, _^_, _≤_, _<_}
-use Rattle.wholeroot.specs.Nearest.{nearestRoot}
+use Rattle.root_digits.specs.Nearest.{nearestRoot}
 
 -- The digits of weight g and above are found: they make q, and n is q² and w·g more, too little for another g in q. The code holds v = 2w and t = 4q + g.
 pub record LaneOf (n g v t : ℕ) : Type 0 where

@@ -1,7 +1,7 @@
 -- The whole number nearest a square root, "over whole numbers, by comparing squares".
 use mathlib.Core.Path.{_≡_}
 use Prim.Native.Nat.{ℕ, zero, suc, _+_, _-_, _*_, _/_, _%_, _≤_}
-use Rattle.basis.specs.Choice.{if_then_else_, _<?_, _≤?_}
+use Rattle.base.specs.Choice.{if_then_else_, _<?_, _≤?_}
 
 -- q is the whole number nearest √n: √n lies from q - 1/2 to q + 1/2, where 2q - 1 and 2q + 1 are compared with 2√n by their squares.
 -- A tie goes to the even q. None ever comes, since these squares are odd and 4n is not.

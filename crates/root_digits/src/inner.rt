@@ -6,8 +6,8 @@ use crate::ThreeNumbers;
 use crate::TwoNumbers;
 ghost use mathlib.Core.Path.{_≡_};
 ghost use Prim.Native.Nat.{_*_, _^_, _≤_, _<_};
-ghost use Rattle.wholeroot.specs.Nearest.{nearestRoot};
-ghost use Rattle.wholeroot.specs.Digits.{LaneOf, Turning, TurnsTo, Turned, EndsAt};
+ghost use Rattle.root_digits.specs.Nearest.{nearestRoot};
+ghost use Rattle.root_digits.specs.Digits.{LaneOf, Turning, TurnsTo, Turned, EndsAt};
 
 // The lane with the digit of weight g / 2 found. The digit is set where the difference does not wrap;
 // asked by its sign, the compiler makes no branch of it.

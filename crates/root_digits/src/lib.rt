@@ -1,6 +1,6 @@
 // The whole number nearest a square root, found digit by digit.
 
-pub mod known;
+pub mod inner;
 
 // 2^52, the weight of the first of 53 digits.
 pub const LEADING: u64 = 0x10_0000_0000_0000;

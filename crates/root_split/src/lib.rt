@@ -1,9 +1,9 @@
 // A float taken apart for its root: its digits, and half its exponent.
 
-use wholeroot::LEADING;
+use root_digits::LEADING;
 ghost use mathlib.Core.Path.{_≡_};
 ghost use Prim.Native.Nat.{_+_, _*_, _^_, _≤_, _<_};
-ghost use Rattle.apart.specs.Parts.{Split, Room, Raised, Opened};
+ghost use Rattle.root_split.specs.Parts.{Split, Room, Raised, Opened};
 
 pub struct Parts {
     pub m: u64,

@@ -11,10 +11,10 @@ use lib.Pow.{pow-pos}
 use lib.Ieee.{Float, nan, inf, fin, binary64, down, div, ofInt, round}
 use lib.Ieee.Scale.{finite}
 use lib.Ieee.Exact.{HasValue}
-use Rattle.basis.specs.Limits.{circle}
-use Rattle.basis.specs.Choice.{if_then_else_, _<?_}
-use Rattle.basis.specs.Floats.{_⊗_, _⊘_, whole}
-use Rattle.basis.proofs.Bounds.{Within, Held, power-held, within-finite, round-within, neg-within, mul-within, add-within, div-within}
+use Rattle.base.specs.Limits.{circle}
+use Rattle.base.specs.Choice.{if_then_else_, _<?_}
+use Rattle.base.specs.Floats.{_⊗_, _⊘_, whole}
+use Rattle.base.proofs.Bounds.{Within, Held, power-held, within-finite, round-within, neg-within, mul-within, add-within, div-within}
 use Rattle.sine.specs.declared.SineCosine.{SineCosine}
 use Rattle.sine.specs.declared.SineCosineAnswer.{SineCosineAnswer}
 use Rattle.sine.specs.declared.SineCosineAnswer.the-variants.{Both, Refused}

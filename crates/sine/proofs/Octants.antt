@@ -2,7 +2,7 @@
 use mathlib.Core.Bool.{Bool, true, false}
 use Prim.Native.Nat.{ℕ, _≤_, _<_, _%_, _-_}
 use native.Mathlib.Omega.{arith}
-use Rattle.basis.specs.Choice.{if_then_else_, _=?_}
+use Rattle.base.specs.Choice.{if_then_else_, _=?_}
 use Rattle.sine.specs.Sine.{octant, within}
 
 pub within-le : (q r : ℕ) → r < octant → within q r ≤ octant

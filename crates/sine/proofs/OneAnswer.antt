@@ -1,6 +1,6 @@
 -- Any two results that the promise of `sine_cosine` allows are equal. Assumes nothing.
 use mathlib.Core.Path.{refl}
-use Rattle.basis.proofs.OneAnswer.{OneAnswer, one-answer}
+use Rattle.base.proofs.OneAnswer.{OneAnswer, one-answer}
 use Rattle.sine.specs.Sine.{sineCosineAnswer}
 use Rattle.sine.proofs.sine_cosine as sine-cosine
 

@@ -4,9 +4,9 @@ use Prim.Native.Nat.{ℕ, zero, suc, _-_, _*_, _/_, _%_}
 use lib.ListN.{getD}
 use lib.IntN.{pos, negsuc}
 use lib.Ieee.{Float, binary64, neg, ofInt}
-use Rattle.basis.specs.Limits.{circle}
-use Rattle.basis.specs.Floats.{_⊕_, _⊗_, _⊘_, whole, decimal}
-use Rattle.basis.specs.Choice.{if_then_else_, _<?_, _=?_}
+use Rattle.base.specs.Limits.{circle}
+use Rattle.base.specs.Floats.{_⊕_, _⊗_, _⊘_, whole, decimal}
+use Rattle.base.specs.Choice.{if_then_else_, _<?_, _=?_}
 use Rattle.sine.specs.declared.SineCosine.{SineCosine}
 use Rattle.sine.specs.declared.SineCosineAnswer.{SineCosineAnswer}
 use Rattle.sine.specs.declared.SineCosineAnswer.the-variants.{Both, Refused}

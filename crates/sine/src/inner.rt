@@ -3,7 +3,7 @@
 use crate::SineCosine;
 ghost use mathlib.Core.Path.{_≡_};
 ghost use Prim.Native.Nat.{_≤_, _<_};
-ghost use Rattle.basis.specs.Limits.{circle};
+ghost use Rattle.base.specs.Limits.{circle};
 ghost use Rattle.sine.specs.Sine.{within, angle, S, C, column, sineCosine};
 
 const OCTANT: u64 = 450_000_000_000;

@@ -1,8 +1,8 @@
 // Sine and cosine of an angle in parts of 10^-10 degree, by octants and two polynomials.
 
-pub mod known;
+pub mod inner;
 
-use basis::CIRCLE;
+use base::CIRCLE;
 ghost use mathlib.Core.Path.{_≡_};
 ghost use Rattle.sine.specs.Sine.{sineCosineAnswer};
 
@@ -20,7 +20,7 @@ pub fn sine_cosine(parts: u64) -> SineCosineAnswer
     ensures { λ r. ⌜ r ≡ sineCosineAnswer parts ⌝ }
 {
     if parts < CIRCLE {
-        return SineCosineAnswer::Both(known::of_parts(parts));
+        return SineCosineAnswer::Both(inner::of_parts(parts));
     }
     SineCosineAnswer::Refused(12)
 }

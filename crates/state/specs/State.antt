@@ -3,11 +3,11 @@ use mathlib.Core.Bool.{Bool, _&&_}
 use lib.Ieee.{Float}
 use lib.Ieee.Scale.{finite}
 use Prim.Native.Nat.{ℕ}
-use Rattle.basis.specs.Choice.{if_then_else_, _=?_}
-use Rattle.basis.specs.Floats.{_⊕_, _⊗_, zero64}
-use Rattle.basis.specs.Limits.{isDUT}
+use Rattle.base.specs.Choice.{if_then_else_, _=?_}
+use Rattle.base.specs.Floats.{_⊕_, _⊗_, zero64}
+use Rattle.base.specs.Limits.{isDUT}
 use Rattle.hour.specs.Hour.{isRule}
-pub use Rattle.allowed.specs.Allowed.{sameBits, used, coefficientAllowed, earthAllowed, isBody, lookedUp}
+pub use Rattle.state_tests.specs.Allowed.{sameBits, used, coefficientAllowed, earthAllowed, isBody, lookedUp}
 use Rattle.state.specs.declared.Vector.{Vector}
 use Rattle.state.specs.declared.State.{State}
 use Rattle.state.specs.declared.Injection.{Injection}

@@ -1,10 +1,10 @@
 // A spacecraft's state, the setting it moves under, and the tests that both have to pass.
 
-use allowed::bits_agree;
-use allowed::coefficient_is_allowed;
-use allowed::earth_is_allowed;
-pub use allowed::is_body;
-pub use allowed::is_looked_up;
+use state_tests::bits_agree;
+use state_tests::coefficient_is_allowed;
+use state_tests::earth_is_allowed;
+pub use state_tests::is_body;
+pub use state_tests::is_looked_up;
 ghost use mathlib.Core.Path.{_≡_};
 ghost use Rattle.state.specs.State.{position, velocity, acceleration, startingPosition, carrying, sameVector, n, finiteVector, finiteState, finiteInjection, coefficientsAllowed, termsAllowed, settingAllowed, coefficientOf, centreAllowed, used};
 
@@ -139,9 +139,9 @@ pub fn square(v: Vector) -> f64
 pub fn vector_is_finite(v: Vector) -> bool
     ensures { λ r. ⌜ r ≡ finiteVector v ⌝ }
 {
-    if basis::is_finite(v.x) {
-        if basis::is_finite(v.y) {
-            return basis::is_finite(v.z);
+    if base::is_finite(v.x) {
+        if base::is_finite(v.y) {
+            return base::is_finite(v.z);
         }
     }
     false
@@ -208,7 +208,7 @@ pub fn setting_is_allowed(s: Setting) -> bool
 {
     if coefficients_are_allowed(s) {
         if terms_are_allowed(s) {
-            if s.dut <= basis::LONGEST_DUT {
+            if s.dut <= base::LONGEST_DUT {
                 return s.rule <= hour::LAST_RULE;
             }
         }

@@ -3,8 +3,8 @@ use mathlib.Core.Bool.{Bool, not, _&&_, _||_}
 use lib.Ieee.{Float, binary64, toBits}
 use lib.Ieee.Scale.{finite}
 use Prim.Native.Nat.{ℕ}
-use Rattle.basis.specs.Choice.{_=?_, _≤?_}
-use Rattle.basis.specs.Floats.{above0, below0}
+use Rattle.base.specs.Choice.{_=?_, _≤?_}
+use Rattle.base.specs.Floats.{above0, below0}
 
 -- "by its bits": +0.0 is not -0.0, and what is not finite is nobody's
 abbrev pub sameBits : Float → Float → Bool

@@ -2,13 +2,13 @@
 // whether it is looked up.
 
 ghost use mathlib.Core.Path.{_≡_};
-ghost use Rattle.allowed.specs.Allowed.{sameBits, coefficientAllowed, earthAllowed, isBody, lookedUp};
+ghost use Rattle.state_tests.specs.Allowed.{sameBits, coefficientAllowed, earthAllowed, isBody, lookedUp};
 
 pub fn bits_agree(x: f64, y: f64) -> bool
     ensures { λ r. ⌜ r ≡ sameBits x y ⌝ }
 {
-    if basis::is_finite(x) {
-        if basis::is_finite(y) {
+    if base::is_finite(x) {
+        if base::is_finite(y) {
             return f64::to_bits(x) == f64::to_bits(y);
         }
     }
@@ -22,14 +22,14 @@ pub fn coefficient_is_allowed(m: f64) -> bool
     if m < 0.0 {
         return false;
     }
-    basis::is_finite(m)
+    base::is_finite(m)
 }
 
 pub fn earth_is_allowed(m: f64) -> bool
     ensures { λ r. ⌜ r ≡ earthAllowed m ⌝ }
 {
     if 0.0 < m {
-        return basis::is_finite(m);
+        return base::is_finite(m);
     }
     false
 }

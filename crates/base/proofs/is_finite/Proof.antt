@@ -1,11 +1,11 @@
--- `basis::is_finite` meets its contract: an infinity or a NaN fails one of the two tests against the infinities. Assumes nothing.
+-- `base::is_finite` meets its contract: an infinity or a NaN fails one of the two tests against the infinities. Assumes nothing.
 use mathlib.Core.Bool.{true, false}
 use mathlib.Core.Path.{_≡_, refl, sym}
 use lib.Ieee.{Float, nan, inf, fin, binary64, ofBits, neg, lt, nanBits}
 use lib.Ieee.Scale.{finite}
 use borrow.Author.Needs.{needs}
-use Rattle.basis.proofs.is_finite.Statement.{statement}
-use Rattle.basis.proofs.is_finite.Tie as tie
+use Rattle.base.proofs.is_finite.Statement.{statement}
+use Rattle.base.proofs.is_finite.Tie as tie
 
 below : (x : Float) → lt x (inf false) ≡ true → lt (inf true) x ≡ finite x
 unfolding lt

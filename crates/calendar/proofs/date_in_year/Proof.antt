@@ -2,7 +2,7 @@
 use Prim.Native.Nat.{_-_, _<_}
 use borrow.Author.Needs.{needs}
 use native.Mathlib.Omega.{arith}
-use Rattle.lengths.proofs.Lengths.{year-at-most}
+use Rattle.calendar_lengths.proofs.Lengths.{year-at-most}
 use Rattle.calendar.proofs.MonthSearch.{Reached, start, not-december, onward, reached}
 use Rattle.calendar.proofs.date_in_year.Statement.{statement}
 use Rattle.calendar.proofs.date_in_year.Tie as tie

@@ -1,4 +1,4 @@
--- `apart::opened` meets its contract. Assumes nothing.
+-- `root_split::opened` meets its contract. Assumes nothing.
 use mathlib.Core.Path.{_≡_, refl, sym, ap, _∙_, subst}
 use mathlib.Core.Bool.{true, false, false≢true}
 use Prim.Native.Nat.{ℕ, _+_, _-_, _*_, _/_, _%_, _^_, _≤_, _<_}
@@ -11,13 +11,13 @@ use lib.Ieee.Bits.{ofBits-toBits}
 use lib.Ieee.Exact.{HasValue}
 use lib.Ieee.Positive.{positive}
 use borrow.Author.Needs.{needs}
-use Rattle.apart.specs.Parts.{Split, Opened}
-use Rattle.wholeroot.proofs.Powers.{four-pow}
-use Rattle.apart.proofs.Values.{rescale}
-use Rattle.apart.proofs.Fields.{subnormal-value, normal-value, none-above}
-use Rattle.apart.proofs.Tests.{above-no-nan, above-bits, positive-above}
-use Rattle.apart.proofs.opened.Statement.{statement}
-use Rattle.apart.proofs.opened.Tie as tie
+use Rattle.root_split.specs.Parts.{Split, Opened}
+use Rattle.root_digits.proofs.Powers.{four-pow}
+use Rattle.root_split.proofs.Values.{rescale}
+use Rattle.root_split.proofs.Fields.{subnormal-value, normal-value, none-above}
+use Rattle.root_split.proofs.Tests.{above-no-nan, above-bits, positive-above}
+use Rattle.root_split.proofs.opened.Statement.{statement}
+use Rattle.root_split.proofs.opened.Tie as tie
 
 -- a of the smallest floats, 2^-l, in units of 4^-l
 squared : (x : Float) (k l a m h : ℕ) → k + 52 ≡ l → HasValue x false a (2 ^ l) → m * 4 ^ h ≡ a * 2 ^ k → HasValue x false (m * 2 ^ 52 * 4 ^ h) (4 ^ l)

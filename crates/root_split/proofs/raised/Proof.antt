@@ -1,13 +1,13 @@
--- `apart::raised` meets its contract: below 2^(53 - s) digits go up by s places. Assumes nothing.
+-- `root_split::raised` meets its contract: below 2^(53 - s) digits go up by s places. Assumes nothing.
 use mathlib.Core.Path.{_≡_, refl, sym, ap, _∙_, subst}
 use Prim.Native.Nat.{ℕ, _+_, _-_, _*_, _/_, _%_, _^_, _≤_, _<_}
 use native.Mathlib.Nat.{le-trans, le-of-eq, mul-le-mul-right, mul-assoc, mul-div-cancel}
 use native.Mathlib.Omega.{arith}
 use lib.Pow.{pow-add, pow-pos, pow-mono, shl-lt}
 use borrow.Author.Needs.{needs}
-use Rattle.apart.specs.Parts.{Room, Raised}
-use Rattle.apart.proofs.raised.Statement.{statement}
-use Rattle.apart.proofs.raised.Tie as tie
+use Rattle.root_split.specs.Parts.{Room, Raised}
+use Rattle.root_split.proofs.raised.Statement.{statement}
+use Rattle.root_split.proofs.raised.Tie as tie
 
 shr-if1 : tie.Need-shr-if1
 shr-if1 c = search needs

@@ -1,13 +1,13 @@
--- `apart::split` meets its contract. Assumes nothing.
+-- `root_split::split` meets its contract. Assumes nothing.
 use mathlib.Core.Path.{_≡_, sym, ap, _∙_}
 use Prim.Native.Nat.{ℕ, suc, _+_, _*_, _^_}
 use native.Mathlib.Nat.{add-mul, mul-add, two-pow-succ}
 use native.Mathlib.Omega.{arith}
 use lib.Pow.{pow-add}
 use borrow.Author.Needs.{needs}
-use Rattle.wholeroot.proofs.Powers.{four-pow}
-use Rattle.apart.proofs.split.Statement.{statement}
-use Rattle.apart.proofs.split.Tie as tie
+use Rattle.root_digits.proofs.Powers.{four-pow}
+use Rattle.root_split.proofs.split.Statement.{statement}
+use Rattle.root_split.proofs.split.Tie as tie
 
 even : (d e h : ℕ) → e ≡ h + h → d * 4 ^ h ≡ d * 2 ^ e
 even d e h p = ap (λ (z : ℕ). d * z) (four-pow h ∙ sym (pow-add 2 h h) ∙ ap (λ (z : ℕ). 2 ^ z) (sym p))

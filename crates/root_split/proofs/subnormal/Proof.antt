@@ -2,9 +2,9 @@
 use mathlib.Core.Path.{_≡_, _∙_}
 use Prim.Native.Nat.{ℕ, _*_, _^_}
 use native.Mathlib.Omega.{arith}
-use Rattle.apart.specs.Parts.{Split}
-use Rattle.apart.proofs.subnormal.Statement.{statement}
-use Rattle.apart.proofs.subnormal.Tie as tie
+use Rattle.root_split.specs.Parts.{Split}
+use Rattle.root_split.proofs.subnormal.Statement.{statement}
+use Rattle.root_split.proofs.subnormal.Tie as tie
 use lib.Dec.{lit≤}
 
 -- a subnormal has at least one digit, and none at 2^52

@@ -1,12 +1,12 @@
--- `allowed::bits_agree` meets its contract. Assumes nothing.
+-- `state_tests::bits_agree` meets its contract. Assumes nothing.
 use mathlib.Core.Bool.{true, not, true≢false}
 use mathlib.Core.Path.{_≡_, refl, sym, ap, subst, _∙_}
 use lib.Dec.{T}
 use lib.Ieee.{Float, nan, inf, fin, isNan}
 use lib.Ieee.Scale.{finite}
 use borrow.Author.Needs.{needs}
-use Rattle.allowed.proofs.bits_agree.Statement.{statement}
-use Rattle.allowed.proofs.bits_agree.Tie as tie
+use Rattle.state_tests.proofs.bits_agree.Statement.{statement}
+use Rattle.state_tests.proofs.bits_agree.Tie as tie
 
 number : (x : Float) → finite x ≡ true → T (not (isNan x))
 unfolding isNan

@@ -1,11 +1,11 @@
--- `allowed::coefficient_is_allowed` meets its contract. Assumes nothing.
+-- `state_tests::coefficient_is_allowed` meets its contract. Assumes nothing.
 use mathlib.Core.Bool.{not}
 use mathlib.Core.Path.{sym, ap, _∙_}
 use lib.Ieee.Scale.{finite}
-use Rattle.allowed.proofs.Both.{andTrue, andFalse}
+use Rattle.state_tests.proofs.Both.{andTrue, andFalse}
 use borrow.Author.Needs.{needs}
-use Rattle.allowed.proofs.coefficient_is_allowed.Statement.{statement}
-use Rattle.allowed.proofs.coefficient_is_allowed.Tie as tie
+use Rattle.state_tests.proofs.coefficient_is_allowed.Statement.{statement}
+use Rattle.state_tests.proofs.coefficient_is_allowed.Tie as tie
 
 returns : tie.Need-returns
 returns c = sym (andFalse (finite (c .before .args .m)) _ (ap not (c .if1 .taken)))

@@ -1,10 +1,10 @@
--- `allowed::earth_is_allowed` meets its contract. Assumes nothing.
+-- `state_tests::earth_is_allowed` meets its contract. Assumes nothing.
 use mathlib.Core.Path.{sym, _∙_}
 use lib.Ieee.Scale.{finite}
-use Rattle.allowed.proofs.Both.{andTrue, andFalse}
+use Rattle.state_tests.proofs.Both.{andTrue, andFalse}
 use borrow.Author.Needs.{needs}
-use Rattle.allowed.proofs.earth_is_allowed.Statement.{statement}
-use Rattle.allowed.proofs.earth_is_allowed.Tie as tie
+use Rattle.state_tests.proofs.earth_is_allowed.Statement.{statement}
+use Rattle.state_tests.proofs.earth_is_allowed.Tie as tie
 
 is-finite-requires : tie.Need-is-finite-requires
 is-finite-requires c κs = search needs

@@ -1,7 +1,7 @@
--- `allowed::is_body` meets its contract. Assumes nothing.
+-- `state_tests::is_body` meets its contract. Assumes nothing.
 use borrow.Author.Tests.{le-leb, lt-leb}
-use Rattle.allowed.proofs.is_body.Statement.{statement}
-use Rattle.allowed.proofs.is_body.Tie as tie
+use Rattle.state_tests.proofs.is_body.Statement.{statement}
+use Rattle.state_tests.proofs.is_body.Tie as tie
 
 returns : tie.Need-returns
 returns c = simp (lt-leb _ _ (c .if1 .taken))

@@ -1,6 +1,6 @@
--- `allowed::is_looked_up` meets its contract. Assumes nothing.
-use Rattle.allowed.proofs.is_looked_up.Statement.{statement}
-use Rattle.allowed.proofs.is_looked_up.Tie as tie
+-- `state_tests::is_looked_up` meets its contract. Assumes nothing.
+use Rattle.state_tests.proofs.is_looked_up.Statement.{statement}
+use Rattle.state_tests.proofs.is_looked_up.Tie as tie
 
 returns : tie.Need-returns
 returns c = rw (c .if1 .taken)

@@ -4,7 +4,7 @@ use mathlib.Core.Path.{_≡_, ap, sym, _∙_}
 use Prim.Native.Nat.{_+_, _-_, _≤_}
 use borrow.Author.Needs.{needs}
 use native.Mathlib.Omega.{arith}
-use Rattle.basis.specs.Limits.{lastDay}
+use Rattle.base.specs.Limits.{lastDay}
 use Rattle.calendar.specs.declared.Calendar.{Calendar}
 use Rattle.calendar.specs.declared.DayAnswer.the-variants.{Day}
 use Rattle.calendar.specs.Gregorian.{ymd, daysBeforeMonth, isDate, dayOf}

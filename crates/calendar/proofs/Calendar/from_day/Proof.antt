@@ -5,7 +5,7 @@ use borrow.Author.Needs.{needs}
 use borrow.Author.Tests.{le-leb, lt-leb}
 use native.Mathlib.Omega.{arith}
 use Rattle.calendar.specs.Gregorian.{daysBeforeYear}
-use Rattle.lengths.proofs.Lengths.{InYear, year-of-day}
+use Rattle.calendar_lengths.proofs.Lengths.{InYear, year-of-day}
 use Rattle.calendar.proofs.Calendar.from_day.Statement.{statement}
 use Rattle.calendar.proofs.Calendar.from_day.Tie as tie
 

@@ -1,12 +1,12 @@
--- `lengths::known::days_before_month` meets its contract. The invariant: days are those of the months before m. Assumes nothing.
+-- `calendar_lengths::inner::days_before_month` meets its contract. The invariant: days are those of the months before m. Assumes nothing.
 use mathlib.Core.Path.{_≡_, ap, _∙_}
 use Prim.Native.Nat.{_-_, _≤_}
 use borrow.Author.Needs.{needs}
 use native.Mathlib.Omega.{arith}
-use Rattle.lengths.specs.Lengths.{daysBeforeMonth}
-use Rattle.lengths.proofs.Lengths.{january-starts, next-month, month-ends}
-use Rattle.lengths.proofs.known.days_before_month.Statement.{statement}
-use Rattle.lengths.proofs.known.days_before_month.Tie as tie
+use Rattle.calendar_lengths.specs.Lengths.{daysBeforeMonth}
+use Rattle.calendar_lengths.proofs.Lengths.{january-starts, next-month, month-ends}
+use Rattle.calendar_lengths.proofs.inner.days_before_month.Statement.{statement}
+use Rattle.calendar_lengths.proofs.inner.days_before_month.Tie as tie
 
 abbrev Inv-loop : tie.InvT-loop
 Inv-loop leap month days₀ m₀ days m = (1 ≤ m) × (m ≤ month) × (days ≡ daysBeforeMonth leap m)

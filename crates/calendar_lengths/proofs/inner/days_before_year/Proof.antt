@@ -1,11 +1,11 @@
--- `lengths::known::days_before_year` meets its contract: the law of the days of up to a hundred years. Assumes nothing.
+-- `calendar_lengths::inner::days_before_year` meets its contract: the law of the days of up to a hundred years. Assumes nothing.
 use mathlib.Core.Path.{sym}
 use Prim.Native.Nat.{_-_}
 use borrow.Author.Needs.{needs}
 use native.Mathlib.Omega.{arith}
-use Rattle.lengths.proofs.Lengths.{days-of-years}
-use Rattle.lengths.proofs.known.days_before_year.Statement.{statement}
-use Rattle.lengths.proofs.known.days_before_year.Tie as tie
+use Rattle.calendar_lengths.proofs.Lengths.{days-of-years}
+use Rattle.calendar_lengths.proofs.inner.days_before_year.Statement.{statement}
+use Rattle.calendar_lengths.proofs.inner.days_before_year.Tie as tie
 
 sub-years : tie.Need-sub-years
 sub-years c = search needs

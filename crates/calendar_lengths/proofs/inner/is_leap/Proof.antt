@@ -1,7 +1,7 @@
--- `lengths::known::is_leap` meets its contract: the Gregorian rule within 1950 to 2049. Assumes nothing.
-use Rattle.lengths.proofs.Lengths.{leap-here}
-use Rattle.lengths.proofs.known.is_leap.Statement.{statement}
-use Rattle.lengths.proofs.known.is_leap.Tie as tie
+-- `calendar_lengths::inner::is_leap` meets its contract: the Gregorian rule within 1950 to 2049. Assumes nothing.
+use Rattle.calendar_lengths.proofs.Lengths.{leap-here}
+use Rattle.calendar_lengths.proofs.inner.is_leap.Statement.{statement}
+use Rattle.calendar_lengths.proofs.inner.is_leap.Tie as tie
 
 returns : tie.Need-returns
 returns c = leap-here (c .args .year) (c .pre .0) (c .pre .1)

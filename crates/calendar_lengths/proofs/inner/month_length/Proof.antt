@@ -1,7 +1,7 @@
--- `lengths::known::month_length` meets its contract: each table is the definition's list at its kind of year. Assumes nothing.
+-- `calendar_lengths::inner::month_length` meets its contract: each table is the definition's list at its kind of year. Assumes nothing.
 use borrow.Author.Needs.{needs}
-use Rattle.lengths.proofs.known.month_length.Statement.{statement}
-use Rattle.lengths.proofs.known.month_length.Tie as tie
+use Rattle.calendar_lengths.proofs.inner.month_length.Statement.{statement}
+use Rattle.calendar_lengths.proofs.inner.month_length.Tie as tie
 
 sub-i : tie.Need-sub-i
 sub-i c = search needs

@@ -1,11 +1,11 @@
--- `rule1982::known::angle_1982` meets its contract: the carries of `Century` at the code's sums. Assumes nothing.
+-- `hour_1982::inner::angle_1982` meets its contract: the carries of `Century` at the code's sums. Assumes nothing.
 use Prim.Native.Nat.{ℕ, _+_, _*_, _/_, _%_, _^_, _≤_, _<_}
 use borrow.Author.Needs.{needs}
 use native.Mathlib.Nat.{mul-le-mul, mod-lt}
 use native.Mathlib.Omega.{arith}
-use Rattle.rule1982.proofs.Century.{angle-1982-of}
-use Rattle.rule1982.proofs.known.angle_1982.Statement.{statement}
-use Rattle.rule1982.proofs.known.angle_1982.Tie as tie
+use Rattle.hour_1982.proofs.Century.{angle-1982-of}
+use Rattle.hour_1982.proofs.inner.angle_1982.Statement.{statement}
+use Rattle.hour_1982.proofs.inner.angle_1982.Tie as tie
 
 -- t times a digit of base span, and times the two halves of the rate
 digit : {t x : ℕ} → t < 86_400_000 → x < 73_050 → t * x ≤ 6_311_520_000_000

@@ -1,9 +1,9 @@
--- `rule1982::known::rate_in_spans` meets its contract. Assumes nothing.
+-- `hour_1982::inner::rate_in_spans` meets its contract. Assumes nothing.
 use borrow.Author.Needs.{needs}
 use native.Mathlib.Omega.{arith}
-use Rattle.rule1982.proofs.Century.{rate-small, rate-spelled}
-use Rattle.rule1982.proofs.known.rate_in_spans.Statement.{statement}
-use Rattle.rule1982.proofs.known.rate_in_spans.Tie as tie
+use Rattle.hour_1982.proofs.Century.{rate-small, rate-spelled}
+use Rattle.hour_1982.proofs.inner.rate_in_spans.Statement.{statement}
+use Rattle.hour_1982.proofs.inner.rate_in_spans.Tie as tie
 
 mul-in-spans : tie.Need-mul-in-spans
 mul-in-spans c = search needs

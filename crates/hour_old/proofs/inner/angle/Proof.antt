@@ -1,11 +1,11 @@
--- `oldrule::known::angle` meets its contract: the laws of `Sum` at the code's sums. Assumes nothing.
+-- `hour_old::inner::angle` meets its contract: the laws of `Sum` at the code's sums. Assumes nothing.
 use Prim.Native.Nat.{_*_, _≤_, _<_}
 use borrow.Author.Needs.{needs}
 use native.Mathlib.Omega.{arith}
-use Rattle.oldrule.specs.DocumentOne.{slowing}
-use Rattle.oldrule.proofs.Sum.{turned-bounds, fraction-below, square-below, angle-of}
-use Rattle.oldrule.proofs.known.angle.Statement.{statement}
-use Rattle.oldrule.proofs.known.angle.Tie as tie
+use Rattle.hour_old.specs.DocumentOne.{slowing}
+use Rattle.hour_old.proofs.Sum.{turned-bounds, fraction-below, square-below, angle-of}
+use Rattle.hour_old.proofs.inner.angle.Statement.{statement}
+use Rattle.hour_old.proofs.inner.angle.Tie as tie
 
 square : (c : tie.Start) → c .args .d * c .args .d ≤ 1_334_002_576
 square c = square-below (c .args .d) (c .pre .0)

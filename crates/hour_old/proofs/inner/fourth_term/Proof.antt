@@ -1,12 +1,12 @@
--- `oldrule::known::fourth_term` meets its contract: a hundredfold and three times a thousandfold make 10^11. Assumes nothing.
+-- `hour_old::inner::fourth_term` meets its contract: a hundredfold and three times a thousandfold make 10^11. Assumes nothing.
 use mathlib.Core.Path.{ap, _∙_}
 use Prim.Native.Nat.{ℕ}
 use borrow.Author.Needs.{needs}
 use native.Mathlib.Omega.{arith}
-use Rattle.oldrule.specs.Division.{division}
-use Rattle.oldrule.proofs.LongDivision.{started}
-use Rattle.oldrule.proofs.known.fourth_term.Statement.{statement}
-use Rattle.oldrule.proofs.known.fourth_term.Tie as tie
+use Rattle.hour_old.specs.Division.{division}
+use Rattle.hour_old.proofs.LongDivision.{started}
+use Rattle.hour_old.proofs.inner.fourth_term.Statement.{statement}
+use Rattle.hour_old.proofs.inner.fourth_term.Tie as tie
 
 mul-divide : tie.Need-mul-divide
 mul-divide c = search needs

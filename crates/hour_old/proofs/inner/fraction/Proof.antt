@@ -1,12 +1,12 @@
--- `oldrule::known::fraction` meets its contract: a tenfold and twice a thousandfold make 10^7. Assumes nothing.
+-- `hour_old::inner::fraction` meets its contract: a tenfold and twice a thousandfold make 10^7. Assumes nothing.
 use mathlib.Core.Path.{ap, _∙_}
 use Prim.Native.Nat.{ℕ, _/_}
 use borrow.Author.Needs.{needs}
 use native.Mathlib.Omega.{arith}
-use Rattle.oldrule.specs.declared.Division.{Division}
-use Rattle.oldrule.proofs.LongDivision.{started}
-use Rattle.oldrule.proofs.known.fraction.Statement.{statement}
-use Rattle.oldrule.proofs.known.fraction.Tie as tie
+use Rattle.hour_old.specs.declared.Division.{Division}
+use Rattle.hour_old.proofs.LongDivision.{started}
+use Rattle.hour_old.proofs.inner.fraction.Statement.{statement}
+use Rattle.hour_old.proofs.inner.fraction.Tie as tie
 
 mul-divide : tie.Need-mul-divide
 mul-divide c = search needs

@@ -1,9 +1,9 @@
--- `oldrule::known::three_digits_on` meets its contract: a thousandth of the divisor bounds each three digits. Assumes nothing.
+-- `hour_old::inner::three_digits_on` meets its contract: a thousandth of the divisor bounds each three digits. Assumes nothing.
 use borrow.Author.Needs.{needs}
 use native.Mathlib.Omega.{arith}
-use Rattle.oldrule.proofs.LongDivision.{carried-below, three-digits}
-use Rattle.oldrule.proofs.known.three_digits_on.Statement.{statement}
-use Rattle.oldrule.proofs.known.three_digits_on.Tie as tie
+use Rattle.hour_old.proofs.LongDivision.{carried-below, three-digits}
+use Rattle.hour_old.proofs.inner.three_digits_on.Statement.{statement}
+use Rattle.hour_old.proofs.inner.three_digits_on.Tie as tie
 
 mul-carried : tie.Need-mul-carried
 mul-carried c = search needs

@@ -1,7 +1,7 @@
--- `root::known::square_roots` meets its contract: each root as in `square_root`. Assumes nothing.
+-- `root::inner::square_roots` meets its contract: each root as in `square_root`. Assumes nothing.
 use borrow.Author.Needs.{needs}
-use Rattle.root.proofs.known.square_roots.Statement.{statement}
-use Rattle.root.proofs.known.square_roots.Tie as tie
+use Rattle.root.proofs.inner.square_roots.Statement.{statement}
+use Rattle.root.proofs.inner.square_roots.Tie as tie
 
 opened-requires : tie.Need-opened-requires
 opened-requires c κs = search needs

@@ -7,11 +7,11 @@ use lib.Ieee.{Float, binary64, low, ofBits, fits, nanBits}
 use lib.Ieee.Bits.{ofBits-fits}
 use lib.Ieee.Positive.{positive}
 use Rattle.root.specs.Root.{NearestRoot, nearestRoot, rootOf}
-use Rattle.apart.specs.Parts.{Opened}
-use Rattle.wholeroot.proofs.WholeRoots.{nearestRoot-is, nearestRoot-least, nearestRoot-most}
+use Rattle.root_split.specs.Parts.{Opened}
+use Rattle.root_digits.proofs.WholeRoots.{nearestRoot-is, nearestRoot-least, nearestRoot-most}
 use Rattle.root.proofs.RootLaws.{root-is, root-fits, root-unique}
-use Rattle.apart.proofs.Fields.{normal-value, no-nan}
-use Rattle.apart.proofs.Tests.{above-positive}
+use Rattle.root_split.proofs.Fields.{normal-value, no-nan}
+use Rattle.root_split.proofs.Tests.{above-positive}
 use Rattle.root.proofs.Tests.{root-negative, root-infinity, root-null}
 use Rattle.root.proofs.parts.closed.Statement.{statement}
 use Rattle.root.proofs.parts.closed.Tie as tie

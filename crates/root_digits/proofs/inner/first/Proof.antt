@@ -1,9 +1,9 @@
--- `wholeroot::known::first` meets its contract. Assumes nothing.
+-- `root_digits::inner::first` meets its contract. Assumes nothing.
 use Prim.Native.Nat.{_-_, _^_}
 use native.Mathlib.Omega.{arith}
 use borrow.Author.Needs.{needs}
-use Rattle.wholeroot.proofs.known.first.Statement.{statement}
-use Rattle.wholeroot.proofs.known.first.Tie as tie
+use Rattle.root_digits.proofs.inner.first.Statement.{statement}
+use Rattle.root_digits.proofs.inner.first.Tie as tie
 
 sub-w : tie.Need-sub-w
 sub-w c = search needs

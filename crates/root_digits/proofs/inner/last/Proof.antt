@@ -1,4 +1,4 @@
--- `wholeroot::known::last` meets its contract. Assumes nothing.
+-- `root_digits::inner::last` meets its contract. Assumes nothing.
 use mathlib.Core.Path.{_≡_, sym, ap, _∙_, subst}
 use mathlib.Core.Bool.{Bool}
 use Prim.Native.Nat.{ℕ, _+_, _*_, _/_, _^_, _≤_, _<_}
@@ -7,12 +7,12 @@ use native.Mathlib.Omega.{arith}
 use lib.Dec.{ltb}
 use borrow.Author.Needs.{needs}
 use borrow.Author.Tests.{lt-ltb, le-ltb}
-use Rattle.basis.specs.Choice.{if_then_else_}
-use Rattle.wholeroot.specs.Nearest.{nearestRoot}
-use Rattle.wholeroot.specs.Digits.{LaneOf}
-use Rattle.wholeroot.proofs.WholeRoots.{nearestRoot-by}
-use Rattle.wholeroot.proofs.known.last.Statement.{statement}
-use Rattle.wholeroot.proofs.known.last.Tie as tie
+use Rattle.base.specs.Choice.{if_then_else_}
+use Rattle.root_digits.specs.Nearest.{nearestRoot}
+use Rattle.root_digits.specs.Digits.{LaneOf}
+use Rattle.root_digits.proofs.WholeRoots.{nearestRoot-by}
+use Rattle.root_digits.proofs.inner.last.Statement.{statement}
+use Rattle.root_digits.proofs.inner.last.Tie as tie
 
 by : (n v t : ℕ) → n < 4 ^ 53 → LaneOf n 1 v t → nearestRoot n ≡ if ltb (t / 4) (v / 2) then t / 4 + 1 else t / 4
 by n v t h l =

@@ -1,10 +1,10 @@
--- `wholeroot::known::nearest_root` meets its contract. The lane is of m·2^52 throughout. Assumes nothing.
+-- `root_digits::inner::nearest_root` meets its contract. The lane is of m·2^52 throughout. Assumes nothing.
 use mathlib.Core.Path.{refl}
 use Prim.Native.Nat.{_*_, _^_}
-use Rattle.wholeroot.specs.Digits.{LaneOf}
-use Rattle.wholeroot.proofs.Turns.{Weight, falls, weight, turning, turned, found}
-use Rattle.wholeroot.proofs.known.nearest_root.Statement.{statement}
-use Rattle.wholeroot.proofs.known.nearest_root.Tie as tie
+use Rattle.root_digits.specs.Digits.{LaneOf}
+use Rattle.root_digits.proofs.Turns.{Weight, falls, weight, turning, turned, found}
+use Rattle.root_digits.proofs.inner.nearest_root.Statement.{statement}
+use Rattle.root_digits.proofs.inner.nearest_root.Tie as tie
 
 abbrev Inv-loop : tie.InvT-loop
 Inv-loop m s₀ g₀ s g = Weight g × LaneOf (m * 2 ^ 52) g (s .v) (s .t)

@@ -1,10 +1,10 @@
--- `wholeroot::known::three_nearest_roots` meets its contract, each lane as in `nearest_root`. Assumes nothing.
+-- `root_digits::inner::three_nearest_roots` meets its contract, each lane as in `nearest_root`. Assumes nothing.
 use mathlib.Core.Path.{refl}
 use Prim.Native.Nat.{_*_, _^_}
-use Rattle.wholeroot.specs.Digits.{LaneOf}
-use Rattle.wholeroot.proofs.Turns.{Weight, falls, weight, turning, turned, found}
-use Rattle.wholeroot.proofs.known.three_nearest_roots.Statement.{statement}
-use Rattle.wholeroot.proofs.known.three_nearest_roots.Tie as tie
+use Rattle.root_digits.specs.Digits.{LaneOf}
+use Rattle.root_digits.proofs.Turns.{Weight, falls, weight, turning, turned, found}
+use Rattle.root_digits.proofs.inner.three_nearest_roots.Statement.{statement}
+use Rattle.root_digits.proofs.inner.three_nearest_roots.Tie as tie
 
 abbrev Inv-loop : tie.InvT-loop
 Inv-loop a b c s₀ t₀ u₀ g₀ s t u g = Weight g × LaneOf (a * 2 ^ 52) g (s .v) (s .t) × LaneOf (b * 2 ^ 52) g (t .v) (t .t) × LaneOf (c * 2 ^ 52) g (u .v) (u .t)

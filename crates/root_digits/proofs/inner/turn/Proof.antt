@@ -4,9 +4,9 @@ use Prim.Native.Nat.{ℕ, _+_, _-_, _*_, _/_, _%_, _^_, _≤_, _<_}
 use native.Mathlib.Nat.{add-mul, mul-add, mul-comm}
 use native.Mathlib.Omega.{arith}
 use borrow.Author.Needs.{needs}
-use Rattle.wholeroot.specs.Digits.{LaneOf, Turning}
-use Rattle.wholeroot.proofs.known.turn.Statement.{statement}
-use Rattle.wholeroot.proofs.known.turn.Tie as tie
+use Rattle.root_digits.specs.Digits.{LaneOf, Turning}
+use Rattle.root_digits.proofs.inner.turn.Statement.{statement}
+use Rattle.root_digits.proofs.inner.turn.Tie as tie
 
 unset : (n g h v t : ℕ) → g ≡ h + h → LaneOf n g v t → v + v < t → LaneOf n h (v + v) (t - h)
 unset n g h v t e l p =

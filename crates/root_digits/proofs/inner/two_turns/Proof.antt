@@ -1,10 +1,10 @@
--- `wholeroot::known::two_turns` meets its contract. Assumes nothing.
+-- `root_digits::inner::two_turns` meets its contract. Assumes nothing.
 use mathlib.Core.Path.{_≡_}
 use Prim.Native.Nat.{ℕ, _/_, _%_}
 use native.Mathlib.Omega.{arith}
-use Rattle.wholeroot.proofs.Turns.{at}
-use Rattle.wholeroot.proofs.known.two_turns.Statement.{statement}
-use Rattle.wholeroot.proofs.known.two_turns.Tie as tie
+use Rattle.root_digits.proofs.Turns.{at}
+use Rattle.root_digits.proofs.inner.two_turns.Statement.{statement}
+use Rattle.root_digits.proofs.inner.two_turns.Tie as tie
 
 even : (g : ℕ) → g % 4 ≡ 0 → g % 2 ≡ 0
 even g h = omega arith

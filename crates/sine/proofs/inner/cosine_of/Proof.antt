@@ -1,9 +1,9 @@
--- `sine::known::cosine_of` meets its contract: its constants compute to the coefficients. Assumes nothing.
+-- `sine::inner::cosine_of` meets its contract: its constants compute to the coefficients. Assumes nothing.
 use mathlib.Core.Path.{refl}
 use lib.Ieee.{ofBits, ofInt, neg, round}
 use Rattle.sine.specs.Sine.{C}
-use Rattle.sine.proofs.known.cosine_of.Statement.{statement}
-use Rattle.sine.proofs.known.cosine_of.Tie as tie
+use Rattle.sine.proofs.inner.cosine_of.Statement.{statement}
+use Rattle.sine.proofs.inner.cosine_of.Tie as tie
 
 returns : tie.Need-returns
 unfolding C ofBits ofInt neg round

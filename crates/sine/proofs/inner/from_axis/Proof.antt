@@ -1,9 +1,9 @@
--- `sine::known::from_axis` meets its contract. Assumes nothing.
+-- `sine::inner::from_axis` meets its contract. Assumes nothing.
 use borrow.Author.Tests.{eq-eqb, ne-eqb}
 use Rattle.sine.specs.Sine.{within}
 use borrow.Author.Needs.{needs}
-use Rattle.sine.proofs.known.from_axis.Statement.{statement}
-use Rattle.sine.proofs.known.from_axis.Tie as tie
+use Rattle.sine.proofs.inner.from_axis.Statement.{statement}
+use Rattle.sine.proofs.inner.from_axis.Tie as tie
 
 returns : tie.Need-returns
 unfolding within

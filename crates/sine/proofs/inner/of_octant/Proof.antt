@@ -1,12 +1,12 @@
--- `sine::known::of_octant` meets its contract: each arm is its column of the table. Assumes nothing.
+-- `sine::inner::of_octant` meets its contract: each arm is its column of the table. Assumes nothing.
 use mathlib.Core.Path.{_≡_, sym, ap, _∙_}
 use Prim.Native.Nat.{ℕ, suc, _≤_, _<_, zero-le}
 use native.Mathlib.Omega.{arith}
 use lib.Ieee.{Float}
 use Rattle.sine.specs.declared.SineCosine.{SineCosine}
 use Rattle.sine.specs.Sine.{column}
-use Rattle.sine.proofs.known.of_octant.Statement.{statement}
-use Rattle.sine.proofs.known.of_octant.Tie as tie
+use Rattle.sine.proofs.inner.of_octant.Statement.{statement}
+use Rattle.sine.proofs.inner.of_octant.Tie as tie
 
 at : (k q : ℕ) (s c : Float) → q ≡ k → column k s c ≡ column q s c
 at k q s c e = sym (ap (λ (j : ℕ). column j s c) e)

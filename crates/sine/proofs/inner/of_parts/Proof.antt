@@ -1,9 +1,9 @@
--- `sine::known::of_parts` meets its contract. Assumes nothing.
+-- `sine::inner::of_parts` meets its contract. Assumes nothing.
 use borrow.Author.Needs.{needs}
 use Rattle.sine.specs.Sine.{sineCosine}
 use Rattle.sine.proofs.Octants.{within-le}
-use Rattle.sine.proofs.known.of_parts.Statement.{statement}
-use Rattle.sine.proofs.known.of_parts.Tie as tie
+use Rattle.sine.proofs.inner.of_parts.Statement.{statement}
+use Rattle.sine.proofs.inner.of_parts.Tie as tie
 
 from-axis-requires : tie.Need-from-axis-requires
 from-axis-requires c κs = search needs

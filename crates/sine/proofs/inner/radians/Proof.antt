@@ -1,12 +1,12 @@
--- `sine::known::radians` meets its contract. Assumes nothing.
+-- `sine::inner::radians` meets its contract. Assumes nothing.
 use mathlib.Core.Path.{refl}
 use Prim.Native.Nat.{_≤_, _^_}
 use native.Mathlib.Omega.{arith}
 use lib.Dec.{le→leb}
 use lib.Ieee.{ofBits, ofInt, round, inFloat}
 use Rattle.sine.specs.Sine.{angle}
-use Rattle.sine.proofs.known.radians.Statement.{statement}
-use Rattle.sine.proofs.known.radians.Tie as tie
+use Rattle.sine.proofs.inner.radians.Statement.{statement}
+use Rattle.sine.proofs.inner.radians.Tie as tie
 
 int-to-float-result : tie.Need-int-to-float-result
 unfolding inFloat

@@ -1,9 +1,9 @@
--- `sine::known::sine_of` meets its contract: its constants compute to the coefficients. Assumes nothing.
+-- `sine::inner::sine_of` meets its contract: its constants compute to the coefficients. Assumes nothing.
 use mathlib.Core.Path.{refl}
 use lib.Ieee.{ofBits, ofInt, neg, round}
 use Rattle.sine.specs.Sine.{S}
-use Rattle.sine.proofs.known.sine_of.Statement.{statement}
-use Rattle.sine.proofs.known.sine_of.Tie as tie
+use Rattle.sine.proofs.inner.sine_of.Statement.{statement}
+use Rattle.sine.proofs.inner.sine_of.Tie as tie
 
 returns : tie.Need-returns
 unfolding S ofBits ofInt neg round
