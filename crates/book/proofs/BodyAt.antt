@@ -4,7 +4,7 @@ use mathlib.Core.Bool.{true, false}
 use mathlib.Core.List.{List}
 use mathlib.Core.Path.{_≡_, sym, ap, _∙_}
 use Rattle.book.specs.Lookup.{lookup}
-use Rattle.series.specs.Series.{Content, placeIn, velocityIn, contentOf, place, velocity}
+use Rattle.book_series.specs.Series.{Content, placeIn, velocityIn, contentOf, place, velocity}
 use Rattle.book.specs.Position.{bodyAt, finitePlace, finiteVelocity, finiteOr7}
 use Rattle.book.specs.declared.Lookup.the-variants.{Entry, Nothing}
 use Rattle.book.specs.declared.PositionAnswer.the-variants.{At, Refused}

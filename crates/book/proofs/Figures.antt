@@ -7,7 +7,7 @@ use lib.Count.{trailingZeros}
 use lib.Ieee.{Float, binary64, ofBits, ofFields, odd, ofInt, add, sub, neg, mul, div, sum, round, units, size, span, climb}
 use native.Mathlib.Omega.{arith}
 use borrow.Author.Tests.{le-leb, lt-ltb, le-ltb}
-use Rattle.bookcheck.specs.Contents.{startOf, spanOf, endOf}
+use Rattle.book_check.specs.Contents.{startOf, spanOf, endOf}
 use Rattle.book.specs.Lookup.{covers}
 use Rattle.series.specs.Series.{argument, clenshaw, series}
 use Rattle.bookcheck.proofs.Below.{both}

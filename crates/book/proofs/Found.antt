@@ -8,15 +8,15 @@ use lib.Dec.{ltb, leb, eqb}
 use borrow.Author.Tests.{ltb-true, ltb-false, leb-true, eqb-true, lt-ltb, le-leb, eq-eqb}
 use native.Mathlib.Nat.{eq-or-lt-of-le, le-of-suc-le-suc, not-suc-le-zero}
 use native.Mathlib.Omega.{arith}
-use Rattle.basis.specs.Choice.{if_then_else_}
-use Rattle.bookcheck.specs.Contents.{entryCount, bodyOf, startOf, endOf}
+use Rattle.base.specs.Choice.{if_then_else_}
+use Rattle.book_check.specs.Contents.{entryCount, bodyOf, startOf, endOf}
 use Rattle.book.specs.Lookup.{covers, serves, orElse, firstBelow, lookup}
 use Rattle.book.specs.Stands.{Stands, Narrowed}
 use Rattle.book.specs.declared.Lookup.{Lookup}
 use Rattle.book.specs.declared.Lookup.the-variants.{Entry, Nothing}
 use Rattle.book.specs.declared.search.Stand.the-variants.{Past, Before}
 use Rattle.bookcheck.proofs.Below.{both, left, right, is-false}
-use Rattle.bookcheck.proofs.Passing.{Passing}
+use Rattle.book_check.proofs.Passing.{Passing}
 
 -- ---- the first number that meets a test
 pub first-none : (n : ℕ) (test : ℕ → Bool) → ((k : ℕ) → k < n → test k ≡ false) → firstBelow n test ≡ Nothing

@@ -1,7 +1,7 @@
 pub use Rattle.bookcheck.proofs.FiniteBits
-pub use Rattle.bookcheck.proofs.Below
-pub use Rattle.bookcheck.proofs.Passing
-pub use Rattle.bookcheck.proofs.Checked
+pub use Rattle.book_check.proofs.Below
+pub use Rattle.book_check.proofs.Passing
+pub use Rattle.book_check.proofs.Checked
 pub mod Found
 pub mod Figures
 pub mod BodyAt

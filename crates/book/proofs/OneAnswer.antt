@@ -1,8 +1,8 @@
 -- Any two results that the promise of a call of the book allows are equal. Assumes nothing.
 use mathlib.Core.Path.{refl}
 use denote.Ref.{now}
-use Rattle.basis.proofs.OneAnswer.{OneAnswer, one-answer}
-use Rattle.bookcheck.specs.Passes.{passes}
+use Rattle.base.proofs.OneAnswer.{OneAnswer, one-answer}
+use Rattle.book_check.specs.Passes.{passes}
 use Rattle.book.specs.Position.{positionAnswer}
 use Rattle.book.proofs.book_passes as book-passes
 use Rattle.book.proofs.position as position

@@ -4,11 +4,11 @@ use mathlib.Core.List.{List}
 use mathlib.Core.Path.{_≡_, refl}
 use Prim.Native.Nat.{ℕ}
 use Rattle.basis.specs.Choice.{if_then_else_}
-use Rattle.basis.specs.Limits.{isMoment}
-use Rattle.basis.proofs.Cases.{by-if}
-use Rattle.bookcheck.specs.Passes.{passes}
+use Rattle.base.specs.Limits.{isMoment}
+use Rattle.base.proofs.Cases.{by-if}
+use Rattle.book_check.specs.Passes.{passes}
 use Rattle.book.specs.Lookup.{lookup}
-use Rattle.series.specs.Series.{place, velocity}
+use Rattle.book_series.specs.Series.{place, velocity}
 use Rattle.book.specs.Position.{finitePlace, finiteVelocity, placeOr6, bodyAt, positionAnswer}
 use Rattle.book.specs.declared.Lookup.{Lookup}
 use Rattle.book.specs.declared.Lookup.the-variants.{Entry, Nothing}

@@ -13,20 +13,20 @@ use lib.Ieee.{Float, binary64, ofBits, ofFields, ofInt, odd, hid, top, low, neg,
 use lib.Ieee.Exact.{odd-sign}
 use lib.Ieee.Scale.{finite}
 use borrow.Author.Tests.{ne-eqb, ltb-true}
-use Rattle.basis.specs.Floats.{_⊕_, _⊖_, _⊗_, _⊘_, whole}
+use Rattle.base.specs.Floats.{_⊕_, _⊖_, _⊗_, _⊘_, whole}
 use Rattle.basis.proofs.Bounds.{Within, Held, power-held, whole-is, whole-held, wider, value-within, within-finite, round-within, neg-within, mul-within, add-within, div-within}
 use Rattle.bookcheck.specs.Bytes.{u64At}
-use Rattle.bookcheck.specs.Contents.{entryCount, offsetOf, sizeOf, startOf, spanOf, coefficient}
-use Rattle.bookcheck.specs.Passes.{allBelow, passes}
-use Rattle.bookcheck.specs.Check.{bitsBelow, floatsBelow}
+use Rattle.book_check.specs.Contents.{entryCount, offsetOf, sizeOf, startOf, spanOf, coefficient}
+use Rattle.book_check.specs.Passes.{allBelow, passes}
+use Rattle.book_check.specs.Check.{bitsBelow, floatsBelow}
 use Rattle.book.specs.Calm.{calmLimit, calm, Ready}
 use Rattle.book.specs.Lookup.{covers}
-use Rattle.series.specs.Series.{Pair, twice, turn, clenshaw, slopeTurn, slopes, lastSlope, slope, speed, listed, InSpan, argument, velocity}
+use Rattle.book_series.specs.Series.{Pair, twice, turn, clenshaw, slopeTurn, slopes, lastSlope, slope, speed, listed, InSpan, argument, velocity}
 use Rattle.book.specs.Position.{finiteVelocity}
 use Rattle.bookcheck.proofs.Below.{every, both}
-use Rattle.bookcheck.proofs.Passing.{passing}
+use Rattle.book_check.proofs.Passing.{passing}
 use Rattle.book.proofs.Found.{covering}
-use Rattle.series.proofs.Numerator.{size, span-size}
+use Rattle.book_series.proofs.Numerator.{size, span-size}
 
 -- x is at most 2^k in size
 abbrev Upto : ℕ → Float → Type 0

@@ -4,9 +4,9 @@ use Prim.Native.Nat.{ℕ, _*_}
 use mathlib.Core.Bool.{Bool, true}
 use mathlib.Core.List.{List}
 use mathlib.Core.Path.{_≡_}
-use Rattle.bookcheck.specs.Contents.{entryCount, offsetOf, sizeOf}
-use Rattle.bookcheck.specs.Passes.{allBelow, passes}
-use Rattle.bookcheck.specs.Check.{floatsBelow}
+use Rattle.book_check.specs.Contents.{entryCount, offsetOf, sizeOf}
+use Rattle.book_check.specs.Passes.{allBelow, passes}
+use Rattle.book_check.specs.Check.{floatsBelow}
 
 -- the bits of 2^512
 abbrev pub calmLimit : ℕ

@@ -1,8 +1,8 @@
 pub use Rattle.bookcheck.specs.Bytes
-pub use Rattle.bookcheck.specs.Contents
-pub use Rattle.bookcheck.specs.Passes
-pub use Rattle.bookcheck.specs.Check
-pub use Rattle.series.specs.Series
+pub use Rattle.book_check.specs.Contents
+pub use Rattle.book_check.specs.Passes
+pub use Rattle.book_check.specs.Check
+pub use Rattle.book_series.specs.Series
 pub mod Lookup
 pub mod Stands
 pub mod Reading

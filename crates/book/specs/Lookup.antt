@@ -2,8 +2,8 @@
 use Prim.Native.Nat.{ℕ, zero, suc}
 use mathlib.Core.Bool.{Bool, _&&_}
 use mathlib.Core.List.{List}
-use Rattle.basis.specs.Choice.{if_then_else_, _<?_, _≤?_, _=?_}
-use Rattle.bookcheck.specs.Contents.{entryCount, bodyOf, startOf, endOf}
+use Rattle.base.specs.Choice.{if_then_else_, _<?_, _≤?_, _=?_}
+use Rattle.book_check.specs.Contents.{entryCount, bodyOf, startOf, endOf}
 use Rattle.book.specs.declared.Lookup.{Lookup}
 use Rattle.book.specs.declared.Lookup.the-variants.{Entry, Nothing}
 

@@ -3,13 +3,13 @@ use Prim.Native.Nat.{ℕ}
 use mathlib.Core.Bool.{Bool, _&&_}
 use mathlib.Core.List.{List}
 use lib.Ieee.Scale.{finite}
-use Rattle.basis.specs.Choice.{if_then_else_}
-use Rattle.basis.specs.Limits.{isMoment}
-use Rattle.bookcheck.specs.Passes.{passes}
+use Rattle.base.specs.Choice.{if_then_else_}
+use Rattle.base.specs.Limits.{isMoment}
+use Rattle.book_check.specs.Passes.{passes}
 use Rattle.book.specs.Lookup.{lookup}
-use Rattle.series.specs.Series.{place, velocity}
-use Rattle.series.specs.declared.Place.{Place}
-use Rattle.series.specs.declared.Velocity.{Velocity}
+use Rattle.book_series.specs.Series.{place, velocity}
+use Rattle.book_series.specs.declared.Place.{Place}
+use Rattle.book_series.specs.declared.Velocity.{Velocity}
 use Rattle.book.specs.declared.Motion.{Motion}
 use Rattle.book.specs.declared.Lookup.{Lookup}
 use Rattle.book.specs.declared.Lookup.the-variants.{Entry, Nothing}

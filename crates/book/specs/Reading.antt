@@ -4,11 +4,11 @@ use mathlib.Core.Bool.{true}
 use mathlib.Core.List.{List}
 use mathlib.Core.Path.{_≡_}
 use lib.ListN.{length}
-use Rattle.basis.specs.Floats.{whole}
-use Rattle.bookcheck.specs.Contents.{offsetOf, sizeOf, startOf, spanOf}
-use Rattle.bookcheck.specs.Check.{floatsFinite}
-use Rattle.series.specs.Series.{argument}
-use Rattle.book.specs.declared.known.Reading.{Reading}
+use Rattle.base.specs.Floats.{whole}
+use Rattle.book_check.specs.Contents.{offsetOf, sizeOf, startOf, spanOf}
+use Rattle.book_check.specs.Check.{floatsFinite}
+use Rattle.book_series.specs.Series.{argument}
+use Rattle.book.specs.declared.inner.Reading.{Reading}
 
 pub record Reads (b : List ℕ) (i t : ℕ) (r : Reading) : Type 0 where
   pub offset : r .offset ≡ offsetOf b i

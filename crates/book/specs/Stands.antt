@@ -3,7 +3,7 @@ use Prim.Native.Nat.{ℕ, _≤_, _<_}
 use mathlib.Core.Bool.{false}
 use mathlib.Core.List.{List}
 use mathlib.Core.Path.{_≡_}
-use Rattle.bookcheck.specs.Contents.{entryCount, bodyOf, startOf, endOf}
+use Rattle.book_check.specs.Contents.{entryCount, bodyOf, startOf, endOf}
 use Rattle.book.specs.Lookup.{serves}
 use Rattle.book.specs.declared.search.Stand.{Stand}
 use Rattle.book.specs.declared.search.Stand.the-variants.{Past, Covered, Before}

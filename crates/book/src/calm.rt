@@ -2,10 +2,10 @@
 
 use bookcheck::bytes::u16_at;
 use bookcheck::bytes::u32_at;
-use bookcheck::known::floats_below;
+use book_check::inner::floats_below;
 ghost use mathlib.Core.Bool.{true};
 ghost use mathlib.Core.Path.{_≡_};
-ghost use Rattle.bookcheck.specs.Passes.{passes};
+ghost use Rattle.book_check.specs.Passes.{passes};
 ghost use Rattle.book.specs.Calm.{calm};
 
 // The bits of 2^512.

@@ -2,16 +2,16 @@
 
 pub mod bytes;
 mod calm;
-pub mod known;
+pub mod inner;
 mod search;
 
-use basis::END_OF_TIME;
+use base::END_OF_TIME;
 use bookcheck::bytes::u32_at;
-use bookcheck::known::entries_pass;
-pub use series::Place;
-pub use series::Velocity;
+use book_check::inner::entries_pass;
+pub use book_series::Place;
+pub use book_series::Velocity;
 ghost use mathlib.Core.Path.{_≡_};
-ghost use Rattle.bookcheck.specs.Passes.{passes};
+ghost use Rattle.book_check.specs.Passes.{passes};
 ghost use Rattle.book.specs.Position.{positionAnswer};
 
 pub const LONGEST_BOOK: usize = 61_440;
@@ -62,5 +62,5 @@ pub fn position(book: &[u8], body: u64, moment: u64) -> PositionAnswer
     if END_OF_TIME <= moment {
         return PositionAnswer::Refused(3);
     }
-    known::body_at(book, body, moment, 0)
+    inner::body_at(book, body, moment, 0)
 }

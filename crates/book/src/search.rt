@@ -7,8 +7,8 @@ ghost use mathlib.Core.Bool.{true};
 ghost use mathlib.Core.Path.{_≡_};
 ghost use Prim.Native.Nat.{_+_, _≤_, _<_};
 ghost use lib.ListN.{length};
-ghost use Rattle.bookcheck.specs.Contents.{entryAt};
-ghost use Rattle.bookcheck.specs.Passes.{passes};
+ghost use Rattle.book_check.specs.Contents.{entryAt};
+ghost use Rattle.book_check.specs.Passes.{passes};
 ghost use Rattle.book.specs.Lookup.{lookup};
 ghost use Rattle.book.specs.Stands.{Stands, Narrowed};
 

@@ -11,11 +11,11 @@ use lib.Dec.{ltb, leb, eqb}
 use lib.ListN.{length}
 use borrow.Author.Tests.{ltb-true, leb-true, eqb-true, eqb-false, lt-ltb, le-leb, eq-eqb}
 use native.Mathlib.Omega.{arith}
-use Rattle.bookcheck.specs.Contents.{statedTotal, entryCount, sizeOf, offsetOf, blockLength}
-use Rattle.bookcheck.specs.Passes.{fieldsAllowed, blockPlace, coefficientsFinite, passes}
-use Rattle.bookcheck.specs.Check.{floatsFinite, entryHolds, nextInOrder}
+use Rattle.book_check.specs.Contents.{statedTotal, entryCount, sizeOf, offsetOf, blockLength}
+use Rattle.book_check.specs.Passes.{fieldsAllowed, blockPlace, coefficientsFinite, passes}
+use Rattle.book_check.specs.Check.{floatsFinite, entryHolds, nextInOrder}
 use Rattle.bookcheck.proofs.Below.{both, left, right, is-false}
-use Rattle.bookcheck.proofs.Passing.{Allowed, InOrder, Passing, passing, passing-back, allowed-of, allowed-back, in-order, in-order-back, block-inside}
+use Rattle.book_check.proofs.Passing.{Allowed, InOrder, Passing, passing, passing-back, allowed-of, allowed-back, in-order, in-order-back, block-inside}
 
 module _ (b : List ℕ) where
   -- the entries below n, each held against the next one alone

@@ -10,10 +10,10 @@ use lib.Dec.{ltb, leb, eqb}
 use lib.ListN.{length}
 use borrow.Author.Tests.{ltb-true, ltb-false, leb-true, leb-false, eqb-true, lt-ltb, le-ltb, le-leb, eq-eqb}
 use native.Mathlib.Omega.{arith}
-use Rattle.basis.specs.Limits.{endOfTime}
-use Rattle.bookcheck.specs.Contents.{statedTotal, entryCount, entryAt, bodyOf, sizeOf, offsetOf, startOf, spanOf, endOf, blockLength}
+use Rattle.base.specs.Limits.{endOfTime}
+use Rattle.book_check.specs.Contents.{statedTotal, entryCount, entryAt, bodyOf, sizeOf, offsetOf, startOf, spanOf, endOf, blockLength}
 use Rattle.bookcheck.specs.Passes.{allBelow, pairsBelow, longestBook, totalStated, withinLimit, bodyAllowed, sizeAllowed, timesAllowed, fieldsAllowed, ascends, apart, blockPlace, blockFollows, nothingAfter, coefficientsFinite, passes}
-use Rattle.bookcheck.specs.Check.{inOrder}
+use Rattle.book_check.specs.Check.{inOrder}
 use Rattle.bookcheck.proofs.Below.{both, left, right, every, every-back, every-pair, every-pair-back, clash, is-false}
 
 -- the fields of entry i

@@ -4,10 +4,10 @@ use mathlib.Core.Bool.{Bool, true, _&&_}
 use mathlib.Core.List.{List}
 use lib.ListN.{length}
 use lib.Ieee.Scale.{finite}
-use Rattle.basis.specs.Choice.{if_then_else_, _<?_, _≤?_, _=?_}
+use Rattle.base.specs.Choice.{if_then_else_, _<?_, _≤?_, _=?_}
 use Rattle.bookcheck.specs.Bytes.{u64At}
-use Rattle.bookcheck.specs.Contents.{offsetOf, floatOf, blockLength}
-use Rattle.bookcheck.specs.Passes.{allBelow, fieldsAllowed, ascends, apart, coefficientsFinite}
+use Rattle.book_check.specs.Contents.{offsetOf, floatOf, blockLength}
+use Rattle.book_check.specs.Passes.{allBelow, fieldsAllowed, ascends, apart, coefficientsFinite}
 
 -- the bits of a float without its sign, below those of some size
 abbrev pub bitsBelow : ℕ → ℕ → Bool

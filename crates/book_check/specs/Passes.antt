@@ -4,9 +4,9 @@ use mathlib.Core.Bool.{Bool, true, not, _&&_, _||_}
 use mathlib.Core.List.{List}
 use lib.ListN.{length}
 use lib.Ieee.Scale.{finite}
-use Rattle.basis.specs.Choice.{_<?_, _≤?_, _=?_}
-use Rattle.basis.specs.Limits.{endOfTime}
-use Rattle.bookcheck.specs.Contents.{statedTotal, entryCount, entryAt, bodyOf, sizeOf, offsetOf, startOf, spanOf, endOf, coefficient, blockLength}
+use Rattle.base.specs.Choice.{_<?_, _≤?_, _=?_}
+use Rattle.base.specs.Limits.{endOfTime}
+use Rattle.book_check.specs.Contents.{statedTotal, entryCount, entryAt, bodyOf, sizeOf, offsetOf, startOf, spanOf, endOf, coefficient, blockLength}
 
 -- whether every number below n meets the test, and every two numbers i < j below n
 abbrev pub allBelow : ℕ → (ℕ → Bool) → Bool

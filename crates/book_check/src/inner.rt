@@ -3,16 +3,16 @@
 use crate::bytes::u16_at;
 use crate::bytes::u32_at;
 use crate::bytes::u64_at;
-use basis::END_OF_TIME;
+use base::END_OF_TIME;
 ghost use mathlib.Core.Bool.{true, _&&_};
 ghost use mathlib.Core.Path.{_≡_};
 ghost use Prim.Native.Nat.{_+_, _*_, _<_, _≤_};
 ghost use lib.ListN.{length};
-ghost use Rattle.basis.specs.Choice.{_≤?_};
-ghost use Rattle.basis.specs.Limits.{endOfTime};
-ghost use Rattle.bookcheck.specs.Contents.{statedTotal, entryCount, entryAt, sizeOf, offsetOf};
-ghost use Rattle.bookcheck.specs.Passes.{passes, fieldsAllowed, longestBook};
-ghost use Rattle.bookcheck.specs.Check.{bitsBelow, floatsBelow, floatsFinite, entryHolds, inOrder, nextInOrder};
+ghost use Rattle.base.specs.Choice.{_≤?_};
+ghost use Rattle.base.specs.Limits.{endOfTime};
+ghost use Rattle.book_check.specs.Contents.{statedTotal, entryCount, entryAt, sizeOf, offsetOf};
+ghost use Rattle.book_check.specs.Passes.{passes, fieldsAllowed, longestBook};
+ghost use Rattle.book_check.specs.Check.{bitsBelow, floatsBelow, floatsFinite, entryHolds, inOrder, nextInOrder};
 
 fn within(x: u16, low: u16, high: u16) -> bool
     ensures { λ r. ⌜ r ≡ ((low ≤? x) && (x ≤? high)) ⌝ }

@@ -7,7 +7,7 @@ use Prim.Native.Nat.{ℕ, zero, suc, _+_, _*_, _<_, _≤_}
 use native.Mathlib.Omega.{arith}
 use lib.Ieee.{Float, binary64, ofBits}
 use Rattle.basis.specs.Choice.{if_then_else_, _=?_}
-use Rattle.basis.specs.Limits.{isMoment}
+use Rattle.base.specs.Limits.{isMoment}
 use Rattle.book.specs.Contents.{entryCount, bodyOf, sizeOf, startOf, spanOf, endOf, coefficient}
 use Rattle.book.specs.Passes.{passes}
 use Rattle.book.specs.Lookup.{lookup, serves}
@@ -21,7 +21,7 @@ use Rattle.book.proofs.Found.{Serving, serving, found, looked-up}
 use Rattle.book.proofs.BodyAt.{no-cover, same-content}
 use Rattle.series.specs.Series.{Block, Content, listed, blockOf, contentOf}
 use Rattle.mended.specs.Laws.{Copied}
-use Rattle.fuller.specs.Fuller.{HoldsAll, Unless}
+use Rattle.book_laws.specs.Fuller.{HoldsAll, Unless}
 
 -- ---- a copied entry says the same
 

@@ -6,7 +6,7 @@ use mathlib.Core.Path.{_≡_, refl, sym, ap, _∙_, subst}
 use Prim.Native.Nat.{ℕ, _+_, _/_}
 use borrow.Author.Tests.{eqb-true}
 use Rattle.basis.specs.Choice.{if_then_else_, _=?_}
-use Rattle.basis.specs.Limits.{isMoment}
+use Rattle.base.specs.Limits.{isMoment}
 use Rattle.state.specs.State.{position, velocity, acceleration, injectionAt, startingPosition, bare, finiteVector, finiteState, finiteInjection, settingAllowed, centreAllowed}
 use Rattle.state.specs.declared.Vector.{Vector}
 use Rattle.state.specs.declared.State.{State}
@@ -17,14 +17,14 @@ use Rattle.book.specs.Lookup.{lookup}
 use Rattle.book.specs.declared.Lookup.{Lookup}
 use Rattle.book.specs.declared.Lookup.the-variants.{Entry, Nothing}
 use Rattle.series.specs.Series.{Content, placeIn, velocityIn, contentOf}
-use Rattle.series.specs.Series.{place as entry-place, velocity as entry-velocity}
+use Rattle.book_series.specs.Series.{place as entry-place, velocity as entry-velocity}
 use Rattle.gravity.specs.Acceleration.{atRest, accelerationAt, accelerationAnswer}
 use Rattle.gravity.specs.declared.AccelerationAnswer.{AccelerationAnswer}
 use Rattle.gravity.specs.declared.AccelerationAnswer.the-variants as answer
 use Rattle.injection.specs.Injection.{ruleAt, keptBy, kept, injectionRefusal, injectionAnswer, orderRefusalBy, orderRefusal}
 use Rattle.injection.specs.declared.InjectionAnswer.{InjectionAnswer}
-use Rattle.injection.specs.declared.InjectionAnswer.the-variants as injection
-use Rattle.injection.proofs.Checked.{injectable}
+use Rattle.gravity_stored.specs.declared.InjectionAnswer.the-variants as injection
+use Rattle.gravity_stored.proofs.Checked.{injectable}
 use Rattle.centre.specs.Move.{motionBy, motionOf, shifted, keptOr7, moveBy, moveOf, moveRefusal, moveAnswer}
 use Rattle.centre.specs.Move as centre
 use Rattle.centre.specs.declared.Seen.{Seen}
@@ -33,10 +33,10 @@ use Rattle.centre.specs.declared.MoveAnswer.{MoveAnswer}
 use Rattle.centre.specs.declared.MoveAnswer.the-variants as move
 use Rattle.centre.proofs.Moves.{mayMove}
 use Rattle.motion.specs.Step.{Moved, On, Off, andThen, along, weighed, half, sixth, stepH, velocity2, velocity3, velocity4, arrive, lastly, stage2, stage3, stage4, movedBy, keeping, step}
-use Rattle.fuller.specs.Fuller.{HoldsAll, Unless}
-use Rattle.fuller.proofs.Carried.{carried, checked, passed}
-use Rattle.fuller.proofs.Books.{also-found}
-use Rattle.fuller.proofs.Rule.{rule-fuller}
+use Rattle.book_laws.specs.Fuller.{HoldsAll, Unless}
+use Rattle.book_laws.proofs.Carried.{carried, checked, passed}
+use Rattle.book_laws.proofs.Books.{also-found}
+use Rattle.book_laws.proofs.Rule.{rule-fuller}
 
 unless-not : (ok : Bool) → not ok ≡ false → ok ≡ true
 unless-not true e = refl

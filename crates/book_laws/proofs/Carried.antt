@@ -2,8 +2,8 @@
 use mathlib.Core.Bool.{Bool, true, false}
 use mathlib.Core.Logic.{_⊎_, inl, inr}
 use mathlib.Core.Path.{_≡_, refl, ap, _∙_}
-use Rattle.basis.specs.Choice.{if_then_else_}
-use Rattle.fuller.specs.Fuller.{Unless}
+use Rattle.base.specs.Choice.{if_then_else_}
+use Rattle.book_laws.specs.Fuller.{Unless}
 
 pub carried : {A B : Type 0} (f : A → B) (gap x y : A) (gap′ : B) → f gap ≡ gap′ → Unless gap x y → Unless gap′ (f x) (f y)
 carried f gap x y gap′ e (inl is) = inl (ap f is ∙ e)

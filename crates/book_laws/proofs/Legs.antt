@@ -9,18 +9,18 @@ use native.Mathlib.Omega.{arith}
 use Rattle.state.specs.declared.State.{State}
 use Rattle.state.specs.declared.Setting.{Setting}
 use Rattle.book.specs.Passes.{passes}
-use Rattle.start.specs.Start.{startRefusal}
-use Rattle.start.proofs.Passed.{passed, passes-all}
-use Rattle.motion.specs.Step.{step}
-use Rattle.motion.specs.Run.{runTo, runAnswer}
+use Rattle.run_checks.specs.Start.{startRefusal}
+use Rattle.run_checks.proofs.Passed.{passed, passes-all}
+use Rattle.run.specs.Step.{step}
+use Rattle.run.specs.Run.{runTo, runAnswer}
 use Rattle.motion.specs.declared.RunAnswer.{RunAnswer}
 use Rattle.centre.specs.Move.{moveAnswer}
 use Rattle.centre.specs.declared.MoveAnswer.{MoveAnswer}
 use Rattle.centre.specs.declared.MoveAnswer.the-variants as move
-use Rattle.journey.specs.Journey.{Call, after}
-use Rattle.journey.proofs.Answers.{answerIs, checksStay}
-use Rattle.journey.proofs.Again.{isStuck}
-use Rattle.journey.proofs.Enough.{afterStuck}
+use Rattle.run_laws.specs.Journey.{Call, after}
+use Rattle.run_laws.proofs.Answers.{answerIs, checksStay}
+use Rattle.run_laws.proofs.Again.{isStuck}
+use Rattle.run_laws.proofs.Enough.{afterStuck}
 use Rattle.legs.specs.Legs.{Leg, Lead, nowhere, leg}
 use Rattle.fuller.specs.Fuller.{HoldsAll, Unless, SameRun, GoesFurther, FullerRun}
 use Rattle.fuller.proofs.Calls.{move-fuller}

@@ -7,10 +7,10 @@ use native.Mathlib.Omega.{arith}
 use lib.ListN.{length, getD}
 use Rattle.book.specs.Contents.{entryCount, entryAt, blockLength}
 use Rattle.look.specs.Held.{Sound, AllSound}
-use Rattle.anew.specs.Anew.{blocksLength, bookLength, bookAnew}
+use Rattle.repair_write.specs.Anew.{blocksLength, bookLength, bookAnew}
 use Rattle.mended.specs.Laws.{Copied}
-use Rattle.mended.proofs.Written.{counted, copied}
-use Rattle.fuller.specs.Fuller.{HoldsAll}
+use Rattle.repair_laws.proofs.Written.{counted, copied}
+use Rattle.book_laws.specs.Fuller.{HoldsAll}
 
 -- two copies of one entry are copies of each other
 pub both-copied : (b v w : List ℕ) (i k j : ℕ) → Copied b v i k → Copied b w i j → Copied v w k j

@@ -5,7 +5,7 @@ use mathlib.Core.Logic.{_⊎_, inl, inr}
 use mathlib.Core.Path.{_≡_, refl, sym, ap, _∙_, subst}
 use Prim.Native.Nat.{ℕ}
 use native.Mathlib.Omega.{arith}
-use Rattle.basis.specs.Choice.{if_then_else_, _=?_}
+use Rattle.base.specs.Choice.{if_then_else_, _=?_}
 use Rattle.basis.specs.Limits.{isMoment}
 use Rattle.state.specs.State.{used, lookedUp, finiteVector, settingAllowed, coefficientOf, centreAllowed}
 use Rattle.state.specs.declared.Vector.{Vector}
@@ -15,12 +15,12 @@ use Rattle.book.specs.declared.PositionAnswer.{PositionAnswer}
 use Rattle.book.specs.declared.PositionAnswer.the-variants as position
 use Rattle.pull.specs.Pull.{minus, negated, g, sound}
 use Rattle.gravity.specs.Acceleration.{Body, Sky, Bodies, Hidden, Listed, nowhere, atRest, stands, seen, skyOf, placeOf, sky, fromCentre, less, allSound, settled, lastTerms, lastSound, finished, accelerationAt, accelerationAnswer}
-use Rattle.sight.specs.Sky.{bodiesOf}
+use Rattle.gravity_bodies.specs.Sky.{bodiesOf}
 use Rattle.gravity.specs.declared.AccelerationAnswer.{AccelerationAnswer}
 use Rattle.gravity.specs.declared.AccelerationAnswer.the-variants as answer
 use Rattle.gravity.proofs.Centres.{One, one, two, three, four, five, six, centreOne}
-use Rattle.fuller.specs.Fuller.{HoldsAll, Unless}
-use Rattle.fuller.proofs.Books.{body-fuller}
+use Rattle.book_laws.specs.Fuller.{HoldsAll, Unless}
+use Rattle.book_laws.proofs.Books.{body-fuller}
 
 -- ---- what a term does not read does not matter
 

@@ -18,18 +18,18 @@ use Rattle.gravity.specs.declared.Guesses.{Guesses}
 use Rattle.injection.specs.Injection.{orderRefusal}
 use Rattle.start.specs.Start.{stepAllowed, withinSteps, orLater, startRefusal}
 use Rattle.start.proofs.Passed.{passed}
-use Rattle.motion.specs.Step.{Moved, On, Off, step}
-use Rattle.motion.specs.Walk.{walk}
+use Rattle.run.specs.Step.{Moved, On, Off, step}
+use Rattle.run.specs.Walk.{walk}
 use Rattle.motion.specs.Run.{Reached, ended, counted, atTarget, runTo, withGuesses, refusedAtOnce, runAnswer}
 use Rattle.motion.specs.declared.Outcome.the-variants.{Arrived, Going, Refused}
 use Rattle.motion.specs.declared.RunAnswer.{RunAnswer}
-use Rattle.motion.proofs.OneStep.{done}
-use Rattle.motion.proofs.Runs.{runArrived, runRefused, runOn}
-use Rattle.motion.proofs.Walks.{walkFirst, walkNone}
+use Rattle.run.proofs.OneStep.{done}
+use Rattle.run.proofs.Runs.{runArrived, runRefused, runOn}
+use Rattle.run.proofs.Walks.{walkFirst, walkNone}
 use Rattle.journey.specs.Journey.{Call, journey}
-use Rattle.journey.proofs.Answers.{answerIs, refusedIs}
+use Rattle.run_laws.proofs.Answers.{answerIs, refusedIs}
 use Rattle.fuller.specs.Fuller.{HoldsAll, Unless, SameRun, GoesFurther, FullerRun, Alongside, none, same, gap}
-use Rattle.fuller.proofs.Carried as carry
+use Rattle.book_laws.proofs.Carried as carry
 use Rattle.fuller.proofs.Calls.{order-fuller, step-fuller}
 
 -- ---- the run over two steps of which the second is the same, unless the first has a gap

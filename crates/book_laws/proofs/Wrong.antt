@@ -6,16 +6,16 @@ use mathlib.Core.Path.{_≡_, refl, sym, ap, _∙_}
 use Prim.Native.Nat.{ℕ, zero, suc, _+_, _*_, _<_}
 use native.Mathlib.Omega.{arith}
 use lib.Ieee.{add, sub, mul, div, lt, ofBits, ofInt, ofFields, odd, size}
-use Rattle.basis.specs.Floats.{zero64}
+use Rattle.base.specs.Floats.{zero64}
 use Rattle.book.specs.Bytes.{u16At, u32At, u64At}
 use Rattle.book.specs.Contents.{entryCount, sizeOf, offsetOf}
 use Rattle.book.specs.Passes.{passes}
 use Rattle.book.specs.Lookup.{lookup}
 use Rattle.book.specs.declared.PositionAnswer.{PositionAnswer}
 use Rattle.book.specs.declared.PositionAnswer.the-variants.{At, Refused}
-use Rattle.series.specs.Series.{argument, clenshaw, series, slopes, slope, place, velocity}
+use Rattle.book_series.specs.Series.{argument, clenshaw, series, slopes, slope, place, velocity}
 use Rattle.mended.specs.Laws.{Copied}
-use Rattle.fuller.specs.Fuller.{HoldsAll, Unless}
+use Rattle.book_laws.specs.Fuller.{HoldsAll, Unless}
 use Rattle.fuller.specs.Wrong.{PositionCall, Unmoved, fromTheBack, byNumber, moonBook, sunBook, bothBook}
 
 moon-passes : passes moonBook ≡ true

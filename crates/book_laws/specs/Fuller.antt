@@ -9,9 +9,9 @@ use Rattle.state.specs.declared.State.{State}
 use Rattle.state.specs.declared.Setting.{Setting}
 use Rattle.book.specs.Contents.{entryCount}
 use Rattle.motion.specs.Step.{Moved, On, Off, step}
-use Rattle.motion.specs.Walk.{walk}
-use Rattle.motion.specs.declared.Outcome.the-variants.{Refused}
-use Rattle.motion.specs.declared.RunAnswer.{RunAnswer}
+use Rattle.run.specs.Walk.{walk}
+use Rattle.run.specs.declared.Outcome.the-variants.{Refused}
+use Rattle.run.specs.declared.RunAnswer.{RunAnswer}
 use Rattle.mended.specs.Laws.{Copied}
 
 -- "holds every entry of the first with the same coefficients": for each entry of b some entry of c has the same body, count, start, span and

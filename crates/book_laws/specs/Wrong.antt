@@ -3,8 +3,8 @@ use mathlib.Core.Bool.{Bool, true}
 use mathlib.Core.List.{List, [], _∷_}
 use mathlib.Core.Path.{_≡_}
 use Prim.Native.Nat.{ℕ, zero, suc}
-use Rattle.basis.specs.Choice.{if_then_else_}
-use Rattle.basis.specs.Floats.{zero64, whole}
+use Rattle.base.specs.Choice.{if_then_else_}
+use Rattle.base.specs.Floats.{zero64, whole}
 use Rattle.book.specs.Contents.{entryCount}
 use Rattle.book.specs.Passes.{passes}
 use Rattle.book.specs.Lookup.{lookup, covers}
@@ -13,7 +13,7 @@ use Rattle.book.specs.declared.Lookup.{Lookup}
 use Rattle.book.specs.declared.Lookup.the-variants.{Entry, Nothing}
 use Rattle.book.specs.declared.PositionAnswer.{PositionAnswer}
 use Rattle.book.specs.declared.PositionAnswer.the-variants.{At, Refused}
-use Rattle.fuller.specs.Fuller.{HoldsAll, Unless}
+use Rattle.book_laws.specs.Fuller.{HoldsAll, Unless}
 
 -- a call that tells where a body stands at a moment of a book
 abbrev pub PositionCall : Type 0

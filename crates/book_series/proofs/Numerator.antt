@@ -11,7 +11,7 @@ use mir.Val.{SFits, toZ, ofZ}
 use mir.ValLaws.{toZ-ofZ, toZ-pos}
 use borrow.Author.Tests.{le-ltb}
 use native.Mathlib.Nat.{add-zero, sub-zero}
-use Rattle.series.specs.Series.{InSpan}
+use Rattle.book_series.specs.Series.{InSpan}
 use native.Mathlib.Omega.{arith}
 
 minus : (a b : ℕ) → pos a -ℤ pos b ≡ subℕ a b

@@ -4,12 +4,12 @@ use mathlib.Core.List.{List}
 use mathlib.Core.Path.{_≡_, ap}
 use lib.Ieee.{Float}
 use native.Mathlib.Omega.{arith}
-use Rattle.basis.specs.Floats.{whole}
-use Rattle.bookcheck.specs.Contents.{floatOf, offsetOf, sizeOf, startOf, spanOf}
-use Rattle.series.specs.Series.{clenshaw, slopes, slope, speed, listed, blockOf, velocityBy, argument, velocity}
-use Rattle.series.specs.Axis.{axisNone, axisTurn, axisSpeed, axisOf}
-use Rattle.series.specs.declared.Velocity.{Velocity}
-use Rattle.series.specs.declared.known.Axis.{Axis}
+use Rattle.base.specs.Floats.{whole}
+use Rattle.book_check.specs.Contents.{floatOf, offsetOf, sizeOf, startOf, spanOf}
+use Rattle.book_series.specs.Series.{clenshaw, slopes, slope, speed, listed, blockOf, velocityBy, argument, velocity}
+use Rattle.book_series.specs.Axis.{axisNone, axisTurn, axisSpeed, axisOf}
+use Rattle.book_series.specs.declared.Velocity.{Velocity}
+use Rattle.book_series.specs.declared.inner.Axis.{Axis}
 
 module _ (w : Float) (f : ℕ → Float) where
   none : (j n : ℕ) → axisNone ≡ axisOf w (listed f j (n - n))

@@ -7,13 +7,13 @@ use lib.Ieee.{Float}
 use lib.Ieee.Scale.{finite}
 use native.Mathlib.Nat.{add-zero}
 use native.Mathlib.Omega.{arith}
-use Rattle.bookcheck.specs.Contents.{floatOf, offsetOf, sizeOf, startOf, spanOf}
+use Rattle.book_check.specs.Contents.{floatOf, offsetOf, sizeOf, startOf, spanOf}
 use Rattle.bookcheck.specs.Bytes.{floatAt}
-use Rattle.bookcheck.specs.Check.{floatsFinite}
-use Rattle.basis.specs.Floats.{zero64}
-use Rattle.series.specs.Series.{Pair, turn, lastTurn, clenshaw, series, listed, blockOf, placeBy, argument, place}
-use Rattle.series.specs.declared.Place.{Place}
-use Rattle.bookcheck.proofs.Below.{every}
+use Rattle.book_check.specs.Check.{floatsFinite}
+use Rattle.base.specs.Floats.{zero64}
+use Rattle.book_series.specs.Series.{Pair, turn, lastTurn, clenshaw, series, listed, blockOf, placeBy, argument, place}
+use Rattle.book_series.specs.declared.Place.{Place}
+use Rattle.book_check.proofs.Below.{every}
 
 abbrev pair : Float → Float → Pair
 pair x y = record { here = x; next = y }

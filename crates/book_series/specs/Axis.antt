@@ -1,9 +1,9 @@
 -- What the code carries of one axis from turn to turn: b(k), b(k+1), d(k), d(k+1). That it comes to `speed` is a law (proofs/Slopes.antt).
 use mathlib.Core.List.{List}
 use lib.Ieee.{Float}
-use Rattle.basis.specs.Floats.{_⊗_, _⊘_, zero64, whole}
-use Rattle.series.specs.Series.{Pair, turn, clenshaw, slopeTurn, lastSlope, slopes}
-use Rattle.series.specs.declared.known.Axis.{Axis}
+use Rattle.base.specs.Floats.{_⊗_, _⊘_, zero64, whole}
+use Rattle.book_series.specs.Series.{Pair, turn, clenshaw, slopeTurn, lastSlope, slopes}
+use Rattle.book_series.specs.declared.inner.Axis.{Axis}
 
 abbrev pub axisBy : Pair → Pair → Axis
 axisBy b d = record { here = b .here; next = b .next; slope = d .here; after = d .next }

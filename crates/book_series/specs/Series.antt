@@ -4,11 +4,11 @@ use Prim.Native.Nat.{ℕ, zero, suc, _+_, _*_, _<_, _≤_}
 use mathlib.Core.List.{List, [], _∷_}
 use lib.IntN.{pos, _-ℤ_, _*ℤ_}
 use lib.Ieee.{Float, binary64, ofBits, ofInt}
-use Rattle.basis.specs.Floats.{_⊕_, _⊖_, _⊗_, _⊘_, zero64, whole}
-use Rattle.basis.specs.Limits.{endOfTime}
-use Rattle.bookcheck.specs.Contents.{sizeOf, startOf, spanOf, coefficient}
-use Rattle.series.specs.declared.Place.{Place}
-use Rattle.series.specs.declared.Velocity.{Velocity}
+use Rattle.base.specs.Floats.{_⊕_, _⊖_, _⊗_, _⊘_, zero64, whole}
+use Rattle.base.specs.Limits.{endOfTime}
+use Rattle.book_check.specs.Contents.{sizeOf, startOf, spanOf, coefficient}
+use Rattle.book_series.specs.declared.Place.{Place}
+use Rattle.book_series.specs.declared.Velocity.{Velocity}
 
 -- 2w: the bits are those of 2.0
 abbrev pub twice : Float → Float

@@ -7,10 +7,10 @@ ghost use mathlib.Core.Bool.{true};
 ghost use mathlib.Core.Path.{_≡_};
 ghost use Prim.Native.Nat.{_+_, _*_, _≤_};
 ghost use lib.ListN.{length};
-ghost use Rattle.bookcheck.specs.Contents.{floatOf};
-ghost use Rattle.bookcheck.specs.Check.{floatsFinite};
-ghost use Rattle.series.specs.Series.{argument, InSpan, placeBy, velocityBy, blockOf};
-ghost use Rattle.series.specs.Axis.{axisNone, axisTurn, axisSpeed};
+ghost use Rattle.book_check.specs.Contents.{floatOf};
+ghost use Rattle.book_check.specs.Check.{floatsFinite};
+ghost use Rattle.book_series.specs.Series.{argument, InSpan, placeBy, velocityBy, blockOf};
+ghost use Rattle.book_series.specs.Axis.{axisNone, axisTurn, axisSpeed};
 
 // One axis of the series: b(k), b(k+1) of its value and d(k), d(k+1) of its slope.
 pub struct Axis {

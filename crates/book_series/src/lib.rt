@@ -1,6 +1,6 @@
 // The Chebyshev series of a book's entry: where its body stands, and how fast it goes.
 
-pub mod known;
+pub mod inner;
 
 pub struct Place {
     pub x: f64,

@@ -7,11 +7,11 @@
 use libc::STDERR_FILENO;
 use libc::STDIN_FILENO;
 use libc::STDOUT_FILENO;
-use mend::Changed;
-use mend::MOST_ENTRIES;
-use mend::RepairAnswer;
-use mend::Report;
-use text::Field;
+use repair_book::Changed;
+use repair_book::MOST_ENTRIES;
+use repair_book::RepairAnswer;
+use repair_book::Report;
+use text_write::Field;
 ghost use Prim.Native.Nat.{_≤_};
 ghost use lib.ListN.{length};
 
@@ -25,7 +25,7 @@ const NOT_ALLOWED: usize = book::LONGEST_BOOK + 1;
 fn room_of(word: &[u8]) -> usize
     ensures { λ r. ⌜ r ≤ 61_441 ⌝ }
 {
-    let field = text::read_decimal(word, 0);
+    let field = text_write::read_decimal(word, 0);
     let Field::Value(n, next) = field else {
         return NOT_ALLOWED;
     };
@@ -61,13 +61,13 @@ fn tell_numbered(n: usize, word: &[u8]) {
 }
 
 fn tell_reason(fate: u16) {
-    if fate == mend::FIELDS {
+    if fate == repair_book::FIELDS {
         tell(b" FIELDS\n");
-    } else if fate == mend::BLOCK {
+    } else if fate == repair_book::BLOCK {
         tell(b" BLOCK\n");
-    } else if fate == mend::COEFFICIENT {
+    } else if fate == repair_book::COEFFICIENT {
         tell(b" COEFF\n");
-    } else if fate == mend::OVERLAP {
+    } else if fate == repair_book::OVERLAP {
         tell(b" OVERLAP\n");
     } else {
         tell(b" ROOM\n");
@@ -135,7 +135,7 @@ fn print_written(output: &[u8], report: Report, fates: &[u16; MOST_ENTRIES]) {
 
 fn print_repaired(input: &[u8], output: &mut [u8]) {
     let mut fates = [0u16; MOST_ENTRIES];
-    let answer = mend::repair(input, output, &mut fates);
+    let answer = repair_book::repair(input, output, &mut fates);
     match answer {
         RepairAnswer::Written(report) => {
             print_written(output, report, &fates);

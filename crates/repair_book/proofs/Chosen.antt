@@ -2,12 +2,12 @@
 use Prim.Native.Nat.{ℕ}
 use mathlib.Core.List.{List}
 use mathlib.Core.Path.{_≡_, refl}
-use Rattle.look.specs.Reasons.{lookedAt, reasons}
-use Rattle.look.specs.Ordered.{ordered}
+use Rattle.repair_sort.specs.Reasons.{lookedAt, reasons}
+use Rattle.repair_sort.specs.Ordered.{ordered}
 use Rattle.forward.specs.Forward.{forward}
-use Rattle.forward.specs.Sized.{held}
-use Rattle.forward.proofs.Settled.{kept-free}
-use Rattle.mend.specs.Repaired.{repaired, keptOf}
+use Rattle.repair_choose.specs.Sized.{held}
+use Rattle.repair_choose.proofs.Settled.{kept-free}
+use Rattle.repair_book.specs.Repaired.{repaired, keptOf}
 
 module _ (b : List ℕ) (room : ℕ) where
   pub kept-of : (fates : List ℕ) → repaired b room fates .kept ≡ keptOf b room

@@ -6,9 +6,9 @@ use mathlib.Core.Path.{_≡_, refl, _∙_}
 use native.Mathlib.Omega.{arith}
 use lib.ListN.{length}
 use borrow.Author.Tests.{ltb-false, eq-eqb, ne-eqb}
-use Rattle.basis.specs.Choice.{if_then_else_, _<?_}
+use Rattle.base.specs.Choice.{if_then_else_, _<?_}
 use Rattle.mend.specs.Repaired.{repairRefusal, told, mended, repairAnswer, outputAfter, fatesAfter, repairOutcome}
-use Rattle.mend.specs.declared.RepairAnswer.the-variants.{Refused}
+use Rattle.repair_book.specs.declared.RepairAnswer.the-variants.{Refused}
 
 by-tests : (x y z : Bool) → _≡_ {A = ℕ} (if x || y then 16 else if z then 1 else 0) 0 → (x ≡ false) × (y ≡ false) × (z ≡ false)
 by-tests true y z h = absurd (omega arith)

@@ -4,15 +4,15 @@ use Prim.Native.Nat.{ℕ, min}
 use mathlib.Core.Bool.{_||_}
 use mathlib.Core.List.{List, []}
 use lib.ListN.{length}
-use Rattle.basis.specs.Choice.{if_then_else_, _<?_, _=?_}
+use Rattle.base.specs.Choice.{if_then_else_, _<?_, _=?_}
 use Rattle.book.specs.Passes.{longestBook}
-use Rattle.look.specs.Reasons.{lookedAt, reasons}
-use Rattle.look.specs.Ordered.{ordered}
-use Rattle.anew.specs.Anew.{bookAnew, withText}
-use Rattle.forward.specs.Forward.{Sofar, forward}
-use Rattle.mend.specs.Report.{reportOf}
-use Rattle.mend.specs.declared.RepairAnswer.{RepairAnswer}
-use Rattle.mend.specs.declared.RepairAnswer.the-variants.{Written, Refused}
+use Rattle.repair_sort.specs.Reasons.{lookedAt, reasons}
+use Rattle.repair_sort.specs.Ordered.{ordered}
+use Rattle.repair_write.specs.Anew.{bookAnew, withText}
+use Rattle.repair_choose.specs.Forward.{Sofar, forward}
+use Rattle.repair_book.specs.Report.{reportOf}
+use Rattle.repair_book.specs.declared.RepairAnswer.{RepairAnswer}
+use Rattle.repair_book.specs.declared.RepairAnswer.the-variants.{Written, Refused}
 
 -- "Refusals: input or output of fewer than 8 bytes is 16, then input above the limit is 1"; 0 where there is none
 abbrev pub repairRefusal : ℕ → ℕ → ℕ

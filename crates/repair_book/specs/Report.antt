@@ -3,13 +3,13 @@ use Prim.Native.Nat.{ℕ, _+_, _-_}
 use mathlib.Core.Bool.{Bool, not}
 use mathlib.Core.List.{List}
 use lib.ListN.{length, getD}
-use Rattle.basis.specs.Choice.{_<?_, _=?_}
+use Rattle.base.specs.Choice.{_<?_, _=?_}
 use Rattle.book.specs.Contents.{statedTotal, entryCount, offsetOf}
 use Rattle.book.specs.Passes.{allBelow}
-use Rattle.look.specs.Reasons.{lookedAt}
-use Rattle.anew.specs.Anew.{bookLength, placeAnew}
-use Rattle.mend.specs.declared.Changed.{Changed}
-use Rattle.mend.specs.declared.Report.{Report}
+use Rattle.repair_sort.specs.Reasons.{lookedAt}
+use Rattle.repair_write.specs.Anew.{bookLength, placeAnew}
+use Rattle.repair_book.specs.declared.Changed.{Changed}
+use Rattle.repair_book.specs.declared.Report.{Report}
 
 -- the written total against the stated one
 abbrev pub totalChanged : List ℕ → List ℕ → Bool

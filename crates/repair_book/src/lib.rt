@@ -4,31 +4,31 @@ mod marks;
 
 use anew::known::write_book;
 use book::LONGEST_BOOK;
-use forward::Kept;
-use forward::known::go_forward;
-use look::known::looked_at;
-use look::known::put_in_order;
+use repair_choose::Kept;
+use repair_choose::inner::go_forward;
+use repair_sort::inner::looked_at;
+use repair_sort::inner::put_in_order;
 use marks::report;
 ghost use mathlib.Core.Path.{_≡_};
 ghost use Prim.Native.Nat.{_≤_};
 ghost use lib.ListN.{length};
-ghost use Rattle.forward.specs.Sized.{held, Sized};
+ghost use Rattle.repair_choose.specs.Sized.{held, Sized};
 ghost use Rattle.mend.specs.Repaired.{repairRefusal, roomOf, repaired, told, mended, repairOutcome};
-ghost use Rattle.mend.specs.declared.RepairAnswer.the-variants.{Written};
+ghost use Rattle.repair_book.specs.declared.RepairAnswer.the-variants.{Written};
 
 // As many as the longest book can have in its contents.
-pub const MOST_ENTRIES: usize = look::MOST_ENTRIES;
+pub const MOST_ENTRIES: usize = repair_sort::MOST_ENTRIES;
 
 // Fates: an entry that is kept has its new number, which is below MOST_ENTRIES.
-pub const FIELDS: u16 = look::FIELDS;
+pub const FIELDS: u16 = repair_sort::FIELDS;
 
-pub const BLOCK: u16 = look::BLOCK;
+pub const BLOCK: u16 = repair_sort::BLOCK;
 
-pub const COEFFICIENT: u16 = look::COEFFICIENT;
+pub const COEFFICIENT: u16 = repair_sort::COEFFICIENT;
 
-pub const OVERLAP: u16 = look::OVERLAP;
+pub const OVERLAP: u16 = repair_sort::OVERLAP;
 
-pub const ROOM: u16 = look::ROOM;
+pub const ROOM: u16 = repair_sort::ROOM;
 
 pub struct Changed {
     pub total: bool,

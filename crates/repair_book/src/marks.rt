@@ -3,15 +3,15 @@
 use crate::Changed;
 use crate::Report;
 use book::bytes::u32_at;
-use book::known::offset_of;
-use book::known::size_of;
-use look::known::looked_at;
+use book::inner::offset_of;
+use book::inner::size_of;
+use repair_sort::inner::looked_at;
 ghost use mathlib.Core.Path.{_≡_};
 ghost use Prim.Native.Nat.{_≤_};
 ghost use lib.ListN.{length};
-ghost use Rattle.look.specs.Held.{AllSound};
-ghost use Rattle.anew.specs.Anew.{bookLength};
-ghost use Rattle.mend.specs.Report.{asInContents, offsetsStay, changedOf, reportOf};
+ghost use Rattle.repair_sort.specs.Held.{AllSound};
+ghost use Rattle.repair_write.specs.Anew.{bookLength};
+ghost use Rattle.repair_book.specs.Report.{asInContents, offsetsStay, changedOf, reportOf};
 
 fn as_in_contents(kept: &[u16]) -> bool
     ensures { λ r. ⌜ r ≡ asInContents (now (kept .entry)) ⌝ }

@@ -9,14 +9,14 @@ use lib.ListN.{length, take, drop, getD, set, length-set, drop-of-length-le}
 use lib.Seq.{take-suc-set, drop-cons, length-take-le, getD-take, getD-set-same}
 use borrow.Author.Tests.{le-leb, lt-leb, eqb-false}
 use Rattle.book.specs.Contents.{blockLength}
-use Rattle.look.specs.Fates.{overlapping, noRoom}
-use Rattle.anew.specs.Anew.{bookLength}
-use Rattle.basis.specs.Choice.{if_then_else_, _=?_}
+use Rattle.repair_sort.specs.Fates.{overlapping, noRoom}
+use Rattle.repair_write.specs.Anew.{bookLength}
+use Rattle.base.specs.Choice.{if_then_else_, _=?_}
 use Rattle.forward.specs.Forward.{Sofar, overlapsLast, hasRoom, keep, let-go, settle, forward}
-use Rattle.look.specs.Held.{Sound}
-use Rattle.forward.specs.Sized.{held, Sized, overlapsAt}
-use Rattle.look.proofs.Sounds.{sound-at, sound-more}
-use Rattle.anew.proofs.Books.{book-longer}
+use Rattle.repair_sort.specs.Held.{Sound}
+use Rattle.repair_choose.specs.Sized.{held, Sized, overlapsAt}
+use Rattle.repair_sort.proofs.Sounds.{sound-at, sound-more}
+use Rattle.repair_write.proofs.Books.{book-longer}
 
 module _ (b kept fates : List ℕ) (room count i : ℕ) where
   pub settled-overlap : overlapsLast b (take count kept) i ≡ true → held kept count (set fates i overlapping) ≡ settle b room (held kept count fates) i

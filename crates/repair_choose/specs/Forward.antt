@@ -4,10 +4,10 @@ use Prim.Native.Nat.{ℕ, _-_}
 use mathlib.Core.Bool.{Bool, false}
 use mathlib.Core.List.{List, [], _∷_, _++_}
 use lib.ListN.{length, getD, set}
-use Rattle.basis.specs.Choice.{if_then_else_, _≤?_, _=?_}
+use Rattle.base.specs.Choice.{if_then_else_, _≤?_, _=?_}
 use Rattle.book.specs.Passes.{overlaps}
-use Rattle.look.specs.Fates.{overlapping, noRoom}
-use Rattle.anew.specs.Anew.{bookLength}
+use Rattle.repair_sort.specs.Fates.{overlapping, noRoom}
+use Rattle.repair_write.specs.Anew.{bookLength}
 
 -- how far the pass is: the entries kept, in their new order, and the fates so far
 pub record Sofar : Type 0 where

@@ -4,11 +4,11 @@ use mathlib.Core.Bool.{Bool, false}
 use mathlib.Core.List.{List}
 use mathlib.Core.Path.{_≡_}
 use lib.ListN.{length, take, getD}
-use Rattle.basis.specs.Choice.{if_then_else_, _=?_}
+use Rattle.base.specs.Choice.{if_then_else_, _=?_}
 use Rattle.book.specs.Passes.{overlaps}
-use Rattle.look.specs.Held.{AllSound}
-use Rattle.anew.specs.Anew.{bookLength}
-use Rattle.forward.specs.Forward.{Sofar}
+use Rattle.repair_sort.specs.Held.{AllSound}
+use Rattle.repair_write.specs.Anew.{bookLength}
+use Rattle.repair_choose.specs.Forward.{Sofar}
 
 -- the first `count` of the one array are kept; the other has the fates
 abbrev pub held : List ℕ → ℕ → List ℕ → Sofar

@@ -5,9 +5,9 @@ use crate::settle::settle_one;
 ghost use mathlib.Core.Path.{_≡_};
 ghost use Prim.Native.Nat.{_≤_};
 ghost use lib.ListN.{length};
-ghost use Rattle.look.specs.Held.{AllSound};
+ghost use Rattle.repair_sort.specs.Held.{AllSound};
 ghost use Rattle.forward.specs.Forward.{forward};
-ghost use Rattle.forward.specs.Sized.{held, Sized};
+ghost use Rattle.repair_choose.specs.Sized.{held, Sized};
 
 pub fn go_forward(
     input: &[u8],

@@ -1,6 +1,6 @@
 // Going forward through the entries in order: overlap, then room.
 
-pub mod known;
+pub mod inner;
 mod settle;
 
 // How many entries are kept, the last one of them where there is one, and the length of the book that holds them.

@@ -3,16 +3,16 @@
 use crate::Kept;
 use book::bytes::u16_at;
 use book::bytes::u64_at;
-use book::known::size_of;
-use look::OVERLAP;
-use look::ROOM;
+use book::inner::size_of;
+use repair_sort::OVERLAP;
+use repair_sort::ROOM;
 ghost use mathlib.Core.Path.{_≡_};
 ghost use Prim.Native.Nat.{_+_, _<_, _≤_};
 ghost use lib.ListN.{length};
 ghost use Rattle.book.specs.Passes.{overlaps};
-ghost use Rattle.look.specs.Held.{Sound};
+ghost use Rattle.repair_sort.specs.Held.{Sound};
 ghost use Rattle.forward.specs.Forward.{settle};
-ghost use Rattle.forward.specs.Sized.{held, Sized, overlapsAt};
+ghost use Rattle.repair_choose.specs.Sized.{held, Sized, overlapsAt};
 
 // Of two entries with allowed fields: neither end wraps.
 fn overlap(input: &[u8], i: usize, j: usize) -> bool

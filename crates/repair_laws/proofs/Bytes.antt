@@ -10,9 +10,9 @@ use lib.Seq.{drop-cons, drop-drop, take-add, getD-append-add, getD-take, getD-dr
 use borrow.Author.Tests.{ltb-true, ltb-false}
 use lib.Dec.{ltb}
 use Rattle.book.specs.Bytes.{u16At, u32At}
-use Rattle.anew.specs.Anew.{part, le32, bookLength, entryAnew, contentsAnew, blocksAnew, bookAnew}
+use Rattle.repair_write.specs.Anew.{part, le32, bookLength, entryAnew, contentsAnew, blocksAnew, bookAnew}
 use Rattle.book.specs.Contents.{entryAt, offsetOf, blockLength}
-use Rattle.mended.specs.Laws.{Bytes}
+use Rattle.repair_laws.specs.Laws.{Bytes}
 
 lowest : (a m : ℕ) → a < 256 → (a + 256 * m) % 256 ≡ a
 lowest a m h = omega arith

@@ -10,17 +10,17 @@ use native.Mathlib.Omega.{arith}
 use lib.ListN.{length, getD, length-append, List·getD-append}
 use lib.Seq.{getD-at}
 use borrow.Author.Tests.{ltb-false, lt-ltb, eq-eqb, ne-eqb, leb-true}
-use Rattle.basis.specs.Choice.{if_then_else_, _<?_, _=?_}
+use Rattle.base.specs.Choice.{if_then_else_, _<?_, _=?_}
 use Rattle.book.specs.Contents.{bodyOf, startOf, endOf}
 use Rattle.book.specs.Passes.{ascends, overlaps}
 use Rattle.book.proofs.Passing.{InOrder, allowed-of}
-use Rattle.anew.specs.Anew.{bookLength}
+use Rattle.repair_write.specs.Anew.{bookLength}
 use Rattle.forward.specs.Forward.{Sofar, overlapsLast, hasRoom, keep, let-go, settle, forward}
-use Rattle.look.specs.Reasons.{lookedAt}
-use Rattle.look.specs.Ordered.{ordered}
-use Rattle.look.specs.Held.{Sound, AllSound}
-use Rattle.look.proofs.Sounds.{ordered-sound, sound-more, sound-at}
-use Rattle.look.proofs.Keys.{not-before}
+use Rattle.repair_sort.specs.Reasons.{lookedAt}
+use Rattle.repair_sort.specs.Ordered.{ordered}
+use Rattle.repair_sort.specs.Held.{Sound, AllSound}
+use Rattle.repair_sort.proofs.Sounds.{ordered-sound, sound-more, sound-at}
+use Rattle.repair_sort.proofs.Keys.{not-before}
 use Rattle.look.proofs.Inserted.{NoneBefore, Sorted, ordered-sorted}
 
 not-third : (x y z : Bool) → (x && y && z) ≡ false → x ≡ true → y ≡ true → z ≡ false

@@ -10,16 +10,16 @@ use native.Mathlib.Omega.{arith}
 use lib.ListN.{length, getD, length-set, length-append, List·getD-append}
 use lib.Seq.{getD-at, getD-set-same, getD-set-other}
 use borrow.Author.Tests.{eqb-true, eq-eqb, ne-eqb}
-use Rattle.basis.specs.Choice.{if_then_else_, _=?_}
+use Rattle.base.specs.Choice.{if_then_else_, _=?_}
 use Rattle.book.specs.Passes.{ascends}
-use Rattle.look.specs.Fates.{goesOn, overlapping, noRoom}
-use Rattle.look.specs.Reasons.{lookedAt, firstReason, reasons}
-use Rattle.look.specs.Ordered.{insert, ordered}
+use Rattle.repair_sort.specs.Fates.{goesOn, overlapping, noRoom}
+use Rattle.repair_sort.specs.Reasons.{lookedAt, firstReason, reasons}
+use Rattle.repair_sort.specs.Ordered.{insert, ordered}
 use Rattle.forward.specs.Forward.{Sofar, overlapsLast, hasRoom, keep, let-go, settle, forward}
-use Rattle.mend.specs.Repaired.{repaired, keptOf}
-use Rattle.mend.proofs.Chosen.{kept-of}
-use Rattle.look.proofs.Either.{either-way}
-use Rattle.forward.proofs.Settled.{kept-free}
+use Rattle.repair_book.specs.Repaired.{repaired, keptOf}
+use Rattle.repair_book.proofs.Chosen.{kept-of}
+use Rattle.repair_sort.proofs.Either.{either-way}
+use Rattle.repair_choose.proofs.Settled.{kept-free}
 use Rattle.mended.specs.Laws.{NotIn, Once, keptAmong, Settled}
 use Rattle.mended.proofs.Chain.{start-chained, forward-through}
 use Rattle.mended.proofs.OwnBody.{own-last}

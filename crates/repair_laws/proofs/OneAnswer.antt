@@ -2,9 +2,9 @@
 -- together. Assumes nothing.
 use mathlib.Core.Path.{refl}
 use denote.Ref.{now}
-use Rattle.basis.proofs.OneAnswer.{Tell, OneOutcome, one-outcome}
+use Rattle.base.proofs.OneAnswer.{Tell, OneOutcome, one-outcome}
 use Rattle.mend.specs.Repaired.{Outcome, told, repairOutcome}
-use Rattle.mend.proofs.repair as repair
+use Rattle.repair_book.proofs.repair as repair
 
 abbrev tell-repair : Tell repair.ended (λ κs. Outcome)
 tell-repair κs r after = told r (now (after .1 .0)) (now (after .1 .1 .0))

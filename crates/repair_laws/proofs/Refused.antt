@@ -4,12 +4,12 @@ use mathlib.Core.List.{List}
 use mathlib.Core.Path.{_≡_, refl}
 use Prim.Native.Nat.{ℕ}
 use lib.ListN.{length}
-use Rattle.basis.specs.Choice.{if_then_else_, _<?_, _=?_}
-use Rattle.mend.specs.Repaired.{roomOf, keptOf, repairAnswer}
-use Rattle.mend.specs.Report.{reportOf}
-use Rattle.mend.specs.declared.Report.{Report}
-use Rattle.mend.specs.declared.RepairAnswer.{RepairAnswer}
-use Rattle.mend.specs.declared.RepairAnswer.the-variants.{Written, Refused}
+use Rattle.base.specs.Choice.{if_then_else_, _<?_, _=?_}
+use Rattle.repair_book.specs.Repaired.{roomOf, keptOf, repairAnswer}
+use Rattle.repair_book.specs.Report.{reportOf}
+use Rattle.repair_book.specs.declared.Report.{Report}
+use Rattle.repair_book.specs.declared.RepairAnswer.{RepairAnswer}
+use Rattle.repair_book.specs.declared.RepairAnswer.the-variants.{Written, Refused}
 
 -- an answer whose refusal, if it is one, meets the test
 abbrev pub refusedBy : (ℕ → Bool) → RepairAnswer → Bool

@@ -7,16 +7,16 @@ use mathlib.Core.Path.{_≡_}
 use native.Mathlib.Nat.{not-suc-le-zero, le-of-suc-le-suc}
 use native.Mathlib.Omega.{arith}
 use lib.ListN.{length, getD}
-use Rattle.basis.specs.Choice.{_=?_}
+use Rattle.base.specs.Choice.{_=?_}
 use Rattle.book.specs.Passes.{ascends}
 use Rattle.book.proofs.Below.{clash}
-use Rattle.look.specs.Fates.{goesOn}
-use Rattle.look.specs.Reasons.{firstReason}
-use Rattle.look.specs.Ordered.{insert, ordered}
-use Rattle.look.proofs.Either.{either-way}
-use Rattle.look.proofs.Keys.{not-before-through}
-use Rattle.look.proofs.Inserted.{NoneBefore, Sorted, none-at, ordered-sorted}
-use Rattle.mended.specs.Laws.{Stable}
+use Rattle.repair_sort.specs.Fates.{goesOn}
+use Rattle.repair_sort.specs.Reasons.{firstReason}
+use Rattle.repair_sort.specs.Ordered.{insert, ordered}
+use Rattle.repair_sort.proofs.Either.{either-way}
+use Rattle.repair_sort.proofs.Keys.{not-before-through}
+use Rattle.repair_sort.proofs.Inserted.{NoneBefore, Sorted, none-at, ordered-sorted}
+use Rattle.repair_laws.specs.Laws.{Stable}
 
 module _ (b : List ℕ) where
   -- every entry of a list stands before n in the contents

@@ -8,10 +8,10 @@ use lib.ListN.{length, take, drop, getD, length-append, List·getD-append}
 use lib.Seq.{getD-append-add, getD-take, getD-drop}
 use Rattle.book.specs.Bytes.{u16At, u32At, u64At}
 use Rattle.book.specs.Contents.{blockLength}
-use Rattle.anew.specs.Anew.{part, le32, blocksLength, entryAnew, contentsAnew, blockBytes, blocksAnew}
-use Rattle.look.specs.Held.{AllSound}
-use Rattle.anew.proofs.Texts.{part-length}
-use Rattle.anew.proofs.Books.{entry-length}
+use Rattle.repair_write.specs.Anew.{part, le32, blocksLength, entryAnew, contentsAnew, blockBytes, blocksAnew}
+use Rattle.repair_sort.specs.Held.{AllSound}
+use Rattle.repair_write.proofs.Texts.{part-length}
+use Rattle.repair_write.proofs.Books.{entry-length}
 
 -- from `at` on, w reads as the text
 pub Stands : List ℕ → ℕ → List ℕ → Type 0

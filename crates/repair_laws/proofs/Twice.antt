@@ -9,15 +9,15 @@ use borrow.Author.Tests.{eq-eqb, le-ltb}
 use Rattle.book.specs.Contents.{entryCount}
 use Rattle.book.specs.Passes.{passes}
 use Rattle.book.proofs.Passing.{Passing, passing, contents-inside}
-use Rattle.anew.specs.Anew.{bookAnew}
-use Rattle.mend.specs.Report.{reportOf}
-use Rattle.mend.specs.Repaired.{repairRefusal, roomOf, keptOf, repairAnswer, outputAfter, fatesAfter}
-use Rattle.mend.proofs.Refusals.{refused-none}
-use Rattle.mend.specs.declared.RepairAnswer.the-variants.{Written}
+use Rattle.repair_write.specs.Anew.{bookAnew}
+use Rattle.repair_book.specs.Report.{reportOf}
+use Rattle.repair_book.specs.Repaired.{repairRefusal, roomOf, keptOf, repairAnswer, outputAfter, fatesAfter}
+use Rattle.repair_book.proofs.Refusals.{refused-none}
+use Rattle.repair_book.specs.declared.RepairAnswer.the-variants.{Written}
 use Rattle.mended.specs.Laws.{Bytes, Copied}
-use Rattle.mended.proofs.Written.{kept-chained, written-passes, written-copied, book-length}
-use Rattle.mended.proofs.Bytes.{bytes-anew}
-use Rattle.mended.proofs.Whole.{upTo-length, book-all, same-book}
+use Rattle.repair_laws.proofs.Written.{kept-chained, written-passes, written-copied, book-length}
+use Rattle.repair_laws.proofs.Bytes.{bytes-anew}
+use Rattle.repair_laws.proofs.Whole.{upTo-length, book-all, same-book}
 use Rattle.mended.proofs.Unchanged.{all-looked, kept-whole, repaired-whole, nothing-changed, told}
 
 -- the book that a call writes

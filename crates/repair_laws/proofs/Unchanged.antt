@@ -9,21 +9,21 @@ use native.Mathlib.Omega.{arith}
 use lib.ListN.{length, take, getD, length-set, List·getD-append}
 use lib.Seq.{getD-at, getD-set-same, getD-set-other, take-all, take-append-le}
 use borrow.Author.Tests.{le-leb, lt-ltb, eq-eqb, ne-eqb}
-use Rattle.basis.specs.Choice.{_<?_, _=?_}
+use Rattle.base.specs.Choice.{_<?_, _=?_}
 use Rattle.book.specs.Contents.{statedTotal, entryCount, entryAt, offsetOf, blockLength}
 use Rattle.book.specs.Passes.{ascends, overlaps}
 use Rattle.book.proofs.Below.{every-back}
 use Rattle.book.proofs.Passing.{Passing, allowed-back, apart-back, block-inside, contents-inside}
-use Rattle.look.specs.Fates.{goesOn}
-use Rattle.look.specs.Reasons.{lookedAt, blockInside, firstReason, reasons}
-use Rattle.look.specs.Ordered.{insert, ordered}
-use Rattle.anew.specs.Anew.{blocksLength, bookLength, placeAnew}
+use Rattle.repair_sort.specs.Fates.{goesOn}
+use Rattle.repair_sort.specs.Reasons.{lookedAt, blockInside, firstReason, reasons}
+use Rattle.repair_sort.specs.Ordered.{insert, ordered}
+use Rattle.repair_write.specs.Anew.{blocksLength, bookLength, placeAnew}
 use Rattle.forward.specs.Forward.{Sofar, overlapsLast, hasRoom, settle, forward}
-use Rattle.mend.specs.Report.{asInContents, offsetsStay, changedOf}
-use Rattle.mend.specs.Repaired.{repaired, keptOf}
-use Rattle.look.proofs.Keys.{not-before-back}
-use Rattle.mended.specs.Laws.{upTo, numbered}
-use Rattle.mended.proofs.Whole.{upTo-length, blocks-upTo, book-upTo, book-all}
+use Rattle.repair_book.specs.Report.{asInContents, offsetsStay, changedOf}
+use Rattle.repair_book.specs.Repaired.{repaired, keptOf}
+use Rattle.repair_sort.proofs.Keys.{not-before-back}
+use Rattle.repair_laws.specs.Laws.{upTo, numbered}
+use Rattle.repair_laws.proofs.Whole.{upTo-length, blocks-upTo, book-upTo, book-all}
 
 -- ---- the entries in their own order
 pub upTo-at : (n k : ℕ) → k < n → getD (upTo n) k 0 ≡ k

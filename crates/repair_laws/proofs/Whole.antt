@@ -8,10 +8,10 @@ use lib.Seq.{take-all}
 use Rattle.book.specs.Contents.{entryCount, entryAt, blockLength}
 use Rattle.book.specs.Passes.{blockPlace}
 use Rattle.book.proofs.Passing.{Passing, later-block, contents-inside}
-use Rattle.anew.specs.Anew.{part, blocksLength, bookLength, entryAnew, contentsAnew, blocksAnew, bookAnew}
-use Rattle.anew.proofs.Books.{contents-more, blocks-more, blocks-longer}
-use Rattle.mended.specs.Laws.{Bytes, upTo}
-use Rattle.mended.proofs.Bytes.{parts-join, written-back}
+use Rattle.repair_write.specs.Anew.{part, blocksLength, bookLength, entryAnew, contentsAnew, blocksAnew, bookAnew}
+use Rattle.repair_write.proofs.Books.{contents-more, blocks-more, blocks-longer}
+use Rattle.repair_laws.specs.Laws.{Bytes, upTo}
+use Rattle.repair_laws.proofs.Bytes.{parts-join, written-back}
 
 pub upTo-length : (n : ℕ) → length (upTo n) ≡ n
 upTo-length zero = refl

@@ -14,17 +14,17 @@ use Rattle.book.specs.Passes.{blockPlace, coefficientsFinite, passes}
 use Rattle.book.proofs.Below.{every, every-back}
 use Rattle.book.proofs.Passing.{Allowed, InOrder, allowed-of}
 use Rattle.book.proofs.Checked.{Checked, by-length}
-use Rattle.look.specs.Reasons.{lookedAt, reasons}
-use Rattle.look.specs.Ordered.{ordered}
-use Rattle.anew.specs.Anew.{part, le32, blocksLength, bookLength, entryAnew, contentsAnew, blocksAnew, bookAnew, placeAnew}
-use Rattle.look.specs.Held.{Sound, AllSound}
-use Rattle.mend.specs.Repaired.{repaired, keptOf}
-use Rattle.anew.proofs.Texts.{part-length, le32-length}
-use Rattle.anew.proofs.Books.{contents-length, blocks-length, place-inside, blocks-before}
-use Rattle.look.proofs.Sounds.{sound-at}
+use Rattle.repair_sort.specs.Reasons.{lookedAt, reasons}
+use Rattle.repair_sort.specs.Ordered.{ordered}
+use Rattle.repair_write.specs.Anew.{part, le32, blocksLength, bookLength, entryAnew, contentsAnew, blocksAnew, bookAnew, placeAnew}
+use Rattle.repair_sort.specs.Held.{Sound, AllSound}
+use Rattle.repair_book.specs.Repaired.{repaired, keptOf}
+use Rattle.repair_write.proofs.Texts.{part-length, le32-length}
+use Rattle.repair_write.proofs.Books.{contents-length, blocks-length, place-inside, blocks-before}
+use Rattle.repair_sort.proofs.Sounds.{sound-at}
 use Rattle.mended.specs.Laws.{Copied}
-use Rattle.mended.proofs.Stands.{Stands, Same, stands-left, stands-right, stands-whole, same-part, same-u16, same-u64, read-back, entry-stands, block-stands}
-use Rattle.mended.proofs.Chain.{Chained, start-chained, forward-through}
+use Rattle.repair_laws.proofs.Stands.{Stands, Same, stands-left, stands-right, stands-whole, same-part, same-u16, same-u64, read-back, entry-stands, block-stands}
+use Rattle.repair_laws.proofs.Chain.{Chained, start-chained, forward-through}
 
 module _ (b kept : List ℕ) (sound : AllSound b kept) (limit : bookLength b kept ≤ 61_440) where
   w : List ℕ

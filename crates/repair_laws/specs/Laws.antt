@@ -10,9 +10,9 @@ use Rattle.basis.specs.Choice.{if_then_else_, _=?_}
 use Rattle.book.specs.Bytes.{u64At}
 use Rattle.book.specs.Contents.{bodyOf, sizeOf, offsetOf, startOf, spanOf}
 use Rattle.book.specs.Passes.{ascends, overlaps}
-use Rattle.look.specs.Fates.{overlapping, noRoom}
-use Rattle.look.specs.Reasons.{lookedAt}
-use Rattle.look.specs.Ordered.{ordered}
+use Rattle.repair_sort.specs.Fates.{overlapping, noRoom}
+use Rattle.repair_sort.specs.Reasons.{lookedAt}
+use Rattle.repair_sort.specs.Ordered.{ordered}
 use Rattle.forward.specs.Forward.{hasRoom, forward}
 
 -- a list of bytes: what a slice of u8 holds

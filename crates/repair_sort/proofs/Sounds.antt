@@ -8,14 +8,14 @@ use native.Mathlib.Nat.{not-suc-le-zero, le-of-suc-le-suc}
 use native.Mathlib.Omega.{arith}
 use lib.ListN.{length, getD, take}
 use borrow.Author.Tests.{leb-true, eqb-true}
-use Rattle.basis.specs.Choice.{if_then_else_, _=?_}
+use Rattle.base.specs.Choice.{if_then_else_, _=?_}
 use Rattle.book.specs.Contents.{entryAt, offsetOf, blockLength}
 use Rattle.book.specs.Passes.{fieldsAllowed, ascends, coefficientsFinite}
-use Rattle.look.specs.Fates.{goesOn}
-use Rattle.look.specs.Reasons.{blockInside, firstReason}
-use Rattle.look.specs.Ordered.{insert, ordered}
-use Rattle.look.specs.Held.{Sound, AllSound}
-use Rattle.look.proofs.Either.{either-way}
+use Rattle.repair_sort.specs.Fates.{goesOn}
+use Rattle.repair_sort.specs.Reasons.{blockInside, firstReason}
+use Rattle.repair_sort.specs.Ordered.{insert, ordered}
+use Rattle.repair_sort.specs.Held.{Sound, AllSound}
+use Rattle.repair_sort.proofs.Either.{either-way}
 
 none : (f k c : Bool) → _≡_ {A = ℕ} (if f then (if k then (if c then 3_000 else 3_003) else 3_002) else 3_001) 3_000 → (f ≡ true) × (k ≡ true) × (c ≡ true)
 none true true true h = (refl, refl, refl)

@@ -3,10 +3,10 @@ use Prim.Native.Nat.{ℕ, zero, suc, _+_, _-_, _/_, min}
 use mathlib.Core.Bool.{Bool}
 use mathlib.Core.List.{List}
 use lib.ListN.{length, set}
-use Rattle.basis.specs.Choice.{if_then_else_, _≤?_, _=?_}
+use Rattle.base.specs.Choice.{if_then_else_, _≤?_, _=?_}
 use Rattle.book.specs.Contents.{entryCount, offsetOf, blockLength}
 use Rattle.book.specs.Passes.{fieldsAllowed, coefficientsFinite}
-use Rattle.look.specs.Fates.{badFields, blockOutside, notFinite, goesOn}
+use Rattle.repair_sort.specs.Fates.{badFields, blockOutside, notFinite, goesOn}
 
 -- "It looks at as many stated entries as the input has room for": 24 bytes an entry behind the header of 8
 abbrev pub lookedAt : List ℕ → ℕ

@@ -1,6 +1,6 @@
 // The entries of a damaged book: which are looked at, the first reason for which one is dropped, and the order of the rest.
 
-pub mod known;
+pub mod inner;
 mod order;
 mod reasons;
 

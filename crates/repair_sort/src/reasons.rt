@@ -3,15 +3,15 @@
 use crate::BLOCK;
 use crate::COEFFICIENT;
 use crate::FIELDS;
-use book::known::fields_allowed;
-use book::known::floats_finite;
-use book::known::offset_of;
-use book::known::size_of;
+use book::inner::fields_allowed;
+use book::inner::floats_finite;
+use book::inner::offset_of;
+use book::inner::size_of;
 ghost use mathlib.Core.Path.{_≡_};
 ghost use Prim.Native.Nat.{_+_, _≤_};
 ghost use lib.ListN.{length};
 ghost use Rattle.book.specs.Contents.{entryAt};
-ghost use Rattle.look.specs.Reasons.{firstReason};
+ghost use Rattle.repair_sort.specs.Reasons.{firstReason};
 
 // An entry that has none of these reasons.
 pub const GOES_ON: u16 = 3_000;

@@ -8,10 +8,10 @@ use lib.ListN.{length, take, drop, getD, length-append}
 use native.Mathlib.Numerals.{add-one}
 use lib.Seq.{take-suc, length-take-le}
 use Rattle.book.specs.Contents.{entryAt, blockLength}
-use Rattle.anew.specs.Anew.{part, le32, blocksLength, bookLength, entryAnew, contentsAnew, blockBytes, blocksAnew, withText}
-use Rattle.look.specs.Held.{AllSound}
-use Rattle.anew.proofs.Texts.{part-length, le32-length, joined}
-use Rattle.look.proofs.Sounds.{sound-at, sound-take}
+use Rattle.repair_write.specs.Anew.{part, le32, blocksLength, bookLength, entryAnew, contentsAnew, blockBytes, blocksAnew, withText}
+use Rattle.repair_sort.specs.Held.{AllSound}
+use Rattle.repair_write.proofs.Texts.{part-length, le32-length, joined}
+use Rattle.repair_sort.proofs.Sounds.{sound-at, sound-take}
 
 module _ (b : List ℕ) where
   pub blocks-longer : (l : List ℕ) (i : ℕ) → blocksLength b (l ++ (i ∷ [])) ≡ blocksLength b l + blockLength b i

@@ -6,7 +6,7 @@ use native.Mathlib.Nat.{add-zero, add-assoc}
 use native.Mathlib.Omega.{arith}
 use lib.ListN.{length, take, drop, set, length-append, length-drop, take-append-drop}
 use lib.Seq.{length-take-le, take-at, drop-append-add, drop-drop, sets-eq, paste}
-use Rattle.anew.specs.Anew.{part, le32, withText}
+use Rattle.repair_write.specs.Anew.{part, le32, withText}
 
 module _ (d : List ℕ) (at : ℕ) where
   pub no-text : withText d at [] ≡ d

@@ -1,14 +1,14 @@
 // The blocks, one behind the other: the input's bytes.
 
 use crate::bytes::copy;
-use book::known::offset_of;
-use book::known::size_of;
+use book::inner::offset_of;
+use book::inner::size_of;
 ghost use mathlib.Core.Path.{_≡_};
 ghost use Prim.Native.Nat.{_≤_};
 ghost use lib.ListN.{length};
 ghost use Rattle.book.specs.Contents.{entryAt};
-ghost use Rattle.look.specs.Held.{AllSound};
-ghost use Rattle.anew.specs.Anew.{bookLength, blocksAnew, withText};
+ghost use Rattle.repair_sort.specs.Held.{AllSound};
+ghost use Rattle.repair_write.specs.Anew.{bookLength, blocksAnew, withText};
 
 pub fn write_blocks(input: &[u8], kept: &[u16], out: &mut [u8])
     requires { ⌜ AllSound (now input) (now kept) × (bookLength (now input) (now kept) ≤ 61_440) × (bookLength (now input) (now kept) ≤ length (now out)) ⌝ }

@@ -3,7 +3,7 @@
 ghost use mathlib.Core.Path.{_≡_};
 ghost use Prim.Native.Nat.{_+_, _≤_};
 ghost use lib.ListN.{length};
-ghost use Rattle.anew.specs.Anew.{part, le32, withText};
+ghost use Rattle.repair_write.specs.Anew.{part, le32, withText};
 
 pub fn put_u32(out: &mut [u8], at: usize, n: u32)
     requires { ⌜ at + 4 ≤ length (now out) ⌝ }

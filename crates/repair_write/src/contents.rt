@@ -2,13 +2,13 @@
 
 use crate::bytes::copy;
 use crate::bytes::put_u32;
-use book::known::size_of;
+use book::inner::size_of;
 ghost use mathlib.Core.Path.{_≡_};
 ghost use Prim.Native.Nat.{_+_, _≤_};
 ghost use lib.ListN.{length};
 ghost use Rattle.book.specs.Contents.{entryAt};
-ghost use Rattle.look.specs.Held.{AllSound};
-ghost use Rattle.anew.specs.Anew.{bookLength, entryAnew, contentsAnew, withText};
+ghost use Rattle.repair_sort.specs.Held.{AllSound};
+ghost use Rattle.repair_write.specs.Anew.{bookLength, entryAnew, contentsAnew, withText};
 
 fn write_entry(input: &[u8], i: usize, place: usize, out: &mut [u8], at: usize)
     requires { ⌜ (entryAt i + 24 ≤ length (now input)) × (at + 24 ≤ length (now out)) × (place ≤ 61_440) ⌝ }

@@ -6,8 +6,8 @@ use crate::contents::write_contents;
 ghost use mathlib.Core.Path.{_≡_};
 ghost use Prim.Native.Nat.{_≤_};
 ghost use lib.ListN.{length};
-ghost use Rattle.look.specs.Held.{AllSound};
-ghost use Rattle.anew.specs.Anew.{bookLength, bookAnew, withText};
+ghost use Rattle.repair_sort.specs.Held.{AllSound};
+ghost use Rattle.repair_write.specs.Anew.{bookLength, bookAnew, withText};
 
 pub fn write_book(input: &[u8], kept: &[u16], total: usize, out: &mut [u8])
     requires { ⌜ AllSound (now input) (now kept) × (total ≡ bookLength (now input) (now kept)) × (total ≤ 61_440) × (total ≤ length (now out)) ⌝ }

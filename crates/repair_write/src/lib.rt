@@ -3,4 +3,4 @@
 mod blocks;
 mod bytes;
 mod contents;
-pub mod known;
+pub mod inner;

@@ -2,7 +2,7 @@
 use native.Mathlib.Omega.{arith}
 use borrow.Author.Needs.{needs}
 use mathlib.Core.Path.{sym}
-use Rattle.bookcheck.proofs.Passing.{passing, contents-inside}
+use Rattle.book_check.proofs.Passing.{passing, contents-inside}
 use Rattle.bookcheck.proofs.Below.{is-false}
 use Rattle.book.proofs.book_passes.Statement.{statement}
 use Rattle.book.proofs.book_passes.Tie as tie

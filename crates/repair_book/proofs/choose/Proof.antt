@@ -1,14 +1,14 @@
--- `mend::choose` meets its contract: the entries in order, going forward. Assumes nothing.
+-- `repair_book::choose` meets its contract: the entries in order, going forward. Assumes nothing.
 use native.Mathlib.Omega.{arith}
 use mathlib.Core.Path.{sym, _∙_}
 use denote.Ref.{now}
 use Prim.Native.Nat.{_-_, _≤_}
 use lib.Seq.{length-take-le}
-use Rattle.look.proofs.Sounds.{ordered-length, ordered-sound}
-use Rattle.mend.proofs.Chosen.{from-none}
+use Rattle.repair_sort.proofs.Sounds.{ordered-length, ordered-sound}
+use Rattle.repair_book.proofs.Chosen.{from-none}
 use borrow.Author.Needs.{needs}
-use Rattle.mend.proofs.choose.Statement.{statement}
-use Rattle.mend.proofs.choose.Tie as tie
+use Rattle.repair_book.proofs.choose.Statement.{statement}
+use Rattle.repair_book.proofs.choose.Tie as tie
 
 few : (c : tie.After-put-in-order) → c .put-in-order .result ≤ 2559
 few c =

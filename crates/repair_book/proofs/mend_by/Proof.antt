@@ -1,15 +1,15 @@
--- `mend::mend_by` meets its contract: the entries chosen, the book of them written, the report. Assumes nothing.
+-- `repair_book::mend_by` meets its contract: the entries chosen, the book of them written, the report. Assumes nothing.
 use native.Mathlib.Omega.{arith}
 use mathlib.Core.Path.{_≡_, sym, ap, _∙_}
 use denote.Ref.{now}
 use lib.ListN.{length, take}
 use lib.Seq.{length-take-le}
-use Rattle.forward.specs.Forward.{Sofar}
-use Rattle.mend.specs.Repaired.{roomOf, keptOf}
-use Rattle.mend.proofs.Chosen.{kept-of}
+use Rattle.repair_choose.specs.Forward.{Sofar}
+use Rattle.repair_book.specs.Repaired.{roomOf, keptOf}
+use Rattle.repair_book.proofs.Chosen.{kept-of}
 use borrow.Author.Needs.{needs}
-use Rattle.mend.proofs.mend_by.Statement.{statement}
-use Rattle.mend.proofs.mend_by.Tie as tie
+use Rattle.repair_book.proofs.mend_by.Statement.{statement}
+use Rattle.repair_book.proofs.mend_by.Tie as tie
 
 room-of-requires : tie.Need-room-of-requires
 room-of-requires c κs = search needs

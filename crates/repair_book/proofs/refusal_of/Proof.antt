@@ -1,7 +1,7 @@
--- `mend::refusal_of` meets its contract, by the tests in its order. Assumes nothing.
+-- `repair_book::refusal_of` meets its contract, by the tests in its order. Assumes nothing.
 use borrow.Author.Tests.{lt-ltb, le-ltb}
-use Rattle.mend.proofs.refusal_of.Statement.{statement}
-use Rattle.mend.proofs.refusal_of.Tie as tie
+use Rattle.repair_book.proofs.refusal_of.Statement.{statement}
+use Rattle.repair_book.proofs.refusal_of.Tie as tie
 
 returns : tie.Need-returns
 returns c = simp (lt-ltb _ _ (c .if1 .taken))

@@ -1,12 +1,12 @@
--- `mend::repair` meets its contract: refused, or mended. Assumes nothing.
+-- `repair_book::repair` meets its contract: refused, or mended. Assumes nothing.
 use native.Mathlib.Omega.{arith}
 use mathlib.Core.Path.{sym, _∙_}
 use denote.Ref.{now}
 use lib.ListN.{length}
-use Rattle.mend.proofs.Refusals.{refused-none, none-refused, refused-by}
+use Rattle.repair_book.proofs.Refusals.{refused-none, none-refused, refused-by}
 use borrow.Author.Needs.{needs}
-use Rattle.mend.proofs.repair.Statement.{statement}
-use Rattle.mend.proofs.repair.Tie as tie
+use Rattle.repair_book.proofs.repair.Statement.{statement}
+use Rattle.repair_book.proofs.repair.Tie as tie
 
 refusal-of-requires : tie.Need-refusal-of-requires
 refusal-of-requires c κs = search needs

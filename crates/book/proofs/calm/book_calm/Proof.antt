@@ -8,9 +8,9 @@ use native.Mathlib.Nat.{le-antisymm}
 use mathlib.Core.Bool.{true}
 use mathlib.Core.Path.{_≡_, refl, sym}
 use denote.Ref.{now}
-use Rattle.bookcheck.specs.Contents.{entryCount}
+use Rattle.book_check.specs.Contents.{entryCount}
 use Rattle.book.specs.Calm.{calm}
-use Rattle.bookcheck.proofs.Passing.{passing, contents-inside, block-inside}
+use Rattle.book_check.proofs.Passing.{passing, contents-inside, block-inside}
 use Rattle.bookcheck.proofs.Below.{both, is-false, clash}
 use Rattle.book.proofs.Slow.{calmBefore, calm-at}
 use Rattle.book.proofs.calm.book_calm.Statement.{statement}

@@ -1,7 +1,7 @@
--- `book::known::all_finite` meets its contract, by the tests in its order. Assumes nothing.
+-- `book::inner::all_finite` meets its contract, by the tests in its order. Assumes nothing.
 use borrow.Author.Needs.{needs}
-use Rattle.book.proofs.known.all_finite.Statement.{statement}
-use Rattle.book.proofs.known.all_finite.Tie as tie
+use Rattle.book.proofs.inner.all_finite.Statement.{statement}
+use Rattle.book.proofs.inner.all_finite.Tie as tie
 
 is-finite-requires : tie.Need-is-finite-requires
 is-finite-requires c κs = search needs

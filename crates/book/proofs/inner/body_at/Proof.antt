@@ -1,10 +1,10 @@
--- `book::known::body_at` meets its contract: the entry that the lookup gives covers the moment. Assumes nothing.
+-- `book::inner::body_at` meets its contract: the entry that the lookup gives covers the moment. Assumes nothing.
 use borrow.Author.Needs.{needs}
 use mathlib.Core.Path.{sym, _∙_}
 use Rattle.book.proofs.Found.{covered}
 use Rattle.book.proofs.BodyAt.{no-cover, not-finite, too-fast, at-place}
-use Rattle.book.proofs.known.body_at.Statement.{statement}
-use Rattle.book.proofs.known.body_at.Tie as tie
+use Rattle.book.proofs.inner.body_at.Statement.{statement}
+use Rattle.book.proofs.inner.body_at.Tie as tie
 
 lookup-guessed-requires : tie.Need-lookup-guessed-requires
 lookup-guessed-requires c κs = search needs

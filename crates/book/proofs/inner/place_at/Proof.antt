@@ -1,8 +1,8 @@
--- `book::known::place_at` meets its contract: the entry's block lies inside a book that passes. Assumes nothing.
+-- `book::inner::place_at` meets its contract: the entry's block lies inside a book that passes. Assumes nothing.
 use mathlib.Core.Path.{_∙_}
-use Rattle.series.proofs.Turns.{place-by}
-use Rattle.book.proofs.known.place_at.Statement.{statement}
-use Rattle.book.proofs.known.place_at.Tie as tie
+use Rattle.book_series.proofs.Turns.{place-by}
+use Rattle.book.proofs.inner.place_at.Statement.{statement}
+use Rattle.book.proofs.inner.place_at.Tie as tie
 
 reading-at-requires : tie.Need-reading-at-requires
 reading-at-requires c κs = c .before .pre

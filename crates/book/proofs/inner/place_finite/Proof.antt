@@ -1,7 +1,7 @@
--- `book::known::place_finite` meets its contract. Assumes nothing.
+-- `book::inner::place_finite` meets its contract. Assumes nothing.
 use borrow.Author.Needs.{needs}
-use Rattle.book.proofs.known.place_finite.Statement.{statement}
-use Rattle.book.proofs.known.place_finite.Tie as tie
+use Rattle.book.proofs.inner.place_finite.Statement.{statement}
+use Rattle.book.proofs.inner.place_finite.Tie as tie
 
 all-finite-requires : tie.Need-all-finite-requires
 all-finite-requires c κs = search needs

@@ -1,4 +1,4 @@
--- `book::known::reading_at` meets its contract: the entry's numbers and its block lie inside a book that passes. Assumes nothing.
+-- `book::inner::reading_at` meets its contract: the entry's numbers and its block lie inside a book that passes. Assumes nothing.
 use native.Mathlib.Omega.{arith}
 use borrow.Author.Needs.{needs}
 use Prim.Native.Nat.{_+_, _≤_, _^_}
@@ -6,11 +6,11 @@ use denote.Ref.{now}
 use lib.ListN.{length}
 use lib.Dec.{le→leb}
 use lib.Ieee.{inFloat}
-use Rattle.bookcheck.specs.Contents.{entryAt}
-use Rattle.bookcheck.proofs.Passing.{passing, contents-inside, block-inside}
+use Rattle.book_check.specs.Contents.{entryAt}
+use Rattle.book_check.proofs.Passing.{passing, contents-inside, block-inside}
 use Rattle.book.proofs.Found.{covering}
-use Rattle.book.proofs.known.reading_at.Statement.{statement}
-use Rattle.book.proofs.known.reading_at.Tie as tie
+use Rattle.book.proofs.inner.reading_at.Statement.{statement}
+use Rattle.book.proofs.inner.reading_at.Tie as tie
 
 inside : (c : tie.Start) → entryAt (c .args .entry) + 24 ≤ length (now (c .args .book))
 inside c = let q = contents-inside _ (passing _ (c .pre .0)) in omega arith

@@ -1,10 +1,10 @@
--- `book::known::slow_at` meets its contract: by the law of calm books, or by the velocity itself. Assumes nothing.
+-- `book::inner::slow_at` meets its contract: by the law of calm books, or by the velocity itself. Assumes nothing.
 use borrow.Author.Needs.{needs}
 use mathlib.Core.Path.{sym, ap, _∙_}
 use Rattle.book.specs.Position.{finiteVelocity}
 use Rattle.book.proofs.Slow.{slow}
-use Rattle.book.proofs.known.slow_at.Statement.{statement}
-use Rattle.book.proofs.known.slow_at.Tie as tie
+use Rattle.book.proofs.inner.slow_at.Statement.{statement}
+use Rattle.book.proofs.inner.slow_at.Tie as tie
 
 returns : tie.Need-returns
 returns c =

@@ -1,8 +1,8 @@
--- `book::known::velocity_at` meets its contract: the entry's block lies inside a book that passes. Assumes nothing.
+-- `book::inner::velocity_at` meets its contract: the entry's block lies inside a book that passes. Assumes nothing.
 use mathlib.Core.Path.{_∙_}
-use Rattle.series.proofs.Slopes.{velocity-by}
-use Rattle.book.proofs.known.velocity_at.Statement.{statement}
-use Rattle.book.proofs.known.velocity_at.Tie as tie
+use Rattle.book_series.proofs.Slopes.{velocity-by}
+use Rattle.book.proofs.inner.velocity_at.Statement.{statement}
+use Rattle.book.proofs.inner.velocity_at.Tie as tie
 
 reading-at-requires : tie.Need-reading-at-requires
 reading-at-requires c κs = c .before .pre

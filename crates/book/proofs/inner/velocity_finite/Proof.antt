@@ -1,7 +1,7 @@
--- `book::known::velocity_finite` meets its contract. Assumes nothing.
+-- `book::inner::velocity_finite` meets its contract. Assumes nothing.
 use borrow.Author.Needs.{needs}
-use Rattle.book.proofs.known.velocity_finite.Statement.{statement}
-use Rattle.book.proofs.known.velocity_finite.Tie as tie
+use Rattle.book.proofs.inner.velocity_finite.Statement.{statement}
+use Rattle.book.proofs.inner.velocity_finite.Tie as tie
 
 all-finite-requires : tie.Need-all-finite-requires
 all-finite-requires c κs = search needs

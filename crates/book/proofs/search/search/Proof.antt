@@ -6,9 +6,9 @@ use denote.Ref.{now}
 use mathlib.Core.Logic.{⊎-elim}
 use mathlib.Core.Path.{sym}
 use lib.ListN.{length}
-use Rattle.bookcheck.specs.Contents.{entryCount, entryAt}
+use Rattle.book_check.specs.Contents.{entryCount, entryAt}
 use Rattle.book.specs.Stands.{Narrowed}
-use Rattle.bookcheck.proofs.Passing.{passing, contents-inside}
+use Rattle.book_check.proofs.Passing.{passing, contents-inside}
 use Rattle.book.proofs.Found.{found, narrow-past, narrow-before, nothing-left}
 use Rattle.book.proofs.search.search.Statement.{statement}
 use Rattle.book.proofs.search.search.Tie as tie

@@ -1,7 +1,7 @@
--- `bookcheck::known::bits_below` meets its contract. Assumes nothing.
+-- `book_check::inner::bits_below` meets its contract. Assumes nothing.
 use mathlib.Core.Path.{refl}
-use Rattle.bookcheck.proofs.known.bits_below.Statement.{statement}
-use Rattle.bookcheck.proofs.known.bits_below.Tie as tie
+use Rattle.book_check.proofs.inner.bits_below.Statement.{statement}
+use Rattle.book_check.proofs.inner.bits_below.Tie as tie
 
 returns : tie.Need-returns
 returns c = refl

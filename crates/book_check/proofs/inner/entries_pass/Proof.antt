@@ -1,4 +1,4 @@
--- `bookcheck::known::entries_pass` meets its contract. The invariant: the entries before i are checked, and block i has to begin at `place`. Assumes nothing.
+-- `book_check::inner::entries_pass` meets its contract. The invariant: the entries before i are checked, and block i has to begin at `place`. Assumes nothing.
 use native.Mathlib.Omega.{arith}
 use borrow.Author.Tests.{not-true, not-false}
 use Prim.Native.Nat.{_≤_, _-_}
@@ -6,13 +6,13 @@ use native.Mathlib.Numerals.{add-one}
 use mathlib.Core.Path.{_≡_, sym, _∙_}
 use denote.Ref.{now}
 use lib.ListN.{length}
-use Rattle.bookcheck.specs.Contents.{entryCount}
-use Rattle.bookcheck.specs.Passes.{blockPlace}
-use Rattle.bookcheck.proofs.Passing.{passing}
-use Rattle.bookcheck.proofs.Checked.{Held, Checked, passing-holds, passing-next, none-checked, one-more, by-length, held}
+use Rattle.book_check.specs.Contents.{entryCount}
+use Rattle.book_check.specs.Passes.{blockPlace}
+use Rattle.book_check.proofs.Passing.{passing}
+use Rattle.book_check.proofs.Checked.{Held, Checked, passing-holds, passing-next, none-checked, one-more, by-length, held}
 use Rattle.bookcheck.proofs.Below.{is-false, clash}
-use Rattle.bookcheck.proofs.known.entries_pass.Statement.{statement}
-use Rattle.bookcheck.proofs.known.entries_pass.Tie as tie
+use Rattle.book_check.proofs.inner.entries_pass.Statement.{statement}
+use Rattle.book_check.proofs.inner.entries_pass.Tie as tie
 
 abbrev Inv-loop : tie.InvT-loop
 Inv-loop book count place₀ i₀ place i = (i ≤ count) × (place ≡ blockPlace book i) × (place ≤ length book) × Checked book i

@@ -1,12 +1,12 @@
--- `bookcheck::known::entry_holds` meets its contract, by those of the tests in its order. Assumes nothing.
+-- `book_check::inner::entry_holds` meets its contract, by those of the tests in its order. Assumes nothing.
 use native.Mathlib.Omega.{arith}
 use borrow.Author.Needs.{needs}
 use borrow.Author.Tests.{not-true, not-false}
 use mathlib.Core.Path.{sym, _∙_}
-use Rattle.bookcheck.proofs.Checked.{held, held-by-floats}
+use Rattle.book_check.proofs.Checked.{held, held-by-floats}
 use Rattle.bookcheck.proofs.Below.{is-false}
-use Rattle.bookcheck.proofs.known.entry_holds.Statement.{statement}
-use Rattle.bookcheck.proofs.known.entry_holds.Tie as tie
+use Rattle.book_check.proofs.inner.entry_holds.Statement.{statement}
+use Rattle.book_check.proofs.inner.entry_holds.Tie as tie
 
 fields-allowed-requires : tie.Need-fields-allowed-requires
 fields-allowed-requires c κs = search needs

@@ -1,10 +1,10 @@
--- `bookcheck::known::fields_allowed` meets its contract, by the tests in its order. Assumes nothing.
+-- `book_check::inner::fields_allowed` meets its contract, by the tests in its order. Assumes nothing.
 use borrow.Author.Needs.{needs}
 use mathlib.Core.Path.{_≡_}
 use denote.Ref.{now}
-use Rattle.bookcheck.specs.Passes.{bodyAllowed, sizeAllowed, timesAllowed}
-use Rattle.bookcheck.proofs.known.fields_allowed.Statement.{statement}
-use Rattle.bookcheck.proofs.known.fields_allowed.Tie as tie
+use Rattle.book_check.specs.Passes.{bodyAllowed, sizeAllowed, timesAllowed}
+use Rattle.book_check.proofs.inner.fields_allowed.Statement.{statement}
+use Rattle.book_check.proofs.inner.fields_allowed.Tie as tie
 
 body-test : (c : tie.After-within) → c .within .result ≡ bodyAllowed (now (c .before .before .before .args .book)) (c .before .before .before .args .i)
 body-test c = rw (← c .before .u16-at .ensures) (c .within .ensures)

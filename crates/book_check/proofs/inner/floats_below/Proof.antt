@@ -1,16 +1,16 @@
--- `bookcheck::known::floats_below` meets its contract. The invariant: the floats before k are below the limit. Assumes nothing.
+-- `book_check::inner::floats_below` meets its contract. The invariant: the floats before k are below the limit. Assumes nothing.
 use native.Mathlib.Omega.{arith}
 use borrow.Author.Needs.{needs}
 use borrow.Author.Tests.{not-true, not-false}
 use Prim.Native.Nat.{_≤_, _-_}
 use mathlib.Core.Bool.{true}
 use mathlib.Core.Path.{_≡_, refl, sym}
-use Rattle.bookcheck.specs.Check.{floatsBelow}
+use Rattle.book_check.specs.Check.{floatsBelow}
 use native.Mathlib.Numerals.{add-one}
 use native.Mathlib.Nat.{le-antisymm}
 use Rattle.bookcheck.proofs.Below.{both, every, is-false, clash}
-use Rattle.bookcheck.proofs.known.floats_below.Statement.{statement}
-use Rattle.bookcheck.proofs.known.floats_below.Tie as tie
+use Rattle.book_check.proofs.inner.floats_below.Statement.{statement}
+use Rattle.book_check.proofs.inner.floats_below.Tie as tie
 
 abbrev Inv-loop : tie.InvT-loop
 Inv-loop book at n limit k₀ k = (k ≤ n) × (floatsBelow limit book at k ≡ true)

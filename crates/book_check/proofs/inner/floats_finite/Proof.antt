@@ -3,8 +3,8 @@ use borrow.Author.Needs.{needs}
 use mathlib.Core.Path.{_∙_}
 use denote.Ref.{now}
 use Rattle.bookcheck.proofs.FiniteBits.{finite-below}
-use Rattle.bookcheck.proofs.known.floats_finite.Statement.{statement}
-use Rattle.bookcheck.proofs.known.floats_finite.Tie as tie
+use Rattle.book_check.proofs.inner.floats_finite.Statement.{statement}
+use Rattle.book_check.proofs.inner.floats_finite.Tie as tie
 
 floats-below-requires : tie.Need-floats-below-requires
 floats-below-requires c κs = search needs

@@ -2,10 +2,10 @@
 use native.Mathlib.Omega.{arith}
 use borrow.Author.Needs.{needs}
 use mathlib.Core.Path.{sym}
-use Rattle.bookcheck.proofs.Passing.{allowed-of, in-order, in-order-back, in-order-same}
+use Rattle.book_check.proofs.Passing.{allowed-of, in-order, in-order-back, in-order-same}
 use Rattle.bookcheck.proofs.Below.{is-false}
-use Rattle.bookcheck.proofs.known.in_order.Statement.{statement}
-use Rattle.bookcheck.proofs.known.in_order.Tie as tie
+use Rattle.book_check.proofs.inner.in_order.Statement.{statement}
+use Rattle.book_check.proofs.inner.in_order.Tie as tie
 
 mul-entry : tie.Need-mul-entry
 mul-entry c = search needs

@@ -1,8 +1,8 @@
--- `bookcheck::known::next_in_order` meets its contract: the last entry has no next. Assumes nothing.
+-- `book_check::inner::next_in_order` meets its contract: the last entry has no next. Assumes nothing.
 use borrow.Author.Needs.{needs}
 use borrow.Author.Tests.{lt-ltb, le-ltb}
-use Rattle.bookcheck.proofs.known.next_in_order.Statement.{statement}
-use Rattle.bookcheck.proofs.known.next_in_order.Tie as tie
+use Rattle.book_check.proofs.inner.next_in_order.Statement.{statement}
+use Rattle.book_check.proofs.inner.next_in_order.Tie as tie
 
 add-next : tie.Need-add-next
 add-next c = search needs

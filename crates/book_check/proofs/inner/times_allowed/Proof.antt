@@ -5,8 +5,8 @@ use Prim.Native.Nat.{ℕ, _+_, _-_, _≤_, _<_}
 use mathlib.Core.Bool.{Bool, true, false}
 use mathlib.Core.Path.{_≡_, refl, sym, _∙_}
 use lib.Dec.{leb}
-use Rattle.bookcheck.proofs.known.times_allowed.Statement.{statement}
-use Rattle.bookcheck.proofs.known.times_allowed.Tie as tie
+use Rattle.book_check.proofs.inner.times_allowed.Statement.{statement}
+use Rattle.book_check.proofs.inner.times_allowed.Tie as tie
 
 without-sum : (s l e : ℕ) → s ≤ e → leb l (e - s) ≡ leb (s + l) e
 without-sum s l e le = by (leb l (e - s)) refl

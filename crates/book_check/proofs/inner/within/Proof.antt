@@ -1,7 +1,7 @@
--- `bookcheck::known::within` meets its contract. Assumes nothing.
+-- `book_check::inner::within` meets its contract. Assumes nothing.
 use borrow.Author.Tests.{lt-leb, le-leb}
-use Rattle.bookcheck.proofs.known.within.Statement.{statement}
-use Rattle.bookcheck.proofs.known.within.Tie as tie
+use Rattle.book_check.proofs.inner.within.Statement.{statement}
+use Rattle.book_check.proofs.inner.within.Tie as tie
 
 returns : tie.Need-returns
 returns c = simp (lt-leb _ _ (c .if1 .taken))

@@ -1,9 +1,9 @@
 -- `series::known::argument_at` meets its contract: the numerator is small either way, so no cast loses anything. Assumes nothing.
 use borrow.Author.Needs.{needs}
-use Rattle.series.specs.Series.{argument}
-use Rattle.series.proofs.Numerator.{span-back, span-in-float, twice-fits, numerator-fits, numerator-in-float, numerator-back, worked-out, as-written}
-use Rattle.series.proofs.known.argument_at.Statement.{statement}
-use Rattle.series.proofs.known.argument_at.Tie as tie
+use Rattle.book_series.specs.Series.{argument}
+use Rattle.book_series.proofs.Numerator.{span-back, span-in-float, twice-fits, numerator-fits, numerator-in-float, numerator-back, worked-out, as-written}
+use Rattle.book_series.proofs.inner.argument_at.Statement.{statement}
+use Rattle.book_series.proofs.inner.argument_at.Tie as tie
 
 cast-length : tie.Need-cast-length
 cast-length c = search needs

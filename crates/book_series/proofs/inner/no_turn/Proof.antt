@@ -1,7 +1,7 @@
--- `series::known::no_turn` meets its contract. Assumes nothing.
+-- `book_series::inner::no_turn` meets its contract. Assumes nothing.
 use mathlib.Core.Path.{refl}
-use Rattle.series.proofs.known.no_turn.Statement.{statement}
-use Rattle.series.proofs.known.no_turn.Tie as tie
+use Rattle.book_series.proofs.inner.no_turn.Statement.{statement}
+use Rattle.book_series.proofs.inner.no_turn.Tie as tie
 
 returns : tie.Need-returns
 returns c = refl

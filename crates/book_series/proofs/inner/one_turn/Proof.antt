@@ -1,7 +1,7 @@
--- `series::known::one_turn` meets its contract. Assumes nothing.
+-- `book_series::inner::one_turn` meets its contract. Assumes nothing.
 use mathlib.Core.Path.{refl}
-use Rattle.series.proofs.known.one_turn.Statement.{statement}
-use Rattle.series.proofs.known.one_turn.Tie as tie
+use Rattle.book_series.proofs.inner.one_turn.Statement.{statement}
+use Rattle.book_series.proofs.inner.one_turn.Tie as tie
 
 returns : tie.Need-returns
 returns c = refl

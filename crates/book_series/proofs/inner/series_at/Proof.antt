@@ -1,14 +1,14 @@
--- `series::known::series_at` meets its contract. The invariant: the coefficients from k on are done, of each axis. Assumes nothing.
+-- `book_series::inner::series_at` meets its contract. The invariant: the coefficients from k on are done, of each axis. Assumes nothing.
 use native.Mathlib.Omega.{arith}
 use Prim.Native.Nat.{ℕ, _+_, _-_, _*_, _<_}
 use mathlib.Core.Bool.{true}
 use mathlib.Core.Path.{_≡_, _∙_}
 use denote.Ref.{now}
 use lib.Ieee.Scale.{finite}
-use Rattle.bookcheck.specs.Contents.{floatOf}
-use Rattle.series.proofs.Turns.{Done, no-turn, one-turn, last-turn, float-finite, first-float}
-use Rattle.series.proofs.known.series_at.Statement.{statement}
-use Rattle.series.proofs.known.series_at.Tie as tie
+use Rattle.book_check.specs.Contents.{floatOf}
+use Rattle.book_series.proofs.Turns.{Done, no-turn, one-turn, last-turn, float-finite, first-float}
+use Rattle.book_series.proofs.inner.series_at.Statement.{statement}
+use Rattle.book_series.proofs.inner.series_at.Tie as tie
 
 abbrev Inv-loop : tie.InvT-loop
 Inv-loop book offset n w twice x₀ x-next₀ y₀ y-next₀ z₀ z-next₀ k₀ x x-next y y-next z z-next k = Done w (floatOf book offset) n k x x-next y y-next z z-next

@@ -1,4 +1,4 @@
--- `series::known::slopes_at` meets its contract. The invariant: the coefficients from k on are done, of each axis. Assumes nothing.
+-- `book_series::inner::slopes_at` meets its contract. The invariant: the coefficients from k on are done, of each axis. Assumes nothing.
 use native.Mathlib.Omega.{arith}
 use borrow.Author.Needs.{needs}
 use Prim.Native.Nat.{ℕ, _+_, _-_, _*_, _<_}
@@ -6,11 +6,11 @@ use mathlib.Core.Bool.{true}
 use mathlib.Core.Path.{_≡_}
 use denote.Ref.{now}
 use lib.Ieee.Scale.{finite}
-use Rattle.bookcheck.specs.Contents.{floatOf}
-use Rattle.series.proofs.Turns.{float-finite}
-use Rattle.series.proofs.Slopes.{Sloped, no-slope, one-slope, last-slope}
-use Rattle.series.proofs.known.slopes_at.Statement.{statement}
-use Rattle.series.proofs.known.slopes_at.Tie as tie
+use Rattle.book_check.specs.Contents.{floatOf}
+use Rattle.book_series.proofs.Turns.{float-finite}
+use Rattle.book_series.proofs.Slopes.{Sloped, no-slope, one-slope, last-slope}
+use Rattle.book_series.proofs.inner.slopes_at.Statement.{statement}
+use Rattle.book_series.proofs.inner.slopes_at.Tie as tie
 
 abbrev Inv-loop : tie.InvT-loop
 Inv-loop book offset n w span x₀ y₀ z₀ k₀ x y z k = Sloped w (floatOf book offset) n k x y z

@@ -1,8 +1,8 @@
--- `series::known::speed_of` meets its contract. Assumes nothing.
+-- `book_series::inner::speed_of` meets its contract. Assumes nothing.
 use mathlib.Core.Path.{refl}
 use lib.Ieee.{ofBits, ofInt, round}
-use Rattle.series.proofs.known.speed_of.Statement.{statement}
-use Rattle.series.proofs.known.speed_of.Tie as tie
+use Rattle.book_series.proofs.inner.speed_of.Statement.{statement}
+use Rattle.book_series.proofs.inner.speed_of.Tie as tie
 
 returns : tie.Need-returns
 unfolding ofBits ofInt round

@@ -1,4 +1,4 @@
--- `mend::marks::as_in_contents` meets its contract. The invariant: the numbers rise up to k. Assumes nothing.
+-- `repair_book::marks::as_in_contents` meets its contract. The invariant: the numbers rise up to k. Assumes nothing.
 use native.Mathlib.Omega.{arith}
 use mathlib.Core.Path.{_≡_, refl, sym}
 use denote.Ref.{now}
@@ -8,11 +8,11 @@ use Prim.Native.Nat.{_+_, _-_, _≤_, _<_}
 use borrow.Author.Tests.{lt-ltb, le-ltb}
 use mathlib.Core.Bool.{true}
 use lib.ListN.{length, getD}
-use Rattle.basis.specs.Choice.{_<?_}
+use Rattle.base.specs.Choice.{_<?_}
 use Rattle.book.specs.Passes.{allBelow}
 use Rattle.book.proofs.Below.{both, every, is-false, clash}
-use Rattle.mend.proofs.marks.as_in_contents.Statement.{statement}
-use Rattle.mend.proofs.marks.as_in_contents.Tie as tie
+use Rattle.repair_book.proofs.marks.as_in_contents.Statement.{statement}
+use Rattle.repair_book.proofs.marks.as_in_contents.Tie as tie
 
 abbrev Inv-loop : tie.InvT-loop
 Inv-loop kept last k₀ k = (k ≤ last) × (last ≡ length kept - 1) × (allBelow k (λ n. getD kept n 0 <? getD kept (n + 1) 0) ≡ true)

@@ -1,7 +1,7 @@
--- `mend::marks::changed_from` meets its contract, by those of its four tests. Assumes nothing.
+-- `repair_book::marks::changed_from` meets its contract, by those of its four tests. Assumes nothing.
 use borrow.Author.Needs.{needs}
-use Rattle.mend.proofs.marks.changed_from.Statement.{statement}
-use Rattle.mend.proofs.marks.changed_from.Tie as tie
+use Rattle.repair_book.proofs.marks.changed_from.Statement.{statement}
+use Rattle.repair_book.proofs.marks.changed_from.Tie as tie
 
 u32-at-requires : tie.Need-u32-at-requires
 u32-at-requires c κs = search needs

@@ -1,4 +1,4 @@
--- `mend::marks::offsets_stay` meets its contract. The invariant: the offsets up to k are the new ones, and block k begins at `place`. Assumes nothing.
+-- `repair_book::marks::offsets_stay` meets its contract. The invariant: the offsets up to k are the new ones, and block k begins at `place`. Assumes nothing.
 use native.Mathlib.Omega.{arith}
 use mathlib.Core.Path.{_≡_, sym, refl, _∙_}
 use denote.Ref.{now}
@@ -7,17 +7,17 @@ use Prim.Native.Nat.{_-_, _≤_}
 use borrow.Author.Tests.{eq-eqb, eqb-true}
 use mathlib.Core.Bool.{true, false}
 use lib.ListN.{length, getD}
-use Rattle.basis.specs.Choice.{_=?_}
+use Rattle.base.specs.Choice.{_=?_}
 use Rattle.book.specs.Contents.{offsetOf}
-use Rattle.mend.specs.Report.{offsetsStay}
+use Rattle.repair_book.specs.Report.{offsetsStay}
 use Rattle.book.specs.Passes.{allBelow}
 use Rattle.book.proofs.Below.{both, every, is-false}
-use Rattle.anew.specs.Anew.{placeAnew}
-use Rattle.look.specs.Held.{Sound}
-use Rattle.look.proofs.Sounds.{sound-at}
-use Rattle.anew.proofs.Books.{place-inside, place-further}
-use Rattle.mend.proofs.marks.offsets_stay.Statement.{statement}
-use Rattle.mend.proofs.marks.offsets_stay.Tie as tie
+use Rattle.repair_write.specs.Anew.{placeAnew}
+use Rattle.repair_sort.specs.Held.{Sound}
+use Rattle.repair_sort.proofs.Sounds.{sound-at}
+use Rattle.repair_write.proofs.Books.{place-inside, place-further}
+use Rattle.repair_book.proofs.marks.offsets_stay.Statement.{statement}
+use Rattle.repair_book.proofs.marks.offsets_stay.Tie as tie
 
 abbrev Inv-loop : tie.InvT-loop
 Inv-loop input kept place₀ k₀ place k = (k ≤ length kept) × (place ≡ placeAnew input kept k) × (allBelow k (λ n. offsetOf input (getD kept n 0) =? placeAnew input kept n) ≡ true)

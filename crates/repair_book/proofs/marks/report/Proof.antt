@@ -1,8 +1,8 @@
--- `mend::marks::report` meets its contract. Assumes nothing.
-use Rattle.mend.specs.Report.{reportOf}
+-- `repair_book::marks::report` meets its contract. Assumes nothing.
+use Rattle.repair_book.specs.Report.{reportOf}
 use borrow.Author.Needs.{needs}
-use Rattle.mend.proofs.marks.report.Statement.{statement}
-use Rattle.mend.proofs.marks.report.Tie as tie
+use Rattle.repair_book.proofs.marks.report.Statement.{statement}
+use Rattle.repair_book.proofs.marks.report.Tie as tie
 
 looked-at-requires : tie.Need-looked-at-requires
 looked-at-requires c κs = search needs

@@ -5,11 +5,11 @@ use denote.Ref.{now}
 use Prim.Native.Nat.{_-_, _≤_}
 use lib.ListN.{length, drop}
 use Rattle.forward.specs.Forward.{forward}
-use Rattle.forward.specs.Sized.{held, Sized}
-use Rattle.look.proofs.Sounds.{sound-at}
-use Rattle.forward.proofs.Settled.{one-forward, all-forward}
-use Rattle.forward.proofs.known.go_forward.Statement.{statement}
-use Rattle.forward.proofs.known.go_forward.Tie as tie
+use Rattle.repair_choose.specs.Sized.{held, Sized}
+use Rattle.repair_sort.proofs.Sounds.{sound-at}
+use Rattle.repair_choose.proofs.Settled.{one-forward, all-forward}
+use Rattle.repair_choose.proofs.inner.go_forward.Statement.{statement}
+use Rattle.repair_choose.proofs.inner.go_forward.Tie as tie
 
 abbrev Inv-loop : tie.InvT-loop
 Inv-loop input room order kept₀ fates₀ sofar₀ k₀ kept fates sofar k = (k ≤ length order) × (length kept ≡ length kept₀) × (length fates ≡ length fates₀) × (sofar .count ≤ k) × Sized input room kept (sofar .count) (sofar .last) (sofar .length) × (forward input room (held kept (sofar .count) fates) (drop k order) ≡ forward input room (held kept₀ 0 fates₀) order)

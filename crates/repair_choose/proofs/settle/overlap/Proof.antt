@@ -1,10 +1,10 @@
--- `forward::settle::overlap` meets its contract: each starts before the other's end, and no end wraps. Assumes nothing.
+-- `repair_choose::settle::overlap` meets its contract: each starts before the other's end, and no end wraps. Assumes nothing.
 use native.Mathlib.Omega.{arith}
 use borrow.Author.Tests.{eq-eqb, ne-eqb, lt-ltb, le-ltb}
 use Rattle.book.proofs.Passing.{allowed-of}
 use borrow.Author.Needs.{needs}
-use Rattle.forward.proofs.settle.overlap.Statement.{statement}
-use Rattle.forward.proofs.settle.overlap.Tie as tie
+use Rattle.repair_choose.proofs.settle.overlap.Statement.{statement}
+use Rattle.repair_choose.proofs.settle.overlap.Tie as tie
 
 mul-entry : tie.Need-mul-entry
 mul-entry c = search needs

@@ -1,8 +1,8 @@
 -- `forward::settle::overlaps_last` meets its contract: the last entry decides, where there is one. Assumes nothing.
 use native.Mathlib.Omega.{arith}
 use borrow.Author.Tests.{eq-eqb, ne-eqb}
-use Rattle.forward.proofs.settle.overlaps_last.Statement.{statement}
-use Rattle.forward.proofs.settle.overlaps_last.Tie as tie
+use Rattle.repair_choose.proofs.settle.overlaps_last.Statement.{statement}
+use Rattle.repair_choose.proofs.settle.overlaps_last.Tie as tie
 
 returns : tie.Need-returns
 returns c = rw (eq-eqb _ _ (c .if1 .taken))

@@ -1,15 +1,15 @@
--- `forward::settle::settle_one` meets its contract: overlap first, then room. Assumes nothing.
+-- `repair_choose::settle::settle_one` meets its contract: overlap first, then room. Assumes nothing.
 use Prim.Native.Nat.{_+_, _*_, _<_, _≤_}
 use native.Mathlib.Omega.{arith}
 use borrow.Author.Tests.{ltb-true, ltb-false}
 use mathlib.Core.Path.{_≡_, sym, _∙_}
 use denote.Ref.{now}
 use lib.ListN.{take}
-use Rattle.forward.specs.Forward.{overlapsLast}
-use Rattle.forward.proofs.Settled.{settled-overlap, settled-no-room, settled-kept, sized-kept, last-sound, last-kept}
+use Rattle.repair_choose.specs.Forward.{overlapsLast}
+use Rattle.repair_choose.proofs.Settled.{settled-overlap, settled-no-room, settled-kept, sized-kept, last-sound, last-kept}
 use borrow.Author.Needs.{needs}
-use Rattle.forward.proofs.settle.settle_one.Statement.{statement}
-use Rattle.forward.proofs.settle.settle_one.Tie as tie
+use Rattle.repair_choose.proofs.settle.settle_one.Statement.{statement}
+use Rattle.repair_choose.proofs.settle.settle_one.Tie as tie
 
 -- the last kept entry was asked
 judged : (c : tie.After-overlaps-last) → overlapsLast (now (c .before .before .before .before .args .input)) (take (c .before .before .before .before .args .sofar .count) (now (c .before .before .before .before .args .kept))) (c .before .before .before .before .args .i) ≡ c .overlaps-last .result

@@ -1,4 +1,4 @@
--- `look::reasons::reason` meets its contract: the reasons in their order, the first one found. Assumes nothing.
+-- `repair_sort::reasons::reason` meets its contract: the reasons in their order, the first one found. Assumes nothing.
 use native.Mathlib.Omega.{arith}
 use borrow.Author.Tests.{not-true, not-false, le-leb, lt-leb}
 use mathlib.Core.Path.{_≡_}
@@ -8,10 +8,10 @@ use Prim.Native.Nat.{_+_}
 use lib.ListN.{length}
 use Rattle.book.specs.Contents.{offsetOf, blockLength}
 use Rattle.book.specs.Passes.{coefficientsFinite}
-use Rattle.look.specs.Reasons.{blockInside, firstReason}
+use Rattle.repair_sort.specs.Reasons.{blockInside, firstReason}
 use borrow.Author.Needs.{needs}
-use Rattle.look.proofs.reasons.reason.Statement.{statement}
-use Rattle.look.proofs.reasons.reason.Tie as tie
+use Rattle.repair_sort.proofs.reasons.reason.Statement.{statement}
+use Rattle.repair_sort.proofs.reasons.reason.Tie as tie
 
 -- where the coefficients are tested the block lies inside, and the test is the definition's
 inside : (c : tie.After-floats-finite) → blockInside (now (c .before .before .before .before .before .before .before .args .input)) (c .before .before .before .before .before .before .before .args .i) ≡ true

@@ -1,4 +1,4 @@
--- `anew::blocks::write_blocks` meets its contract. The invariant: the first k blocks are written, and block k begins at `place`. Assumes nothing.
+-- `repair_write::blocks::write_blocks` meets its contract. The invariant: the first k blocks are written, and block k begins at `place`. Assumes nothing.
 use native.Mathlib.Omega.{arith}
 use mathlib.Core.Path.{_≡_, refl, sym, _∙_}
 use denote.Ref.{now}
@@ -6,13 +6,13 @@ use Prim.Native.Nat.{_+_, _-_, _*_, _≤_}
 use lib.ListN.{length, take, getD}
 use lib.Seq.{take-all}
 use Rattle.book.specs.Contents.{entryAt}
-use Rattle.anew.specs.Anew.{blocksLength, blocksAnew, withText}
-use Rattle.look.specs.Held.{Sound}
-use Rattle.anew.proofs.Texts.{no-text}
-use Rattle.look.proofs.Sounds.{sound-at}
-use Rattle.anew.proofs.Books.{place-inside, place-further, block-written}
-use Rattle.anew.proofs.blocks.write_blocks.Statement.{statement}
-use Rattle.anew.proofs.blocks.write_blocks.Tie as tie
+use Rattle.repair_write.specs.Anew.{blocksLength, blocksAnew, withText}
+use Rattle.repair_sort.specs.Held.{Sound}
+use Rattle.repair_write.proofs.Texts.{no-text}
+use Rattle.repair_sort.proofs.Sounds.{sound-at}
+use Rattle.repair_write.proofs.Books.{place-inside, place-further, block-written}
+use Rattle.repair_write.proofs.blocks.write_blocks.Statement.{statement}
+use Rattle.repair_write.proofs.blocks.write_blocks.Tie as tie
 
 abbrev Inv-loop : tie.InvT-loop
 Inv-loop input kept out₀ place₀ k₀ out place k = (k ≤ length kept) × (length out ≡ length out₀) × (place ≡ entryAt (length kept) + blocksLength input (take k kept)) × (out ≡ withText out₀ (entryAt (length kept)) (blocksAnew input (take k kept)))

@@ -1,4 +1,4 @@
--- `anew::bytes::copy` meets its contract: after k turns the first k bytes are copied. Assumes nothing.
+-- `repair_write::bytes::copy` meets its contract: after k turns the first k bytes are copied. Assumes nothing.
 use native.Mathlib.Omega.{arith}
 use mathlib.Core.Path.{_≡_, refl, ap, _∙_}
 use denote.Ref.{now}
@@ -7,9 +7,9 @@ use Prim.Native.Nat.{ℕ, _+_, _-_, _≤_}
 use mathlib.Core.List.{List}
 use lib.ListN.{length, getD, drop, set, length-set, length-drop}
 use lib.Seq.{paste, paste-zero, paste-suc, getD-drop}
-use Rattle.anew.proofs.Texts.{text-copied}
-use Rattle.anew.proofs.bytes.copy.Statement.{statement}
-use Rattle.anew.proofs.bytes.copy.Tie as tie
+use Rattle.repair_write.proofs.Texts.{text-copied}
+use Rattle.repair_write.proofs.bytes.copy.Statement.{statement}
+use Rattle.repair_write.proofs.bytes.copy.Tie as tie
 
 abbrev Inv-loop : tie.InvT-loop
 Inv-loop input from out₀ at n k₀ out k = (k ≤ n) × (length out ≡ length out₀) × (out ≡ paste out₀ at (drop from input) k)

@@ -1,11 +1,11 @@
--- `anew::bytes::put_u32` meets its contract: four bytes, the lowest first. Assumes nothing.
+-- `repair_write::bytes::put_u32` meets its contract: four bytes, the lowest first. Assumes nothing.
 use native.Mathlib.Omega.{arith}
 use denote.Ref.{now}
 use lib.ListN.{length-set}
-use Rattle.anew.proofs.Texts.{four-bytes}
+use Rattle.repair_write.proofs.Texts.{four-bytes}
 use borrow.Author.Needs.{needs}
-use Rattle.anew.proofs.bytes.put_u32.Statement.{statement}
-use Rattle.anew.proofs.bytes.put_u32.Tie as tie
+use Rattle.repair_write.proofs.bytes.put_u32.Statement.{statement}
+use Rattle.repair_write.proofs.bytes.put_u32.Tie as tie
 
 cast-out : tie.Need-cast-out
 cast-out c = search needs

@@ -1,15 +1,15 @@
--- `anew::contents::write_entry` meets its contract: three texts, one after the other. Assumes nothing.
+-- `repair_write::contents::write_entry` meets its contract: three texts, one after the other. Assumes nothing.
 use native.Mathlib.Omega.{arith}
 use denote.Ref.{now}
 use Prim.Native.Nat.{_+_, _-_}
 use lib.ListN.{length-append}
 use mathlib.Core.List.{_++_}
 use Rattle.book.specs.Contents.{entryAt}
-use Rattle.anew.specs.Anew.{part, le32}
-use Rattle.anew.proofs.Texts.{joined, part-length, le32-length}
+use Rattle.repair_write.specs.Anew.{part, le32}
+use Rattle.repair_write.proofs.Texts.{joined, part-length, le32-length}
 use borrow.Author.Needs.{needs}
-use Rattle.anew.proofs.contents.write_entry.Statement.{statement}
-use Rattle.anew.proofs.contents.write_entry.Tie as tie
+use Rattle.repair_write.proofs.contents.write_entry.Statement.{statement}
+use Rattle.repair_write.proofs.contents.write_entry.Tie as tie
 
 mul-entry : tie.Need-mul-entry
 mul-entry c = search needs

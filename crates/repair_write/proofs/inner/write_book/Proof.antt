@@ -1,16 +1,16 @@
--- `anew::known::write_book` meets its contract: four texts, one after the other. Assumes nothing.
+-- `repair_write::inner::write_book` meets its contract: four texts, one after the other. Assumes nothing.
 use native.Mathlib.Omega.{arith}
 use denote.Ref.{now}
 use Prim.Native.Nat.{_+_, _-_}
 use lib.ListN.{length, length-append}
 use mathlib.Core.List.{_++_}
 use Rattle.book.specs.Contents.{entryAt}
-use Rattle.anew.specs.Anew.{le32, contentsAnew, blocksAnew, bookAnew}
-use Rattle.anew.proofs.Texts.{joined, le32-length}
-use Rattle.anew.proofs.Books.{contents-length, blocks-length}
+use Rattle.repair_write.specs.Anew.{le32, contentsAnew, blocksAnew, bookAnew}
+use Rattle.repair_write.proofs.Texts.{joined, le32-length}
+use Rattle.repair_write.proofs.Books.{contents-length, blocks-length}
 use borrow.Author.Needs.{needs}
-use Rattle.anew.proofs.known.write_book.Statement.{statement}
-use Rattle.anew.proofs.known.write_book.Tie as tie
+use Rattle.repair_write.proofs.inner.write_book.Statement.{statement}
+use Rattle.repair_write.proofs.inner.write_book.Tie as tie
 
 cast-put-u32 : tie.Need-cast-put-u32
 cast-put-u32 c = search needs
