@@ -5,18 +5,18 @@ use mathlib.Core.Path.{_≡_, refl, sym, ap, _∙_}
 use Prim.Native.Nat.{ℕ, suc}
 use native.Mathlib.Omega.{arith}
 use lib.Dec.{eqb·suc-zero}
-use Rattle.basis.specs.Choice.{if_then_else_, _=?_}
-use Rattle.basis.specs.Limits.{isMoment}
-use Rattle.basis.proofs.Cases.{by-if}
+use Rattle.base.specs.Choice.{if_then_else_, _=?_}
+use Rattle.base.specs.Limits.{isMoment}
+use Rattle.base.proofs.Cases.{by-if}
 use Rattle.state.specs.State.{finiteInjection, finiteState, settingAllowed, centreAllowed}
 use Rattle.state.specs.declared.State.{State}
 use Rattle.state.specs.declared.Injection.{Injection}
 use Rattle.state.specs.declared.Setting.{Setting}
 use Rattle.book.specs.Passes.{passes}
 use Rattle.injection.specs.Injection.{kept, inOrder}
-use Rattle.injection.specs.declared.InjectionAnswer.{InjectionAnswer}
-use Rattle.injection.specs.declared.InjectionAnswer.the-variants as injection
-use Rattle.injection.proofs.Refused as refused
+use Rattle.gravity_stored.specs.declared.InjectionAnswer.{InjectionAnswer}
+use Rattle.gravity_stored.specs.declared.InjectionAnswer.the-variants as injection
+use Rattle.gravity_stored.proofs.Refused as refused
 use Rattle.injection.proofs.Order.{kept-in-order}
 use Rattle.centre.specs.Move.{motionOf, shifted, movedBy, keptOr7, moveBy, moveOf, moveRefusal, moveAnswer}
 use Rattle.centre.specs.declared.Seen.{Seen}

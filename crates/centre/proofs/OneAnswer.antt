@@ -1,7 +1,7 @@
 -- Any two results that the promise of a move allows are equal. Assumes nothing.
 use mathlib.Core.Path.{refl}
 use denote.Ref.{now}
-use Rattle.basis.proofs.OneAnswer.{OneAnswer, one-answer}
+use Rattle.base.proofs.OneAnswer.{OneAnswer, one-answer}
 use Rattle.centre.specs.Move.{moveAnswer}
 use Rattle.centre.proofs.move_to as move-to
 

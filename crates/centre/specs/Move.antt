@@ -1,7 +1,7 @@
 -- Document 02, R-6: "A separate call moves a state to another centre", and R-8: "a move to another centre works it out anew".
 use mathlib.Core.List.{List}
 use Prim.Native.Nat.{ℕ}
-use Rattle.basis.specs.Choice.{if_then_else_, _=?_}
+use Rattle.base.specs.Choice.{if_then_else_, _=?_}
 use Rattle.state.specs.State.{finiteInjection}
 use Rattle.state.specs.declared.State.{State}
 use Rattle.state.specs.declared.Injection.{Injection}
@@ -11,11 +11,11 @@ use Rattle.book.specs.Series as series
 use Rattle.book.specs.declared.Lookup.{Lookup}
 use Rattle.book.specs.declared.Lookup.the-variants.{Entry, Nothing}
 use Rattle.gravity.specs.Acceleration.{atRest}
-use Rattle.injection.specs.Injection.{kept}
-unfoldable pub use Rattle.shift.specs.Shift.{shifted}
+use Rattle.gravity_stored.specs.Injection.{kept}
+unfoldable pub use Rattle.centre_shift.specs.Shift.{shifted}
 unfoldable pub use Rattle.movecheck.specs.Refusal.{moveRefusal}
-use Rattle.injection.specs.declared.InjectionAnswer.{InjectionAnswer}
-use Rattle.injection.specs.declared.InjectionAnswer.the-variants as injection
+use Rattle.gravity_stored.specs.declared.InjectionAnswer.{InjectionAnswer}
+use Rattle.gravity_stored.specs.declared.InjectionAnswer.the-variants as injection
 use Rattle.centre.specs.declared.Seen.{Seen}
 use Rattle.centre.specs.declared.Seen.the-variants.{Covered, Uncovered}
 use Rattle.centre.specs.declared.MoveAnswer.{MoveAnswer}

@@ -4,8 +4,8 @@ use book::Lookup;
 use book::Motion;
 use book::Place;
 use book::Velocity;
-use injection::InjectionAnswer;
-use injection::known::kept_at;
+use gravity_stored::InjectionAnswer;
+use gravity_stored::inner::kept_at;
 use movecheck::move_refusal;
 use shift::shifted_state;
 use state::Injection;
@@ -53,11 +53,11 @@ fn motion_of(book: &[u8], number: u64, moment: u64) -> Seen
     if number == 1 {
         return Seen::Covered(at_rest());
     }
-    let Lookup::Entry(entry) = book::known::lookup_guessed(book, number, moment, 0) else {
+    let Lookup::Entry(entry) = book::inner::lookup_guessed(book, number, moment, 0) else {
         return Seen::Uncovered;
     };
-    let place = book::known::place_at(book, entry, moment);
-    let velocity = book::known::velocity_at(book, entry, moment);
+    let place = book::inner::place_at(book, entry, moment);
+    let velocity = book::inner::velocity_at(book, entry, moment);
     Seen::Covered(Motion { place, velocity })
 }
 

@@ -6,16 +6,16 @@ use native.Mathlib.Nat.{mul-div-cancel, zero-mul}
 use native.Mathlib.Omega.{arith}
 use Rattle.state.specs.declared.State.{State}
 use Rattle.state.specs.declared.Setting.{Setting}
-use Rattle.start.specs.Start.{startRefusal}
-use Rattle.start.proofs.Allowed.{longEnough}
-use Rattle.start.proofs.Passed.{passed}
-use Rattle.motion.specs.Step.{Moved, On, Off, step}
-use Rattle.motion.specs.Walk.{onward, walk}
+use Rattle.run_checks.specs.Start.{startRefusal}
+use Rattle.run_checks.proofs.Allowed.{longEnough}
+use Rattle.run_checks.proofs.Passed.{passed}
+use Rattle.run.specs.Step.{Moved, On, Off, step}
+use Rattle.run.specs.Walk.{onward, walk}
 use Rattle.motion.specs.declared.RunAnswer.{RunAnswer}
-use Rattle.motion.specs.Run.{runAnswer}
-use Rattle.motion.proofs.Walks.{walkNone}
-use Rattle.journey.specs.Journey.{Call, journey, after, Holds, AllHold}
-use Rattle.journey.proofs.Portions.{portions}
+use Rattle.run.specs.Run.{runAnswer}
+use Rattle.run.proofs.Walks.{walkNone}
+use Rattle.run_laws.specs.Journey.{Call, journey, after, Holds, AllHold}
+use Rattle.run_laws.proofs.Portions.{portions}
 use Rattle.centre.specs.Move.{moveAnswer}
 use Rattle.centre.specs.declared.MoveAnswer.{MoveAnswer}
 use Rattle.centre.specs.declared.MoveAnswer.the-variants as move

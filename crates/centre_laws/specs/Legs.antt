@@ -4,10 +4,10 @@ use mathlib.Core.Path.{_≡_}
 use Prim.Native.Nat.{ℕ, _-_, _/_}
 use Rattle.state.specs.declared.State.{State}
 use Rattle.state.specs.declared.Setting.{Setting}
-use Rattle.start.specs.Start.{startRefusal}
-use Rattle.motion.specs.Step.{Moved, On, Off, step}
-use Rattle.motion.specs.Walk.{onward, walk}
-use Rattle.journey.specs.Journey.{Call, journey, after, AllHold}
+use Rattle.run_checks.specs.Start.{startRefusal}
+use Rattle.run.specs.Step.{Moved, On, Off, step}
+use Rattle.run.specs.Walk.{onward, walk}
+use Rattle.run_laws.specs.Journey.{Call, journey, after, AllHold}
 use Rattle.centre.specs.Move.{moveAnswer}
 use Rattle.centre.specs.declared.MoveAnswer.{MoveAnswer}
 use Rattle.centre.specs.declared.MoveAnswer.the-variants as move

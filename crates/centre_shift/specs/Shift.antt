@@ -1,14 +1,14 @@
 -- Document 02, R-6: a state's position and velocity about another centre.
 use Prim.Native.Nat.{ℕ}
-use Rattle.basis.specs.Floats.{_⊖_}
+use Rattle.base.specs.Floats.{_⊖_}
 use Rattle.state.specs.State.{position, velocity, injectionAt}
 use Rattle.state.specs.declared.Vector.{Vector}
 use Rattle.state.specs.declared.State.{State}
 use Rattle.state.specs.declared.Injection.{Injection}
-use Rattle.series.specs.declared.Place.{Place}
-use Rattle.series.specs.declared.Velocity.{Velocity}
+use Rattle.book_series.specs.declared.Place.{Place}
+use Rattle.book_series.specs.declared.Velocity.{Velocity}
 use Rattle.book.specs.declared.Motion.{Motion}
-use Rattle.pull.specs.Pull.{minus}
+use Rattle.gravity_pull.specs.Pull.{minus}
 
 -- "the new centre's position and velocity relative to the old"
 abbrev pub apart : Place → Place → Vector

@@ -2,8 +2,8 @@
 
 use book::Motion;
 use pull::pulls::difference;
-use series::Place;
-use series::Velocity;
+use book_series::Place;
+use book_series::Velocity;
 use state::Injection;
 use state::State;
 use state::Vector;

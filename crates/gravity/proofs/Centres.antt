@@ -4,8 +4,8 @@ use mathlib.Core.Path.{_≡_, refl, sym, subst, _∙_}
 use Prim.Native.Nat.{ℕ}
 use lib.Dec.{eqb→eq, T}
 use lib.Ieee.{lt, ofBits}
-use Rattle.basis.specs.Choice.{_=?_}
-use Rattle.basis.specs.Floats.{zero64}
+use Rattle.base.specs.Choice.{_=?_}
+use Rattle.base.specs.Floats.{zero64}
 use Rattle.state.specs.State.{used, coefficientOf, centreAllowed}
 use Rattle.state.specs.declared.Setting.{Setting}
 

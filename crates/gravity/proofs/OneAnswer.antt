@@ -1,7 +1,7 @@
 -- Any two results that the promise of the acceleration call allows are equal. Assumes nothing.
 use mathlib.Core.Path.{refl}
 use denote.Ref.{now}
-use Rattle.basis.proofs.OneAnswer.{OneAnswer, one-answer}
+use Rattle.base.proofs.OneAnswer.{OneAnswer, one-answer}
 use Rattle.gravity.specs.Acceleration.{accelerationAnswer}
 use Rattle.gravity.proofs.acceleration as acceleration
 

@@ -4,8 +4,8 @@ use mathlib.Core.List.{List, [], _∷_}
 use mathlib.Core.Path.{_≡_, refl}
 use Prim.Native.Nat.{ℕ}
 use Rattle.basis.specs.Choice.{if_then_else_, _=?_}
-use Rattle.basis.specs.Limits.{isMoment}
-use Rattle.basis.proofs.Cases.{by-if}
+use Rattle.base.specs.Limits.{isMoment}
+use Rattle.base.proofs.Cases.{by-if}
 use Rattle.state.specs.State.{finiteVector, used, settingAllowed, coefficientOf, centreAllowed, lookedUp}
 use Rattle.state.specs.declared.Vector.{Vector}
 use Rattle.state.specs.declared.Setting.{Setting}

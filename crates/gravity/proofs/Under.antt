@@ -7,23 +7,23 @@ use lib.Ieee.{Float}
 use lib.Dec.{eqb·suc-zero}
 use borrow.Author.Tests.{ne-eqb}
 use native.Mathlib.Omega.{arith}
-use Rattle.basis.specs.Choice.{if_then_else_, _=?_}
+use Rattle.base.specs.Choice.{if_then_else_, _=?_}
 use Rattle.state.specs.State.{finiteVector, used, coefficientOf, centreAllowed}
 use Rattle.state.specs.declared.Vector.{Vector}
 use Rattle.state.specs.declared.Setting.{Setting}
 use Rattle.book.specs.declared.Motion.{Motion}
 use Rattle.book.specs.declared.PositionAnswer.the-variants as position
-use Rattle.pull.specs.Pull.{plus, minus, negated, g, sound}
+use Rattle.gravity_pull.specs.Pull.{plus, minus, negated, g, sound}
 use Rattle.terms.specs.Terms.{lastTerms, lastSound}
-use Rattle.pull.specs.Sum.{pullOf, takenOff, lessBy, lessAll, vectorOf, startBy}
-use Rattle.terms.specs.Added.{oblateBy, sunlitBy}
-use Rattle.pull.specs.declared.Pull.{Pull}
-use Rattle.pull.specs.declared.Other.{Other}
+use Rattle.gravity_pull.specs.Sum.{pullOf, takenOff, lessBy, lessAll, vectorOf, startBy}
+use Rattle.gravity_terms.specs.Added.{oblateBy, sunlitBy}
+use Rattle.gravity_pull.specs.declared.Pull.{Pull}
+use Rattle.gravity_pull.specs.declared.Other.{Other}
 use Rattle.sight.specs.Sky.{Sky, Bodies, Hidden, Listed, bodiesOf, standing, nowhere, stands, placeOf, seen, skyOf, sky}
 use Rattle.sight.specs.Looked.{foundOf, foundIn, placeIn, besides, orLater, refusalOf, refusalIn}
-use Rattle.sight.specs.declared.Sight.{Sight}
+use Rattle.gravity_bodies.specs.declared.Sight.{Sight}
 use Rattle.sight.proofs.Looked.{Looked, unlooked, hidden, there, unpulling, sightOf, sightsOf, found, looked, placed, used-looked}
-pub use Rattle.sight.proofs.Looked.{allClear, seenEntry}
+pub use Rattle.gravity_bodies.proofs.Looked.{allClear, seenEntry}
 use Rattle.gravity.specs.Acceleration.{others, fromCentre, less, allSound, settled, finished, accelerationAt}
 use Rattle.gravity.specs.Sight.{otherOf, othersOf, sights, listed, settledBy, finishedBy, accelerationBy}
 use Rattle.gravity.proofs.Centres.{One, one, two, three, four, five, six, centreOne}

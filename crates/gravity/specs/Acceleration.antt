@@ -2,16 +2,16 @@
 use mathlib.Core.Bool.{Bool, true, not, _&&_}
 use mathlib.Core.List.{List, [], _∷_}
 use Prim.Native.Nat.{ℕ}
-use Rattle.basis.specs.Choice.{if_then_else_, _=?_}
-use Rattle.basis.specs.Limits.{isMoment}
+use Rattle.base.specs.Choice.{if_then_else_, _=?_}
+use Rattle.base.specs.Limits.{isMoment}
 use Rattle.state.specs.State.{finiteVector, used, settingAllowed, coefficientOf, centreAllowed}
 use Rattle.state.specs.declared.Vector.{Vector}
 use Rattle.state.specs.declared.Setting.{Setting}
 use Rattle.book.specs.Passes.{passes}
-use Rattle.pull.specs.Pull.{plus, minus, negated, g, sound}
-pub use Rattle.terms.specs.Terms.{lastTerms, lastSound}
+use Rattle.gravity_pull.specs.Pull.{plus, minus, negated, g, sound}
+pub use Rattle.gravity_terms.specs.Terms.{lastTerms, lastSound}
 pub use Rattle.sight.specs.Sky.{Body, Sky, Bodies, Hidden, Listed, standing, nowhere, atRest, stands, seen, skyOf, placeOf}
-unfoldable pub use Rattle.sight.specs.Sky.{sky}
+unfoldable pub use Rattle.gravity_bodies.specs.Sky.{sky}
 use Rattle.gravity.specs.declared.AccelerationAnswer.{AccelerationAnswer}
 use Rattle.gravity.specs.declared.AccelerationAnswer.the-variants as answer
 

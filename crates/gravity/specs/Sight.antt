@@ -2,22 +2,22 @@
 use mathlib.Core.List.{List, [], _∷_}
 use Prim.Native.Nat.{ℕ}
 use lib.Ieee.{Float}
-use Rattle.basis.specs.Choice.{if_then_else_, _=?_}
+use Rattle.base.specs.Choice.{if_then_else_, _=?_}
 use Rattle.state.specs.State.{used, coefficientOf}
 use Rattle.state.specs.declared.Vector.{Vector}
 use Rattle.state.specs.declared.Setting.{Setting}
-use Rattle.pull.specs.Pull.{minus}
+use Rattle.gravity_pull.specs.Pull.{minus}
 use Rattle.pull.specs.Sum.{pullOf, noPull, lessAll, startBy, vectorOf}
-use Rattle.terms.specs.Added.{oblateBy, sunlitBy}
-use Rattle.pull.specs.declared.Pull.{Pull}
-use Rattle.pull.specs.declared.Other.{Other}
-use Rattle.sight.specs.Sky.{nowhere}
-use Rattle.sight.specs.Looked.{blank, placeIn, besides}
-pub use Rattle.sight.specs.Looked.{entryOr}
-unfoldable pub use Rattle.sight.specs.Looked.{foundOf, foundIn, refusalIn}
-use Rattle.sight.specs.declared.Sight.{Sight}
-use Rattle.sight.specs.declared.Found.{Found}
-use Rattle.sight.specs.declared.Besides.{Besides}
+use Rattle.gravity_terms.specs.Added.{oblateBy, sunlitBy}
+use Rattle.gravity_pull.specs.declared.Pull.{Pull}
+use Rattle.gravity_pull.specs.declared.Other.{Other}
+use Rattle.gravity_bodies.specs.Sky.{nowhere}
+use Rattle.gravity_bodies.specs.Looked.{blank, placeIn, besides}
+pub use Rattle.gravity_bodies.specs.Looked.{entryOr}
+unfoldable pub use Rattle.gravity_bodies.specs.Looked.{foundOf, foundIn, refusalIn}
+use Rattle.gravity_bodies.specs.declared.Sight.{Sight}
+use Rattle.gravity_bodies.specs.declared.Found.{Found}
+use Rattle.gravity_bodies.specs.declared.Besides.{Besides}
 use Rattle.gravity.specs.Acceleration.{settled}
 use Rattle.gravity.specs.declared.AccelerationAnswer.{AccelerationAnswer}
 use Rattle.gravity.specs.declared.AccelerationAnswer.the-variants.{Refused}

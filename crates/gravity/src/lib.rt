@@ -1,10 +1,10 @@
 // The acceleration of a spacecraft about a centre: the centre's pull, less what the other bodies give it and the centre.
 
-pub mod known;
+pub mod inner;
 
-use basis::END_OF_TIME;
+use base::END_OF_TIME;
 use basis::unless;
-use pull::Other;
+use gravity_pull::Other;
 use state::Setting;
 use state::Vector;
 ghost use mathlib.Core.Path.{_≡_};
@@ -64,7 +64,7 @@ pub fn acceleration(
     let after_book = unless(allowed, 4, after_setting);
     let refusal = unless(passes, 1, after_book);
     if refusal == 0 {
-        return known::rule(book, setting, centre, moment, position);
+        return inner::rule(book, setting, centre, moment, position);
     }
     AccelerationAnswer::Refused(refusal)
 }

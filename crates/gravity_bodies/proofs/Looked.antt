@@ -6,7 +6,7 @@ use Prim.Native.Nat.{ℕ, zero, suc}
 use lib.Ieee.{Float}
 use lib.Dec.{eqb·suc-zero}
 use native.Mathlib.Omega.{arith}
-use Rattle.basis.specs.Choice.{if_then_else_, _=?_}
+use Rattle.base.specs.Choice.{if_then_else_, _=?_}
 use Rattle.state.specs.State.{finiteVector, used, lookedUp}
 use Rattle.book.specs.Lookup.{lookup}
 use Rattle.book.specs.Series.{place, velocity}
@@ -19,7 +19,7 @@ use Rattle.book.specs.declared.PositionAnswer.{PositionAnswer}
 use Rattle.book.specs.declared.PositionAnswer.the-variants as position
 use Rattle.sight.specs.Sky.{Listed, standing, nowhere, atRest, stands, placeOf}
 use Rattle.sight.specs.Looked.{blank, foundAt, foundBy, foundOf, orLater, refusalOf, entryOr}
-use Rattle.sight.specs.declared.Sight.{Sight}
+use Rattle.gravity_bodies.specs.declared.Sight.{Sight}
 
 -- ---- the three ways in which a body can be looked up
 

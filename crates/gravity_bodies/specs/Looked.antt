@@ -3,20 +3,20 @@ use mathlib.Core.Bool.{Bool, true, false}
 use mathlib.Core.List.{List, [], _∷_}
 use Prim.Native.Nat.{ℕ}
 use lib.Ieee.{Float}
-use Rattle.basis.specs.Choice.{if_then_else_, _=?_, _≤?_}
+use Rattle.base.specs.Choice.{if_then_else_, _=?_, _≤?_}
 use Rattle.state.specs.State.{finiteVector, used, lookedUp}
 use Rattle.state.specs.declared.Vector.{Vector}
 use Rattle.state.specs.declared.Setting.{Setting}
 use Rattle.book.specs.Lookup.{lookup}
 use Rattle.book.specs.Series.{place, velocity}
 use Rattle.book.specs.Position.{finiteVelocity}
-use Rattle.series.specs.declared.Place.{Place}
+use Rattle.book_series.specs.declared.Place.{Place}
 use Rattle.book.specs.declared.Lookup.{Lookup}
 use Rattle.book.specs.declared.Lookup.the-variants.{Entry, Nothing}
-use Rattle.sight.specs.Sky.{standing, nowhere}
-use Rattle.sight.specs.declared.Sight.{Sight}
-use Rattle.sight.specs.declared.Found.{Found}
-use Rattle.sight.specs.declared.Besides.{Besides}
+use Rattle.gravity_bodies.specs.Sky.{standing, nowhere}
+use Rattle.gravity_bodies.specs.declared.Sight.{Sight}
+use Rattle.gravity_bodies.specs.declared.Found.{Found}
+use Rattle.gravity_bodies.specs.declared.Besides.{Besides}
 
 -- a body of which nothing is known: unused, or refused
 abbrev pub blank : Float → ℕ → Sight

@@ -3,14 +3,14 @@ use mathlib.Core.Bool.{Bool, true, false}
 use mathlib.Core.List.{List, [], _∷_}
 use Prim.Native.Nat.{ℕ}
 use lib.Ieee.{Float}
-use Rattle.basis.specs.Choice.{if_then_else_, _=?_}
-use Rattle.basis.specs.Floats.{zero64}
+use Rattle.base.specs.Choice.{if_then_else_, _=?_}
+use Rattle.base.specs.Floats.{zero64}
 use Rattle.state.specs.State.{used, lookedUp}
 pub use Rattle.state.specs.State.{nowhere}
 use Rattle.state.specs.declared.Vector.{Vector}
 use Rattle.state.specs.declared.Setting.{Setting}
 use Rattle.book.specs.Position.{bodyAt}
-use Rattle.series.specs.declared.Place.{Place}
+use Rattle.book_series.specs.declared.Place.{Place}
 use Rattle.series.specs.declared.Velocity.{Velocity}
 use Rattle.book.specs.declared.Motion.{Motion}
 use Rattle.book.specs.declared.PositionAnswer.{PositionAnswer}

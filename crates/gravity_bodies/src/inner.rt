@@ -7,7 +7,7 @@ use book::Place;
 use state::Vector;
 ghost use mathlib.Core.Path.{_≡_};
 ghost use Rattle.book.specs.Calm.{Ready};
-ghost use Rattle.sight.specs.Looked.{foundAt, foundOf};
+ghost use Rattle.gravity_bodies.specs.Looked.{foundAt, foundOf};
 
 // A body that an entry puts at p; `slow` where its velocity is finite.
 fn found_at(p: Place, slow: bool, entry: usize, m: f64) -> Sight
@@ -46,12 +46,12 @@ pub fn found(
     ensures { λ r. ⌜ r ≡ foundOf (now (book .entry)) number m lit moment ⌝ }
 {
     if state::is_looked_up(m, lit) {
-        let Lookup::Entry(entry) = book::known::lookup_guessed(book, number, moment, guess as usize)
+        let Lookup::Entry(entry) = book::inner::lookup_guessed(book, number, moment, guess as usize)
         else {
             return blank_sight(m, 6);
         };
-        let place = book::known::place_at(book, entry, moment);
-        let slow = book::known::slow_at(book, entry, moment, calm);
+        let place = book::inner::place_at(book, entry, moment);
+        let slow = book::inner::slow_at(book, entry, moment, calm);
         return found_at(place, slow, entry, m);
     }
     blank_sight(m, 0)

@@ -1,10 +1,10 @@
 // The bodies at a moment, as they are looked up, seen from the Earth.
 
-pub mod known;
+pub mod inner;
 
 use state::Vector;
 ghost use mathlib.Core.Path.{_≡_};
-ghost use Rattle.basis.specs.Choice.{if_then_else_};
+ghost use Rattle.base.specs.Choice.{if_then_else_};
 ghost use Rattle.sight.specs.Looked.{blank, orLater, refusalIn, placeIn, besides};
 
 // One body at a moment, as it is looked up: refused by a number, or where it stands, seen from the Earth.

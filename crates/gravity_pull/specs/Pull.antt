@@ -2,7 +2,7 @@
 use mathlib.Core.Bool.{Bool, not, _&&_}
 use lib.Ieee.{Float, neg, eq}
 use lib.Ieee.Scale.{finite}
-use Rattle.basis.specs.Floats.{_⊕_, _⊖_, _⊗_, _⊘_, zero64}
+use Rattle.base.specs.Floats.{_⊕_, _⊖_, _⊗_, _⊘_, zero64}
 use Rattle.state.specs.State.{n}
 use Rattle.state.specs.declared.Vector.{Vector}
 use Rattle.root.specs.Root.{rootOf}

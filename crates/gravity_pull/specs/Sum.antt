@@ -2,15 +2,15 @@
 use mathlib.Core.Bool.{Bool, true, _&&_}
 use mathlib.Core.List.{List, [], _∷_}
 use lib.Ieee.{Float, neg}
-use Rattle.basis.specs.Choice.{if_then_else_}
-use Rattle.basis.specs.Floats.{_⊕_, _⊖_, _⊗_, _⊘_, zero64}
+use Rattle.base.specs.Choice.{if_then_else_}
+use Rattle.base.specs.Floats.{_⊕_, _⊖_, _⊗_, _⊘_, zero64}
 use Rattle.state.specs.State.{used}
 use Rattle.state.specs.declared.Vector.{Vector}
-use Rattle.pull.specs.Pull.{g, sound, divisible, minus}
-use Rattle.pull.specs.declared.Pull.{Pull}
+use Rattle.gravity_pull.specs.Pull.{g, sound, divisible, minus}
+use Rattle.gravity_pull.specs.declared.Pull.{Pull}
 use Rattle.pull.specs.declared.TwoPulls.{TwoPulls}
-use Rattle.pull.specs.declared.ThreePulls.{ThreePulls}
-use Rattle.pull.specs.declared.Other.{Other}
+use Rattle.gravity_pull.specs.declared.ThreePulls.{ThreePulls}
+use Rattle.gravity_pull.specs.declared.Other.{Other}
 
 -- the pull of a body of coefficient m that lies v away, with n and its root
 abbrev pub pullBy : Vector → Float → Float → Float → Pull

@@ -8,8 +8,8 @@ use state::Vector;
 ghost use mathlib.Core.Path.{_≡_};
 ghost use mathlib.Core.Bool.{_&&_, not};
 ghost use lib.Ieee.{eq};
-ghost use Rattle.basis.specs.Floats.{zero64};
-ghost use Rattle.pull.specs.Pull.{divisible, minus};
+ghost use Rattle.base.specs.Floats.{zero64};
+ghost use Rattle.gravity_pull.specs.Pull.{divisible, minus};
 ghost use Rattle.pull.specs.Sum.{pullBy, pullOf, twoPullsOf, pullsOf, opposite, takenOff, lessNear, lessBy, startBy};
 
 pub fn both(a: bool, b: bool) -> bool
@@ -28,7 +28,7 @@ fn divides(n: f64, r3: f64) -> bool
     ensures { λ r. ⌜ r ≡ divisible n r3 ⌝ }
 {
     both(
-        both(basis::is_finite(n), basis::is_finite(r3)),
+        both(base::is_finite(n), base::is_finite(r3)),
         differs_from_zero(r3),
     )
 }
@@ -50,7 +50,7 @@ pub fn pull(v: Vector, m: f64) -> Pull
     ensures { λ r. ⌜ r ≡ pullOf v m ⌝ }
 {
     let n = state::square(v);
-    pull_by(v, m, n, root::known::square_root(n))
+    pull_by(v, m, n, root::inner::square_root(n))
 }
 
 // Two pulls at once: their roots are worked out side by side.

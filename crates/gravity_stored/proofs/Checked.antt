@@ -9,7 +9,7 @@ use Rattle.state.specs.State.{settingAllowed, centreAllowed}
 use Rattle.state.specs.declared.Injection.{Injection}
 use Rattle.state.specs.declared.Setting.{Setting}
 use Rattle.book.specs.Passes.{passes}
-use Rattle.injection.specs.Injection.{injectionRefusal}
+use Rattle.gravity_stored.specs.Injection.{injectionRefusal}
 
 -- a check that refuses nothing has passed, and so have those after it
 next : (ok : Bool) (k rest : ℕ) → (if not ok then suc k else rest) ≡ 0 → (ok ≡ true) × (rest ≡ 0)

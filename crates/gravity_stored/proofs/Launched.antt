@@ -3,8 +3,8 @@ use mathlib.Core.Bool.{Bool, true, false, not}
 use mathlib.Core.List.{List}
 use mathlib.Core.Path.{_≡_, refl, sym, ap, _∙_}
 use Prim.Native.Nat.{ℕ}
-use Rattle.basis.specs.Choice.{if_then_else_, _=?_}
-use Rattle.basis.specs.Limits.{isMoment}
+use Rattle.base.specs.Choice.{if_then_else_, _=?_}
+use Rattle.base.specs.Limits.{isMoment}
 use Rattle.state.specs.State.{position, acceleration, carrying, bare, finiteInjection, finiteState, settingAllowed, centreAllowed}
 use Rattle.state.specs.declared.State.{State}
 use Rattle.state.specs.declared.Injection.{Injection}
@@ -13,7 +13,7 @@ use Rattle.book.specs.Passes.{passes}
 use Rattle.gravity.specs.Acceleration.{nowhere, accelerationAt}
 use Rattle.gravity.specs.declared.AccelerationAnswer.{AccelerationAnswer}
 use Rattle.gravity.specs.declared.AccelerationAnswer.the-variants as rule
-use Rattle.injection.specs.Injection.{ruleAt, keptBy, kept, injectionRefusal, injectionAnswer, orNone, launched}
+use Rattle.gravity_stored.specs.Injection.{ruleAt, keptBy, kept, injectionRefusal, injectionAnswer, orNone, launched}
 use Rattle.injection.specs.declared.InjectionAnswer.{InjectionAnswer}
 use Rattle.injection.specs.declared.InjectionAnswer.the-variants.{Injected, Refused}
 

@@ -1,10 +1,10 @@
 -- Any two results that the promise of a call about an injection allows are equal. Assumes nothing.
 use mathlib.Core.Path.{refl}
 use denote.Ref.{now}
-use Rattle.basis.proofs.OneAnswer.{OneAnswer, one-answer}
-use Rattle.injection.specs.Injection.{injectionAnswer, launched}
-use Rattle.injection.proofs.inject as inject
-use Rattle.injection.proofs.launch as launch
+use Rattle.base.proofs.OneAnswer.{OneAnswer, one-answer}
+use Rattle.gravity_stored.specs.Injection.{injectionAnswer, launched}
+use Rattle.gravity_stored.proofs.inject as inject
+use Rattle.gravity_stored.proofs.launch as launch
 
 pub inject-answers-once : OneAnswer inject.ended (λ M. inject.clauses)
 inject-answers-once =

@@ -5,7 +5,7 @@ use mathlib.Core.Path.{_≡_, refl}
 use Prim.Native.Nat.{ℕ, suc}
 use lib.Dec.{eqb·suc-zero}
 use Rattle.basis.specs.Choice.{if_then_else_, _=?_}
-use Rattle.basis.specs.Limits.{isMoment}
+use Rattle.base.specs.Limits.{isMoment}
 use Rattle.state.specs.State.{startingPosition, finiteInjection, settingAllowed, centreAllowed}
 use Rattle.state.specs.declared.Injection.{Injection}
 use Rattle.state.specs.declared.Setting.{Setting}
@@ -13,9 +13,9 @@ use Rattle.book.specs.Passes.{passes}
 use Rattle.gravity.specs.declared.AccelerationAnswer.{AccelerationAnswer}
 use Rattle.gravity.specs.declared.AccelerationAnswer.the-variants as rule
 use Rattle.gravity.proofs.Refused as gravity
-use Rattle.injection.specs.Injection.{ruleAt, keptBy, kept, injectionRefusal, injectionAnswer}
-use Rattle.injection.specs.declared.InjectionAnswer.{InjectionAnswer}
-use Rattle.injection.specs.declared.InjectionAnswer.the-variants.{Injected, Refused}
+use Rattle.gravity_stored.specs.Injection.{ruleAt, keptBy, kept, injectionRefusal, injectionAnswer}
+use Rattle.gravity_stored.specs.declared.InjectionAnswer.{InjectionAnswer}
+use Rattle.gravity_stored.specs.declared.InjectionAnswer.the-variants.{Injected, Refused}
 
 -- an answer whose refusal, if it is one, meets the test
 abbrev pub refusedBy : (ℕ → Bool) → InjectionAnswer → Bool

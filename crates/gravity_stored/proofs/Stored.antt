@@ -7,7 +7,7 @@ use native.Mathlib.Omega.{arith}
 use borrow.Author.Tests.{eq-eqb}
 use lib.Ieee.{Float, binary64, toBits}
 use lib.Ieee.Scale.{finite}
-use Rattle.basis.specs.Choice.{if_then_else_, _=?_}
+use Rattle.base.specs.Choice.{if_then_else_, _=?_}
 use Rattle.state.specs.State.{position, acceleration, carrying, bare, sameBits, sameVector, finiteVector, coefficientOf}
 use Rattle.state.specs.declared.Vector.{Vector}
 use Rattle.state.specs.declared.State.{State}
@@ -21,7 +21,7 @@ use Rattle.gravity.proofs.Refused.{rule-refused, refusedBy}
 use Rattle.book.proofs.Below.{left, right}
 use Rattle.injection.specs.Injection.{ruleAt, keptBy, kept, injectionRefusal, injectionAnswer, inOrderBy, inOrder, orderRefusalBy, orderRefusal}
 use Rattle.injection.specs.declared.InjectionAnswer.{InjectionAnswer}
-use Rattle.injection.specs.declared.InjectionAnswer.the-variants.{Injected, Refused}
+use Rattle.gravity_stored.specs.declared.InjectionAnswer.the-variants.{Injected, Refused}
 
 -- ---- the rule's acceleration is finite
 

@@ -2,8 +2,8 @@
 use mathlib.Core.Bool.{Bool, false, not}
 use mathlib.Core.List.{List}
 use Prim.Native.Nat.{ℕ}
-use Rattle.basis.specs.Choice.{if_then_else_, _=?_}
-use Rattle.basis.specs.Limits.{isMoment}
+use Rattle.base.specs.Choice.{if_then_else_, _=?_}
+use Rattle.base.specs.Limits.{isMoment}
 use Rattle.state.specs.State.{position, acceleration, startingPosition, carrying, bare, sameVector, finiteInjection, settingAllowed, centreAllowed}
 use Rattle.state.specs.declared.State.{State}
 use Rattle.state.specs.declared.Injection.{Injection}
@@ -12,8 +12,8 @@ use Rattle.book.specs.Passes.{passes}
 use Rattle.gravity.specs.Acceleration.{nowhere, accelerationAt}
 use Rattle.gravity.specs.declared.AccelerationAnswer.{AccelerationAnswer}
 use Rattle.gravity.specs.declared.AccelerationAnswer.the-variants as rule
-use Rattle.injection.specs.declared.InjectionAnswer.{InjectionAnswer}
-use Rattle.injection.specs.declared.InjectionAnswer.the-variants.{Injected, Refused}
+use Rattle.gravity_stored.specs.declared.InjectionAnswer.{InjectionAnswer}
+use Rattle.gravity_stored.specs.declared.InjectionAnswer.the-variants.{Injected, Refused}
 
 -- "the rule at that state"
 abbrev pub ruleAt : List ℕ → Setting → Injection → AccelerationAnswer

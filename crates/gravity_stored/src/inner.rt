@@ -4,8 +4,8 @@
 use crate::InjectionAnswer;
 use gravity::AccelerationAnswer;
 use gravity::Sights;
-use gravity::known::acceleration_under;
-use gravity::known::rule;
+use gravity::inner::acceleration_under;
+use gravity::inner::rule;
 use state::Injection;
 use state::Setting;
 use state::State;

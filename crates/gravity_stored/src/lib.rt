@@ -1,8 +1,8 @@
 // (02, R-8) The acceleration kept with a state: an injection made into a state, and whether a state is in order.
 
-pub mod known;
+pub mod inner;
 
-use basis::END_OF_TIME;
+use base::END_OF_TIME;
 use basis::unless;
 use state::Injection;
 use state::Setting;
@@ -10,7 +10,7 @@ use state::State;
 use state::Vector;
 use state::carrying;
 ghost use mathlib.Core.Path.{_≡_};
-ghost use Rattle.injection.specs.Injection.{injectionRefusal, injectionAnswer, orNone, launched};
+ghost use Rattle.gravity_stored.specs.Injection.{injectionRefusal, injectionAnswer, orNone, launched};
 
 pub enum InjectionAnswer {
     Injected(State),
@@ -39,7 +39,7 @@ pub fn inject(book: &[u8], setting: Setting, injection: Injection) -> InjectionA
 {
     let refusal = injection_refusal(book, setting, injection);
     if refusal == 0 {
-        return known::kept_at(book, setting, injection);
+        return inner::kept_at(book, setting, injection);
     }
     InjectionAnswer::Refused(refusal)
 }

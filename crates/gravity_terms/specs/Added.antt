@@ -4,9 +4,9 @@ use Rattle.basis.specs.Floats.{_⊖_, _⊗_, _⊘_, whole}
 use Rattle.state.specs.State.{n, used}
 use Rattle.state.specs.declared.Vector.{Vector}
 use Rattle.state.specs.declared.Setting.{Setting}
-use Rattle.pull.specs.Pull.{minus}
+use Rattle.gravity_pull.specs.Pull.{minus}
 use Rattle.pull.specs.Sum.{vectorOf}
-use Rattle.pull.specs.declared.Pull.{Pull}
+use Rattle.gravity_pull.specs.declared.Pull.{Pull}
 use Rattle.terms.specs.Terms.{oblate, sunlit, soundIf}
 
 -- a sum with the oblate Earth, whose pull is known

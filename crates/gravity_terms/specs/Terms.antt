@@ -1,11 +1,11 @@
 -- Document 02, R-7: the two last terms of the acceleration, an oblate Earth and sunlight.
 use mathlib.Core.Bool.{Bool, _&&_}
-use Rattle.basis.specs.Choice.{if_then_else_}
-use Rattle.basis.specs.Floats.{_⊖_, _⊗_, _⊘_, whole}
+use Rattle.base.specs.Choice.{if_then_else_}
+use Rattle.base.specs.Floats.{_⊖_, _⊗_, _⊘_, whole}
 use Rattle.state.specs.State.{n, used}
 use Rattle.state.specs.declared.Vector.{Vector}
 use Rattle.state.specs.declared.Setting.{Setting}
-use Rattle.pull.specs.Pull.{plus, g, sound}
+use Rattle.gravity_pull.specs.Pull.{plus, g, sound}
 
 -- R-7: "Earth oblateness, with setting J and radius A .., on the position from the Earth", Q: "with u = (z·z)/n, x and y lose ((J·g
 -- component)·((A·A)/n))·(1 - 5·u), z the same with (3 - 5·u), g being the Earth's pull"

@@ -1,10 +1,10 @@
 -- Any two results that the promise of a call of the motion allows are equal. Assumes nothing.
 use mathlib.Core.Path.{refl}
 use denote.Ref.{now}
-use Rattle.basis.proofs.OneAnswer.{OneAnswer, one-answer}
-use Rattle.motion.specs.Run.{runAnswer, singleStepAnswer}
-use Rattle.motion.proofs.run as run
-use Rattle.motion.proofs.single_step as single-step
+use Rattle.base.proofs.OneAnswer.{OneAnswer, one-answer}
+use Rattle.run.specs.Run.{runAnswer, singleStepAnswer}
+use Rattle.run.proofs.run as run
+use Rattle.run.proofs.single_step as single-step
 
 pub run-answers-once : OneAnswer run.ended (λ M. run.clauses)
 run-answers-once =

@@ -7,10 +7,10 @@ use native.Mathlib.Omega.{arith}
 use borrow.Author.Tests.{eq-eqb, ne-eqb}
 use Rattle.basis.specs.Choice.{if_then_else_}
 use Rattle.state.specs.declared.State.{State}
-use Rattle.stages.specs.Step.{Moved, On, Off}
+use Rattle.step.specs.Step.{Moved, On, Off}
 use Rattle.motion.specs.Run.{Reached, ended, counted, atTarget, afterwards, runTo}
-use Rattle.motion.specs.Kept.{countedBy}
-use Rattle.motion.specs.declared.Outcome.the-variants.{Arrived, Going, Refused}
+use Rattle.run.specs.Kept.{countedBy}
+use Rattle.run.specs.declared.Outcome.the-variants.{Arrived, Going, Refused}
 
 module _ (f : State → Moved) (target : ℕ) (s : State) where
   pub runArrived : (budget : ℕ) → s .moment ≡ target → runTo f target budget s ≡ ended Arrived s

@@ -4,8 +4,8 @@ use mathlib.Core.List.{List}
 use mathlib.Core.Path.{_≡_, refl}
 use Prim.Native.Nat.{ℕ, _≤_}
 use borrow.Author.Tests.{ltb-true, le-ltb}
-use Rattle.basis.specs.Choice.{if_then_else_, _=?_}
-use Rattle.basis.specs.Limits.{endOfTime}
+use Rattle.base.specs.Choice.{if_then_else_, _=?_}
+use Rattle.base.specs.Limits.{endOfTime}
 use Rattle.state.specs.State.{settingAllowed, centreAllowed}
 use Rattle.state.specs.declared.State.{State}
 use Rattle.state.specs.declared.Setting.{Setting}
@@ -14,9 +14,9 @@ use Rattle.gravity.specs.declared.Guesses.{Guesses}
 use Rattle.stages.specs.Step.{step}
 use Rattle.start.specs.Start.{startRefusal}
 use Rattle.motion.specs.Run.{Reached, runTo, withGuesses, refusedAtOnce, runAnswer}
-use Rattle.motion.specs.Kept.{MayWalk}
-use Rattle.motion.specs.declared.RunAnswer.{RunAnswer}
-use Rattle.start.proofs.Allowed.{longEnough}
+use Rattle.run.specs.Kept.{MayWalk}
+use Rattle.run.specs.declared.RunAnswer.{RunAnswer}
+use Rattle.run_checks.proofs.Allowed.{longEnough}
 use Rattle.start.proofs.Passed.{Passed, passed}
 
 pub mayWalk : (b : List ℕ) (setting : Setting) (s : State) (h target : ℕ) → startRefusal b setting s h target ≡ 0 → MayWalk b setting s h target

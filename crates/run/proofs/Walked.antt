@@ -6,24 +6,24 @@ use Prim.Native.Nat.{ℕ, zero, suc, _+_, _-_, _*_, _/_, _%_, _≤_, _<_}
 use native.Mathlib.Nat.{suc-mul, zero-mul}
 use native.Mathlib.Omega.{arith}
 use borrow.Author.Tests.{ne-eqb}
-use Rattle.basis.specs.Limits.{endOfTime}
+use Rattle.base.specs.Limits.{endOfTime}
 use Rattle.state.specs.State.{used, centreAllowed}
 use Rattle.state.specs.declared.State.{State}
 use Rattle.state.specs.declared.Setting.{Setting}
 use Rattle.gravity.specs.Sight.{sights, foundIn, refusalIn}
 use Rattle.gravity.specs.declared.Guesses.{Guesses}
 use Rattle.gravity.proofs.Under.{allClear, seenEntry}
-use Rattle.stages.specs.Step.{Moved, On, Off, step}
+use Rattle.step.specs.Step.{Moved, On, Off, step}
 use Rattle.motion.specs.Run.{Reached, ended, runTo, guessesAt, guessesAfter, handedBack, withGuesses}
-use Rattle.arrival.specs.Kept.{kept}
-use Rattle.stages.specs.Entries.{entriesAfter, MayStep}
-use Rattle.motion.specs.Kept.{guessesFrom, countedBy, MayWalk, Walking}
+use Rattle.step_end.specs.Kept.{kept}
+use Rattle.step.specs.Entries.{entriesAfter, MayStep}
+use Rattle.run.specs.Kept.{guessesFrom, countedBy, MayWalk, Walking}
 use Rattle.motion.specs.declared.RunAnswer.{RunAnswer}
-use Rattle.motion.specs.declared.Outcome.{Outcome}
+use Rattle.run.specs.declared.Outcome.{Outcome}
 use Rattle.motion.specs.declared.Outcome.the-variants.{Arrived, Going, Refused}
 use Rattle.arrival.specs.declared.Stepped.{Stepped}
-use Rattle.arrival.specs.declared.Stepped.the-variants as stepped
-use Rattle.start.proofs.Allowed.{away}
+use Rattle.step_end.specs.declared.Stepped.the-variants as stepped
+use Rattle.run_checks.proofs.Allowed.{away}
 use Rattle.stages.proofs.OneStep.{Done, done}
 use Rattle.motion.proofs.Runs.{runArrived, runGoing, runRefused, runOn, countNone, countOne, countEnded}
 

@@ -3,8 +3,8 @@ use mathlib.Core.Path.{_≡_, refl, ap, _∙_}
 use Prim.Native.Nat.{ℕ, zero, suc, _+_}
 use native.Mathlib.Nat.{add-zero, add-suc}
 use Rattle.state.specs.declared.State.{State}
-use Rattle.stages.specs.Step.{Moved, On}
-use Rattle.motion.specs.Walk.{onward, walk}
+use Rattle.step.specs.Step.{Moved, On}
+use Rattle.run.specs.Walk.{onward, walk}
 
 pub walkFirst : (f : State → Moved) (n : ℕ) (s next : State) → f s ≡ On next → walk f (suc n) s ≡ walk f n next
 unfolding walk

@@ -3,19 +3,19 @@ use mathlib.Core.Bool.{Bool, true, false}
 use mathlib.Core.List.{List}
 use mathlib.Core.Path.{_≡_}
 use Prim.Native.Nat.{ℕ, _+_, _-_, _*_, _≤_, _<_}
-use Rattle.basis.specs.Choice.{if_then_else_}
-use Rattle.basis.specs.Limits.{endOfTime}
+use Rattle.base.specs.Choice.{if_then_else_}
+use Rattle.base.specs.Limits.{endOfTime}
 use Rattle.book.specs.Passes.{passes}
 use lib.Ieee.{Float}
 use Rattle.state.specs.State.{used, centreAllowed, lookedUp}
 use Rattle.state.specs.declared.Setting.{Setting}
 use Rattle.state.specs.declared.State.{State}
 use Rattle.gravity.specs.declared.Guesses.{Guesses}
-pub use Rattle.arrival.specs.Kept.{kept}
-pub use Rattle.stages.specs.Entries.{entriesAfter, MayStep}
-use Rattle.stages.specs.Step.{step}
-use Rattle.start.specs.Start.{withinSteps}
-use Rattle.motion.specs.Run.{Reached, runTo, guessesAfter}
+pub use Rattle.step_end.specs.Kept.{kept}
+pub use Rattle.step.specs.Entries.{entriesAfter, MayStep}
+use Rattle.step.specs.Step.{step}
+use Rattle.run_checks.specs.Start.{withinSteps}
+use Rattle.run.specs.Run.{Reached, runTo, guessesAfter}
 
 abbrev pub guessFrom : Float → Bool → ℕ → ℕ → ℕ
 guessFrom m lit entry given = if lookedUp m lit then entry else given

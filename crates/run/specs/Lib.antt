@@ -1,4 +1,4 @@
-pub use Rattle.stages.specs.Step
+pub use Rattle.step.specs.Step
 pub mod Walk
 pub mod Run
 pub mod Kept

@@ -3,18 +3,18 @@ use mathlib.Core.Bool.{Bool, false}
 use mathlib.Core.List.{List}
 use Prim.Native.Nat.{ℕ, zero, suc, _+_}
 use lib.Ieee.{Float}
-use Rattle.basis.specs.Choice.{if_then_else_, _=?_}
+use Rattle.base.specs.Choice.{if_then_else_, _=?_}
 use Rattle.state.specs.State.{used, lookedUp}
 use Rattle.state.specs.declared.State.{State}
 use Rattle.state.specs.declared.Setting.{Setting}
 use Rattle.book.specs.Lookup.{lookup}
 use Rattle.gravity.specs.Sight.{entryOr}
 use Rattle.gravity.specs.declared.Guesses.{Guesses}
-use Rattle.start.specs.Start.{startRefusal}
-use Rattle.stages.specs.Step.{Moved, On, Off, step}
-use Rattle.motion.specs.declared.Outcome.{Outcome}
-use Rattle.motion.specs.declared.Outcome.the-variants.{Arrived, Going, Refused}
-use Rattle.motion.specs.declared.RunAnswer.{RunAnswer}
+use Rattle.run_checks.specs.Start.{startRefusal}
+use Rattle.step.specs.Step.{Moved, On, Off, step}
+use Rattle.run.specs.declared.Outcome.{Outcome}
+use Rattle.run.specs.declared.Outcome.the-variants.{Arrived, Going, Refused}
+use Rattle.run.specs.declared.RunAnswer.{RunAnswer}
 
 -- what a run comes to: its outcome, the steps done and the state reached
 pub record Reached : Type 0 where

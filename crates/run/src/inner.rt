@@ -1,3 +1,3 @@
 // One step, for the crates above.
 
-pub use stages::known::step_under;
+pub use step::inner::step_under;

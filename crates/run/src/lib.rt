@@ -1,15 +1,15 @@
 // The motion of a spacecraft: steps of a fixed length under a book of bodies, run in portions.
 
-pub mod known;
+pub mod inner;
 mod walking;
 
 pub use arrival::Stepped;
-use basis::END_OF_TIME;
+use base::END_OF_TIME;
 use gravity::Guesses;
 use state::Setting;
 use state::State;
 ghost use mathlib.Core.Path.{_≡_};
-ghost use Rattle.motion.specs.Run.{runAnswer, singleStepAnswer};
+ghost use Rattle.run.specs.Run.{runAnswer, singleStepAnswer};
 
 pub enum Outcome {
     Arrived,
@@ -36,7 +36,7 @@ pub fn run(
 ) -> RunAnswer
     ensures { λ r. ⌜ r ≡ runAnswer (now (book .entry)) setting state h target budget guesses ⌝ }
 {
-    let refusal = start::start_refusal(book, setting, state, h, target);
+    let refusal = run_checks::start_refusal(book, setting, state, h, target);
     if refusal == 0 {
         return walking::walk_on(book, setting, state, h, target, budget, guesses);
     }

@@ -8,9 +8,9 @@ use stages::known::step_under;
 use state::Setting;
 use state::State;
 ghost use mathlib.Core.Path.{_≡_};
-ghost use Rattle.stages.specs.Step.{step};
-ghost use Rattle.motion.specs.Run.{handedBack, runTo, withGuesses};
-ghost use Rattle.motion.specs.Kept.{guessFrom, guessesFrom, MayWalk};
+ghost use Rattle.step.specs.Step.{step};
+ghost use Rattle.run.specs.Run.{handedBack, runTo, withGuesses};
+ghost use Rattle.run.specs.Kept.{guessFrom, guessesFrom, MayWalk};
 
 fn guess_from(m: f64, lit: bool, entry: u64, given: u64) -> u64
     ensures { λ r. ⌜ r ≡ guessFrom m lit entry given ⌝ }
@@ -58,7 +58,7 @@ pub fn walk_on(
     requires { ⌜ MayWalk (now book) setting start h target ⌝ }
     ensures { λ r. ⌜ r ≡ withGuesses (now (book .entry)) setting given (runTo (step (now (book .entry)) setting h) target budget start) ⌝ }
 {
-    let calm = book::known::book_calm(book);
+    let calm = book::inner::book_calm(book);
     let mut now = start;
     let mut guesses = given;
     let mut n: u32 = 0;

@@ -1,3 +1,3 @@
-pub use Rattle.way.proofs.Allowed
+pub use Rattle.run_target.proofs.Allowed
 pub mod Passed
 pub mod Parted

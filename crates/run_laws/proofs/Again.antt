@@ -9,18 +9,18 @@ use Rattle.state.specs.declared.State.{State}
 use Rattle.state.specs.declared.Setting.{Setting}
 use Rattle.gravity.specs.declared.Guesses.{Guesses}
 use Rattle.motion.specs.Step.{Moved, On, Off, step}
-use Rattle.motion.specs.Walk.{walk}
-use Rattle.start.specs.Start.{startRefusal}
-use Rattle.motion.specs.Run.{runTo, withGuesses, runAnswer}
-use Rattle.motion.specs.declared.Outcome.{Outcome}
+use Rattle.run.specs.Walk.{walk}
+use Rattle.run_checks.specs.Start.{startRefusal}
+use Rattle.run.specs.Run.{runTo, withGuesses, runAnswer}
+use Rattle.run.specs.declared.Outcome.{Outcome}
 use Rattle.motion.specs.declared.Outcome.the-variants.{Arrived, Going, Refused}
-use Rattle.motion.specs.declared.RunAnswer.{RunAnswer}
-use Rattle.motion.proofs.Runs.{runGoing, runRefused}
-use Rattle.start.proofs.Passed.{Passed, passed, passes-all}
-use Rattle.motion.proofs.Walks.{walkLast}
-use Rattle.journey.specs.Journey.{Call, journey, metAgain}
+use Rattle.run.specs.declared.RunAnswer.{RunAnswer}
+use Rattle.run.proofs.Runs.{runGoing, runRefused}
+use Rattle.run_checks.proofs.Passed.{Passed, passed, passes-all}
+use Rattle.run.proofs.Walks.{walkLast}
+use Rattle.run_laws.specs.Journey.{Call, journey, metAgain}
 use Rattle.journey.proofs.Ran.{Tells, Ran}
-use Rattle.journey.proofs.Answers.{answerIs, runFrom, checksStay}
+use Rattle.run_laws.proofs.Answers.{answerIs, runFrom, checksStay}
 
 -- what a refused run tells of where it stopped: short of the target, with no next step
 pub record Stuck (b : List ℕ) (setting : Setting) (h target k : ℕ) (s : State) : Type 0 where

@@ -6,7 +6,7 @@ use Prim.Native.Nat.{ℕ, zero, suc, _+_, _-_, _*_, _/_, _%_, _≤_, _<_}
 use native.Mathlib.Nat.{mul-mod-left}
 use native.Mathlib.Omega.{arith}
 use borrow.Author.Tests.{lt-ltb, le-leb, ltb-true, ne-eqb}
-use Rattle.basis.specs.Limits.{endOfTime}
+use Rattle.base.specs.Limits.{endOfTime}
 use Rattle.state.specs.State.{position, acceleration, finiteState, centreAllowed}
 use Rattle.state.specs.declared.State.{State}
 use Rattle.state.specs.declared.Setting.{Setting}
@@ -16,14 +16,14 @@ use Rattle.gravity.specs.Sight.{sights}
 use Rattle.gravity.specs.declared.Guesses.{Guesses}
 use Rattle.injection.specs.Injection.{orderRefusal}
 use Rattle.injection.proofs.Order.{carries-rule, order-passes}
-use Rattle.motion.specs.Step.{Moved, On, Off, step}
-use Rattle.motion.specs.Walk.{onward, walk}
-use Rattle.start.specs.Start.{withinSteps, startRefusal}
-use Rattle.motion.specs.Run.{runTo, withGuesses, refusedAtOnce, runAnswer}
-use Rattle.start.proofs.Allowed.{away}
+use Rattle.run.specs.Step.{Moved, On, Off, step}
+use Rattle.run.specs.Walk.{onward, walk}
+use Rattle.run_checks.specs.Start.{withinSteps, startRefusal}
+use Rattle.run.specs.Run.{runTo, withGuesses, refusedAtOnce, runAnswer}
+use Rattle.run_checks.proofs.Allowed.{away}
 use Rattle.motion.proofs.OneStep.{Done, done}
 use Rattle.start.proofs.Passed.{Passed, passed}
-use Rattle.journey.proofs.Ran.{Ran, ran, stays}
+use Rattle.run_laws.proofs.Ran.{Ran, ran, stays}
 
 pub answerIs : (b : List ℕ) (setting : Setting) (s : State) (h target budget : ℕ) (given : Guesses) → startRefusal b setting s h target ≡ 0
     → runAnswer b setting s h target budget given ≡ withGuesses b setting given (runTo (step b setting h) target budget s)

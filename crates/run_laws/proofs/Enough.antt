@@ -7,17 +7,17 @@ use native.Mathlib.Omega.{arith}
 use borrow.Author.Tests.{ne-eqb}
 use Rattle.state.specs.declared.State.{State}
 use Rattle.state.specs.declared.Setting.{Setting}
-use Rattle.motion.specs.Step.{step}
-use Rattle.start.specs.Start.{startRefusal}
-use Rattle.motion.specs.Run.{runTo, withGuesses, runAnswer}
-use Rattle.motion.specs.declared.Outcome.{Outcome}
-use Rattle.motion.specs.declared.Outcome.the-variants.{Arrived, Going, Refused}
-use Rattle.motion.specs.declared.RunAnswer.{RunAnswer}
-use Rattle.start.proofs.Passed.{Passed, passed, passes-all}
+use Rattle.run.specs.Step.{step}
+use Rattle.run_checks.specs.Start.{startRefusal}
+use Rattle.run.specs.Run.{runTo, withGuesses, runAnswer}
+use Rattle.run.specs.declared.Outcome.{Outcome}
+use Rattle.run.specs.declared.Outcome.the-variants.{Arrived, Going, Refused}
+use Rattle.run.specs.declared.RunAnswer.{RunAnswer}
+use Rattle.run_checks.proofs.Passed.{Passed, passed, passes-all}
 use Rattle.journey.specs.Journey.{Call, after, budgets, metAgain, Over, there, off}
 use Rattle.journey.proofs.Ran.{Tells, Ran}
-use Rattle.journey.proofs.Answers.{answerIs, runFrom, checksStay}
-use Rattle.journey.proofs.Again.{Stuck, again, isStuck}
+use Rattle.run_laws.proofs.Answers.{answerIs, runFrom, checksStay}
+use Rattle.run_laws.proofs.Again.{Stuck, again, isStuck}
 
 module _ (b : List ℕ) (setting : Setting) (h target : ℕ) where
   answer : State → Call → RunAnswer

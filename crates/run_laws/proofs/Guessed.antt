@@ -15,12 +15,12 @@ use Rattle.book.specs.declared.Lookup.the-variants.{Entry, Nothing}
 use Rattle.gravity.specs.Sight.{foundOf, foundIn, refusalIn, sights, entryOr}
 use Rattle.gravity.specs.declared.Guesses.{Guesses}
 use Rattle.gravity.proofs.Under.{allClear}
-use Rattle.motion.specs.Step.{step}
+use Rattle.run.specs.Step.{step}
 use Rattle.motion.specs.Run.{runTo, guessAt, guessesAt, guessesAfter, runAnswer}
-use Rattle.start.specs.Start.{startRefusal}
+use Rattle.run_checks.specs.Start.{startRefusal}
 use Rattle.motion.specs.declared.RunAnswer.{RunAnswer}
-use Rattle.start.proofs.Passed.{passed}
-use Rattle.journey.specs.Guessed.{Guess, AllGuessed}
+use Rattle.run_checks.proofs.Passed.{passed}
+use Rattle.run_laws.specs.Guessed.{Guess, AllGuessed}
 use Rattle.journey.proofs.Ran.{Ran}
 use Rattle.journey.proofs.Answers.{Left, answerIs, refusedIs, runFrom, checksStay}
 

@@ -9,14 +9,14 @@ use Rattle.state.specs.declared.State.{State}
 use Rattle.state.specs.declared.Setting.{Setting}
 use Rattle.gravity.specs.declared.Guesses.{Guesses}
 use Rattle.injection.specs.Injection.{inOrder, launched}
-use Rattle.injection.proofs.Launched.{launched-itself}
+use Rattle.gravity_stored.proofs.Launched.{launched-itself}
 use Rattle.injection.proofs.Order.{only-order}
-use Rattle.start.specs.Start.{startRefusal}
-use Rattle.start.proofs.Passed.{Passed, passed}
-use Rattle.motion.specs.Run.{runTo, runAnswer}
-use Rattle.motion.specs.Step.{step}
-use Rattle.journey.proofs.Ran.{stays}
-use Rattle.journey.proofs.Answers.{Left, answerIs, refusedIs, moves, leaves, runFrom, checksStay}
+use Rattle.run_checks.specs.Start.{startRefusal}
+use Rattle.run_checks.proofs.Passed.{Passed, passed}
+use Rattle.run.specs.Run.{runTo, runAnswer}
+use Rattle.run.specs.Step.{step}
+use Rattle.run_laws.proofs.Ran.{stays}
+use Rattle.run_laws.proofs.Answers.{Left, answerIs, refusedIs, moves, leaves, runFrom, checksStay}
 
 module _ (b : List ℕ) (setting : Setting) (s : State) (h target budget : ℕ) (given : Guesses) where
   -- a run whose checks pass was given such a state

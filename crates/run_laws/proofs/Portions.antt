@@ -7,18 +7,18 @@ use native.Mathlib.Omega.{arith}
 use Rattle.state.specs.declared.State.{State}
 use Rattle.state.specs.declared.Setting.{Setting}
 use Rattle.gravity.specs.declared.Guesses.{Guesses}
-use Rattle.motion.specs.Step.{Moved, On, Off, step}
-use Rattle.motion.specs.Walk.{walk}
-use Rattle.start.specs.Start.{startRefusal}
+use Rattle.run.specs.Step.{Moved, On, Off, step}
+use Rattle.run.specs.Walk.{walk}
+use Rattle.run_checks.specs.Start.{startRefusal}
 use Rattle.motion.specs.Run.{Reached, runTo, withGuesses, runAnswer}
-use Rattle.motion.specs.declared.Outcome.{Outcome}
-use Rattle.motion.specs.declared.Outcome.the-variants.{Arrived, Going, Refused}
-use Rattle.motion.specs.declared.RunAnswer.{RunAnswer}
-use Rattle.start.proofs.Passed.{Passed, passed, passes-all}
-use Rattle.motion.proofs.Walks.{walkMore, walkNone}
-use Rattle.journey.specs.Journey.{Call, journey, Holds, AllHold}
+use Rattle.run.specs.declared.Outcome.{Outcome}
+use Rattle.run.specs.declared.Outcome.the-variants.{Arrived, Going, Refused}
+use Rattle.run.specs.declared.RunAnswer.{RunAnswer}
+use Rattle.run_checks.proofs.Passed.{Passed, passed, passes-all}
+use Rattle.run.proofs.Walks.{walkMore, walkNone}
+use Rattle.run_laws.specs.Journey.{Call, journey, Holds, AllHold}
 use Rattle.journey.proofs.Ran.{Tells, Ran}
-use Rattle.journey.proofs.Answers.{answerIs, refusedIs, runFrom, checksStay}
+use Rattle.run_laws.proofs.Answers.{answerIs, refusedIs, runFrom, checksStay}
 
 -- ---- from one outcome to all of them
 

@@ -8,14 +8,14 @@ use native.Mathlib.Decide.{ℕ-discrete}
 use native.Mathlib.Omega.{arith}
 use Rattle.state.specs.State.{finiteState}
 use Rattle.state.specs.declared.State.{State}
-use Rattle.motion.specs.Step.{Moved, On, Off}
-use Rattle.motion.specs.Walk.{walk}
-use Rattle.motion.specs.Run.{Reached, ended, counted, runTo}
-use Rattle.motion.specs.declared.Outcome.{Outcome}
-use Rattle.motion.specs.declared.Outcome.the-variants.{Arrived, Going, Refused}
-use Rattle.motion.proofs.Runs.{runArrived, runGoing, runRefused, runOn}
-use Rattle.motion.proofs.Walked.{oneLess}
-use Rattle.motion.proofs.Walks.{walkFirst, walkNone, walkLast}
+use Rattle.run.specs.Step.{Moved, On, Off}
+use Rattle.run.specs.Walk.{walk}
+use Rattle.run.specs.Run.{Reached, ended, counted, runTo}
+use Rattle.run.specs.declared.Outcome.{Outcome}
+use Rattle.run.specs.declared.Outcome.the-variants.{Arrived, Going, Refused}
+use Rattle.run.proofs.Runs.{runArrived, runGoing, runRefused, runOn}
+use Rattle.run.proofs.Walked.{oneLess}
+use Rattle.run.proofs.Walks.{walkFirst, walkNone, walkLast}
 
 -- What an outcome tells of the state s that n steps of the walk f from the injection have led to, after a call that did some steps of
 -- its budget. One outcome at a time: `Holds` says it of all of them.

@@ -5,9 +5,9 @@ use mathlib.Core.Logic.{_⊎_, inl, inr}
 use mathlib.Core.Path.{_≡_, refl, sym, ap, _∙_}
 use Prim.Native.Nat.{ℕ, zero, suc, _+_, _/_}
 use borrow.Author.Tests.{eqb-true}
-use Rattle.basis.specs.Choice.{if_then_else_, _=?_}
-use Rattle.basis.specs.Limits.{isMoment}
-use Rattle.basis.proofs.Cases.{by-if}
+use Rattle.base.specs.Choice.{if_then_else_, _=?_}
+use Rattle.base.specs.Limits.{isMoment}
+use Rattle.base.proofs.Cases.{by-if}
 use Rattle.state.specs.State.{position, velocity, acceleration, injectionAt, bare, sameVector, finiteVector, finiteState, settingAllowed, centreAllowed}
 use Rattle.state.specs.declared.Vector.{Vector}
 use Rattle.state.specs.declared.State.{State}
@@ -22,9 +22,9 @@ use Rattle.gravity.proofs.Refused.{refusedBy, rule-refused}
 use Rattle.injection.specs.Injection.{ruleAt, keptBy, orderRefusalBy, orderRefusal}
 use Rattle.start.specs.Start.{stepAllowed, withinSteps, startRefusal}
 use Rattle.motion.specs.Step.{Moved, On, Off, andThen, along, weighed, half, sixth, stepH, velocity2, velocity3, velocity4, arrive, lastly, stage2, stage3, stage4, movedBy, keeping, step}
-use Rattle.motion.specs.Run.{Reached, atTarget, afterwards, runTo, withGuesses, refusedAtOnce, runAnswer}
-use Rattle.motion.specs.declared.Outcome.{Outcome}
-use Rattle.motion.specs.declared.Outcome.the-variants as outcome
+use Rattle.run.specs.Run.{Reached, atTarget, afterwards, runTo, withGuesses, refusedAtOnce, runAnswer}
+use Rattle.run.specs.declared.Outcome.{Outcome}
+use Rattle.run.specs.declared.Outcome.the-variants as outcome
 use Rattle.motion.specs.declared.RunAnswer.{RunAnswer}
 
 abbrev pub offBy : (ℕ → Bool) → Moved → Bool

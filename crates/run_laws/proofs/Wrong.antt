@@ -5,7 +5,7 @@ use mathlib.Core.Path.{_≡_, refl, sym, ap, _∙_}
 use Prim.Native.Nat.{ℕ, zero, suc, _+_, _*_, _≤_}
 use native.Mathlib.Omega.{arith}
 use lib.Ieee.{Float, neg, add, sub, mul, div, lt, eq, ofBits, toBits, ofInt, ofFields, odd, size}
-use Rattle.basis.specs.Floats.{whole}
+use Rattle.base.specs.Floats.{whole}
 use Rattle.state.specs.State.{position, velocity, settingAllowed, coefficientsAllowed, termsAllowed, coefficientOf, centreAllowed, sameVector, n}
 use Rattle.state.specs.declared.Vector.{Vector}
 use Rattle.state.specs.declared.State.{State}
@@ -18,17 +18,17 @@ use Rattle.gravity.specs.Acceleration.{sky, accelerationAt}
 use Rattle.gravity.specs.declared.Guesses.{Guesses}
 use Rattle.injection.specs.Injection.{orderRefusal}
 use Rattle.start.specs.Start.{startRefusal}
-use Rattle.motion.specs.Step.{Moved, On, Off, stepH, along, weighed, half, sixth, step}
+use Rattle.run.specs.Step.{Moved, On, Off, stepH, along, weighed, half, sixth, step}
 use Rattle.motion.specs.Run.{Reached, ended, counted, runTo, withGuesses, runAnswer}
 use Rattle.motion.specs.declared.Outcome.{Outcome}
-use Rattle.motion.specs.declared.Outcome.the-variants.{Arrived, Going, Refused}
-use Rattle.motion.specs.declared.RunAnswer.{RunAnswer}
-use Rattle.motion.proofs.OneStep.{done}
-use Rattle.motion.proofs.Runs.{runArrived, runOn}
+use Rattle.run.specs.declared.Outcome.the-variants.{Arrived, Going, Refused}
+use Rattle.run.specs.declared.RunAnswer.{RunAnswer}
+use Rattle.run.proofs.OneStep.{done}
+use Rattle.run.proofs.Runs.{runArrived, runOn}
 use Rattle.book.proofs.Below.{left, right}
 use Rattle.journey.specs.Wrong.{RunCall, Promised, RefusesEverything, AnswersAConstant, OwnStateAsArrived, OwnStateAsGoing, OnlyTheClock, InventsACount, exampleBook, exampleSetting, exampleState, exampleH, noGuesses}
-use Rattle.journey.proofs.Answers.{answerIs}
-use Rattle.journey.proofs.Portions.{clockAlways}
+use Rattle.run_laws.proofs.Answers.{answerIs}
+use Rattle.run_laws.proofs.Portions.{clockAlways}
 
 -- the example is in order
 ordered : orderRefusal exampleBook exampleSetting exampleState ≡ 0

@@ -3,15 +3,15 @@ use mathlib.Core.List.{List, [], _∷_}
 use mathlib.Core.Logic.{_↔_}
 use mathlib.Core.Path.{_≡_}
 use Prim.Native.Nat.{ℕ, suc, _+_, _*_, _<_, _≤_}
-use Rattle.basis.specs.Choice.{if_then_else_, _=?_}
+use Rattle.base.specs.Choice.{if_then_else_, _=?_}
 use Rattle.state.specs.declared.State.{State}
 use Rattle.state.specs.declared.Setting.{Setting}
 use Rattle.gravity.specs.declared.Guesses.{Guesses}
-use Rattle.motion.specs.Step.{Moved, On, Off}
-use Rattle.motion.specs.Walk.{walk}
-use Rattle.motion.specs.Run.{runAnswer}
-use Rattle.motion.specs.declared.Outcome.the-variants.{Arrived, Going, Refused}
-use Rattle.motion.specs.declared.RunAnswer.{RunAnswer}
+use Rattle.run.specs.Step.{Moved, On, Off}
+use Rattle.run.specs.Walk.{walk}
+use Rattle.run.specs.Run.{runAnswer}
+use Rattle.run.specs.declared.Outcome.the-variants.{Arrived, Going, Refused}
+use Rattle.run.specs.declared.RunAnswer.{RunAnswer}
 
 -- one call of a journey
 pub record Call : Type 0 where

@@ -4,16 +4,16 @@ use mathlib.Core.List.{List, [], _∷_}
 use mathlib.Core.Path.{_≡_}
 use Prim.Native.Nat.{ℕ, _+_, _*_, _≤_}
 use lib.Ieee.{neg}
-use Rattle.basis.specs.Floats.{whole}
+use Rattle.base.specs.Floats.{whole}
 use Rattle.state.specs.State.{position, velocity}
 use Rattle.state.specs.declared.State.{State}
 use Rattle.state.specs.declared.Setting.{Setting}
 use Rattle.gravity.specs.declared.Guesses.{Guesses}
-use Rattle.start.specs.Start.{startRefusal}
-use Rattle.motion.specs.Step.{On, step}
-use Rattle.motion.specs.Run.{handedBack, runAnswer}
-use Rattle.motion.specs.declared.Outcome.the-variants.{Arrived, Going, Refused}
-use Rattle.motion.specs.declared.RunAnswer.{RunAnswer}
+use Rattle.run_checks.specs.Start.{startRefusal}
+use Rattle.run.specs.Step.{On, step}
+use Rattle.run.specs.Run.{handedBack, runAnswer}
+use Rattle.run.specs.declared.Outcome.the-variants.{Arrived, Going, Refused}
+use Rattle.run.specs.declared.RunAnswer.{RunAnswer}
 
 -- a run call: book, setting, state, h, target, budget and guesses to an answer
 abbrev pub RunCall : Type 0

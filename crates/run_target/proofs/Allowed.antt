@@ -5,7 +5,7 @@ use Prim.Native.Nat.{ℕ, _+_, _-_, _*_, _/_, _%_, _≤_}
 use native.Mathlib.Nat.{div-add-mod'}
 use native.Mathlib.Omega.{arith}
 use borrow.Author.Tests.{leb-true, eqb-true}
-use Rattle.basis.specs.Choice.{_≤?_, _=?_}
+use Rattle.base.specs.Choice.{_≤?_, _=?_}
 use Rattle.bookcheck.proofs.Below.{left, right}
 use Rattle.way.specs.Way.{stepAllowed, withinSteps}
 

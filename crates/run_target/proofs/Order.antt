@@ -4,9 +4,9 @@ use mathlib.Core.Path.{_≡_, refl}
 use Prim.Native.Nat.{ℕ, _≤_}
 use native.Mathlib.Omega.{arith}
 use borrow.Author.Tests.{le-leb}
-use Rattle.basis.specs.Choice.{if_then_else_, _≤?_}
+use Rattle.base.specs.Choice.{if_then_else_, _≤?_}
 use Rattle.way.specs.Way.{stepAllowed, withinSteps}
-use Rattle.way.proofs.Allowed.{longEnough}
+use Rattle.run_target.proofs.Allowed.{longEnough}
 
 abbrev twoChecks : Bool → Bool → ℕ
 twoChecks length reaches = if not length then 2 else if not reaches then 5 else 0

@@ -1,7 +1,7 @@
 -- Document 01, "The step and the run" and "Refusal numbers": the length of a step and the way to the target, 2 and 5.
 use mathlib.Core.Bool.{Bool, not, _&&_}
 use Prim.Native.Nat.{ℕ, _-_, _%_}
-use Rattle.basis.specs.Choice.{if_then_else_, _≤?_, _=?_}
+use Rattle.base.specs.Choice.{if_then_else_, _≤?_, _=?_}
 
 -- "Step h is an even number of ms, 2 to 86,400,000"
 abbrev pub stepAllowed : ℕ → Bool

@@ -1,9 +1,9 @@
 // The way from a moment to a target in steps of one length.
 
-use basis::unless;
+use base::unless;
 ghost use mathlib.Core.Path.{_≡_};
 ghost use mathlib.Core.Bool.{_&&_};
-ghost use Rattle.basis.specs.Choice.{_≤?_};
+ghost use Rattle.base.specs.Choice.{_≤?_};
 ghost use Rattle.way.specs.Way.{stepAllowed, withinSteps, wayRefusal};
 
 const LONGEST_STEP: u32 = 86_400_000;

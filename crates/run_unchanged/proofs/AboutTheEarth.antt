@@ -9,9 +9,9 @@ use lib.Ieee.{Float, fits, binary64}
 use lib.Ieee.Scale.{finite}
 use lib.Ieee.Fits.{add-fits}
 use lib.Ieee.Bits.{ofBits-fits}
-use Rattle.basis.specs.Choice.{if_then_else_, _=?_}
+use Rattle.base.specs.Choice.{if_then_else_, _=?_}
 use Rattle.basis.specs.Floats.{zero64}
-use Rattle.basis.specs.Limits.{isMoment, isDUT}
+use Rattle.base.specs.Limits.{isMoment, isDUT}
 use Rattle.hour.specs.Hour.{isRule}
 use Rattle.state.specs.State.{used, lookedUp, coefficientsAllowed, termsAllowed, finiteVector, finiteState, coefficientAllowed, earthAllowed, settingAllowed, coefficientOf, centreAllowed}
 use Rattle.state.specs.declared.Vector.{Vector}
@@ -23,7 +23,7 @@ use Rattle.book.specs.Lookup.{lookup}
 use Rattle.book.specs.Position.{bodyAt, placeOr6, finiteOr7, finitePlace, finiteVelocity}
 use Rattle.book.specs.declared.Lookup.{Lookup}
 use Rattle.book.specs.declared.Lookup.the-variants.{Entry, Nothing}
-use Rattle.series.specs.declared.Place.{Place}
+use Rattle.book_series.specs.declared.Place.{Place}
 use Rattle.book.specs.declared.Motion.{Motion}
 use Rattle.book.specs.declared.PositionAnswer.{PositionAnswer}
 use Rattle.book.specs.declared.PositionAnswer.the-variants as position
@@ -35,7 +35,7 @@ use Rattle.start.specs.Start.{stepAllowed, withinSteps, startRefusal}
 use Rattle.injection.specs.Injection.{orderRefusal}
 use Rattle.book.proofs.Below.{left, right}
 use Rattle.before.specs.Acceleration.{finishedBefore, withoutTerms, bodiesBefore, accelerationBefore, answerBefore, startBefore}
-use Rattle.before.proofs.LessZero.{less-zero}
+use Rattle.run_unchanged.proofs.LessZero.{less-zero}
 
 -- ---- what a book says of a position is a float of 64 bits, and less zero it is itself
 

@@ -13,7 +13,7 @@ use lib.Ieee.Digits.{back}
 use lib.Ieee.Exact.{HasValue, round-exact}
 use lib.Ieee.Fits.{up-pos, down-pos, and-l, and-r, round-fits}
 use lib.Ieee.Nearest.{div-same}
-use Rattle.basis.specs.Floats.{_⊖_, zero64}
+use Rattle.base.specs.Floats.{_⊖_, zero64}
 
 -- ---- one float for a sign and a value
 

@@ -5,7 +5,7 @@ use mathlib.Core.List.{List}
 use mathlib.Core.Path.{_≡_, refl, sym, ap, _∙_}
 use Prim.Native.Nat.{ℕ, zero, suc, _+_, _/_}
 use native.Mathlib.Omega.{arith}
-use Rattle.basis.specs.Choice.{if_then_else_}
+use Rattle.base.specs.Choice.{if_then_else_}
 use Rattle.state.specs.State.{position, velocity, acceleration, injectionAt, carrying, bare, finiteVector, used}
 use Rattle.state.specs.declared.Vector.{Vector}
 use Rattle.state.specs.declared.State.{State}
@@ -15,9 +15,9 @@ use Rattle.gravity.specs.Acceleration.{accelerationAt}
 use Rattle.gravity.specs.declared.AccelerationAnswer.{AccelerationAnswer}
 use Rattle.gravity.specs.declared.AccelerationAnswer.the-variants.{Is, Refused}
 use Rattle.motion.specs.Step.{Moved, On, Off, andThen, along, weighed, half, sixth, stepH, velocity2, velocity3, velocity4, arrive, lastly, stage2, stage3, stage4, keeping, step}
-use Rattle.before.specs.Acceleration.{accelerationBefore}
-use Rattle.before.specs.Step.{stage1, unkept, stepBefore, keptAfter}
-use Rattle.before.proofs.AboutTheEarth.{about-the-earth}
+use Rattle.run_unchanged.specs.Acceleration.{accelerationBefore}
+use Rattle.run_unchanged.specs.Step.{stage1, unkept, stepBefore, keptAfter}
+use Rattle.run_unchanged.proofs.AboutTheEarth.{about-the-earth}
 
 module _ (acc : ℕ → Vector → AccelerationAnswer) where
   abbrev kept : Moved → Moved

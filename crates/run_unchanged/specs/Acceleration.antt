@@ -3,8 +3,8 @@
 use mathlib.Core.Bool.{Bool, false, not, _&&_}
 use mathlib.Core.List.{List, [], _∷_}
 use Prim.Native.Nat.{ℕ}
-use Rattle.basis.specs.Choice.{if_then_else_}
-use Rattle.basis.specs.Limits.{isMoment}
+use Rattle.base.specs.Choice.{if_then_else_}
+use Rattle.base.specs.Limits.{isMoment}
 use Rattle.state.specs.State.{finiteVector, finiteState, settingAllowed, coefficientOf}
 use Rattle.state.specs.declared.Vector.{Vector}
 use Rattle.state.specs.declared.State.{State}
@@ -14,7 +14,7 @@ use Rattle.gravity.specs.Pull.{negated, g, sound}
 use Rattle.gravity.specs.Acceleration.{Sky, Bodies, Hidden, Listed, skyOf, skyAbout, less, allSound, settled}
 use Rattle.gravity.specs.declared.AccelerationAnswer.{AccelerationAnswer}
 use Rattle.gravity.specs.declared.AccelerationAnswer.the-variants.{Refused}
-use Rattle.start.specs.Start.{stepAllowed, withinSteps}
+use Rattle.run_checks.specs.Start.{stepAllowed, withinSteps}
 
 -- the sum a, found sound so far, with these bodies still to come, and nothing after them
 abbrev pub finishedBefore : Vector → Bool → Vector → Sky → AccelerationAnswer

@@ -3,7 +3,7 @@ use mathlib.Core.Bool.{true, _&&_}
 use mathlib.Core.List.{List}
 use mathlib.Core.Path.{_≡_, refl, sym, ap, _∙_}
 use Prim.Native.Nat.{ℕ, _+_}
-use Rattle.basis.specs.Choice.{if_then_else_}
+use Rattle.base.specs.Choice.{if_then_else_}
 use Rattle.state.specs.State.{position, velocity, centreAllowed, finiteVector, injectionAt}
 use Rattle.state.specs.declared.Vector.{Vector}
 use Rattle.state.specs.declared.State.{State}
@@ -14,13 +14,13 @@ use Rattle.gravity.specs.declared.AccelerationAnswer.{AccelerationAnswer}
 use Rattle.gravity.specs.declared.AccelerationAnswer.the-variants.{Is, Refused}
 use Rattle.gravity.specs.declared.Sights.{Sights}
 use Rattle.gravity.specs.declared.Guesses.{Guesses}
-use Rattle.injection.specs.Injection.{keptBy}
+use Rattle.gravity_stored.specs.Injection.{keptBy}
 use Rattle.gravity.proofs.Under.{underIs}
 use Rattle.stages.specs.Step.{Moved, Off, andThen, along, weighed, sixth, velocity2, velocity3, velocity4, arrive, lastly, movedBy, keeping}
-use Rattle.arrival.specs.Kept.{kept, keepingUnder}
-use Rattle.stages.specs.Entries.{entriesAfter}
-use Rattle.arrival.specs.declared.Stepped.{Stepped}
-use Rattle.arrival.specs.declared.Stepped.the-variants as stepped
+use Rattle.step_end.specs.Kept.{kept, keepingUnder}
+use Rattle.step.specs.Entries.{entriesAfter}
+use Rattle.step_end.specs.declared.Stepped.{Stepped}
+use Rattle.step_end.specs.declared.Stepped.the-variants as stepped
 
 -- p is the stage's position P, bodies the bodies at its moment, r what the acceleration under them answered
 pub answered : (b : List ℕ) (s : Setting) (c : ℕ) → centreAllowed s c ≡ true → (t : ℕ) (P p : Vector) (bodies : Sights) (r x : AccelerationAnswer)

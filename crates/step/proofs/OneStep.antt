@@ -5,7 +5,7 @@ use mathlib.Core.List.{List}
 use mathlib.Core.Path.{_≡_, refl, sym, ap, _∙_, subst}
 use Prim.Native.Nat.{ℕ, _+_, _/_}
 use native.Mathlib.Omega.{arith}
-use Rattle.basis.specs.Choice.{if_then_else_}
+use Rattle.base.specs.Choice.{if_then_else_}
 use Rattle.state.specs.State.{position, velocity, acceleration, injectionAt, startingPosition, carrying, finiteVector, finiteState, centreAllowed}
 use Rattle.state.specs.declared.Vector.{Vector}
 use Rattle.state.specs.declared.State.{State}
@@ -16,7 +16,7 @@ use Rattle.gravity.specs.Sight.{sights}
 use Rattle.gravity.specs.declared.AccelerationAnswer.{AccelerationAnswer}
 use Rattle.gravity.specs.declared.AccelerationAnswer.the-variants.{Is, Refused}
 use Rattle.gravity.proofs.Under.{underIs, isClear}
-use Rattle.injection.specs.Injection.{keptBy}
+use Rattle.gravity_stored.specs.Injection.{keptBy}
 use Rattle.stages.specs.Step.{Moved, On, Off, andThen, arrive, along, weighed, stepH, half, sixth, velocity2, velocity3, velocity4, lastly, stage3, stage4, movedBy, keeping, step}
 
 pub record Done (b : List ℕ) (setting : Setting) (h : ℕ) (s next : State) : Type 0 where

@@ -3,7 +3,7 @@ use mathlib.Core.Bool.{true}
 use mathlib.Core.List.{List}
 use mathlib.Core.Path.{_≡_}
 use Prim.Native.Nat.{ℕ, _+_, _<_}
-use Rattle.basis.specs.Limits.{endOfTime}
+use Rattle.base.specs.Limits.{endOfTime}
 use Rattle.state.specs.State.{centreAllowed}
 use Rattle.state.specs.declared.Setting.{Setting}
 use Rattle.state.specs.declared.State.{State}

@@ -10,9 +10,9 @@ use Rattle.state.specs.declared.Setting.{Setting}
 use Rattle.gravity.specs.Acceleration.{accelerationAt}
 use Rattle.gravity.specs.declared.AccelerationAnswer.{AccelerationAnswer}
 use Rattle.gravity.specs.declared.AccelerationAnswer.the-variants.{Is, Refused}
-use Rattle.injection.specs.Injection.{keptBy}
-pub use Rattle.slopes.specs.Slopes.{weigh}
-unfoldable pub use Rattle.slopes.specs.Slopes.{stepH, along, weighed, half, sixth}
+use Rattle.gravity_stored.specs.Injection.{keptBy}
+pub use Rattle.step_sums.specs.Slopes.{weigh}
+unfoldable pub use Rattle.step_sums.specs.Slopes.{stepH, along, weighed, half, sixth}
 pub use Rattle.arrival.specs.Arrival.{Moved, On, Off, arrive, velocity2, velocity3, velocity4, lastly, movedBy}
 
 -- an acceleration goes on, a refusal leaves with its number

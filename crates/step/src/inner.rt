@@ -6,11 +6,11 @@ use arrival::known::finish;
 use gravity::AccelerationAnswer;
 use gravity::Guesses;
 use gravity::Sights;
-use gravity::known::acceleration_under;
+use gravity::inner::acceleration_under;
 use gravity::known::sights_at;
-use slopes::half_of;
-use slopes::seconds;
-use slopes::toward;
+use step_sums::half_of;
+use step_sums::seconds;
+use step_sums::toward;
 use state::Setting;
 use state::State;
 use state::Vector;
@@ -20,9 +20,9 @@ ghost use Rattle.book.specs.Calm.{Ready};
 ghost use Rattle.state.specs.State.{acceleration};
 ghost use Rattle.gravity.specs.Acceleration.{accelerationAt};
 ghost use Rattle.gravity.specs.Sight.{sights};
-ghost use Rattle.arrival.specs.Kept.{kept};
+ghost use Rattle.step_end.specs.Kept.{kept};
 ghost use Rattle.stages.specs.Step.{stage2, stage3, stage4, keeping, step};
-ghost use Rattle.stages.specs.Entries.{entriesAfter, MayStep};
+ghost use Rattle.step.specs.Entries.{entriesAfter, MayStep};
 
 fn fourth_stage(
     book: &[u8],

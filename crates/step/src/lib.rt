@@ -1,5 +1,5 @@
 // One step of the classical fourth-order Runge-Kutta rule.
 
-pub mod known;
+pub mod inner;
 
-pub use arrival::Stepped;
+pub use step_end::Stepped;

@@ -1,14 +1,14 @@
 -- Document 01, "The step and the run", and document 02, R-8: the end of a step, from the slopes of its four stages.
 use mathlib.Core.Bool.{_&&_}
 use Prim.Native.Nat.{ℕ, _+_}
-use Rattle.basis.specs.Choice.{if_then_else_}
+use Rattle.base.specs.Choice.{if_then_else_}
 use Rattle.state.specs.State.{position, velocity, injectionAt, finiteVector}
 use Rattle.state.specs.declared.Vector.{Vector}
 use Rattle.state.specs.declared.State.{State}
 use Rattle.state.specs.declared.Injection.{Injection}
-use Rattle.injection.specs.declared.InjectionAnswer.{InjectionAnswer}
-use Rattle.injection.specs.declared.InjectionAnswer.the-variants as injection
-use Rattle.slopes.specs.Slopes.{stepH, along, weighed, half, sixth}
+use Rattle.gravity_stored.specs.declared.InjectionAnswer.{InjectionAnswer}
+use Rattle.gravity_stored.specs.declared.InjectionAnswer.the-variants as injection
+use Rattle.step_sums.specs.Slopes.{stepH, along, weighed, half, sixth}
 
 -- what a step gives: the state one step on, or the number by which it is refused
 pub data Moved : Type 0 where

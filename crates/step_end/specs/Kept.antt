@@ -6,10 +6,10 @@ use Rattle.state.specs.declared.Injection.{Injection}
 use Rattle.gravity.specs.Sight.{accelerationBy}
 use Rattle.gravity.specs.declared.Sights.{Sights}
 use Rattle.gravity.specs.declared.Guesses.{Guesses}
-use Rattle.injection.specs.Injection.{keptBy}
-use Rattle.arrival.specs.Arrival.{Moved, On, Off, movedBy}
-use Rattle.arrival.specs.declared.Stepped.{Stepped}
-use Rattle.arrival.specs.declared.Stepped.the-variants as stepped
+use Rattle.gravity_stored.specs.Injection.{keptBy}
+use Rattle.step_end.specs.Arrival.{Moved, On, Off, movedBy}
+use Rattle.step_end.specs.declared.Stepped.{Stepped}
+use Rattle.step_end.specs.declared.Stepped.the-variants as stepped
 
 abbrev pub kept : Guesses → Moved → Stepped
 kept entries (On s) = stepped.On s entries

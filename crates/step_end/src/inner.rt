@@ -4,23 +4,23 @@
 use crate::Stepped;
 use gravity::Guesses;
 use gravity::Sights;
-use injection::InjectionAnswer;
-use injection::known::kept_under;
-use slopes::half_of;
-use slopes::seconds;
-use slopes::sixth_of;
-use slopes::toward;
-use slopes::weigh_all;
+use gravity_stored::InjectionAnswer;
+use gravity_stored::inner::kept_under;
+use step_sums::half_of;
+use step_sums::seconds;
+use step_sums::sixth_of;
+use step_sums::toward;
+use step_sums::weigh_all;
 use state::Injection;
 use state::Setting;
 use state::State;
 use state::Vector;
 ghost use mathlib.Core.Path.{_≡_};
 ghost use Prim.Native.Nat.{_<_};
-ghost use Rattle.basis.specs.Limits.{endOfTime};
+ghost use Rattle.base.specs.Limits.{endOfTime};
 ghost use Rattle.state.specs.State.{acceleration};
-ghost use Rattle.arrival.specs.Arrival.{movedBy, arrive, lastly};
-ghost use Rattle.arrival.specs.Kept.{kept, keepingUnder};
+ghost use Rattle.step_end.specs.Arrival.{movedBy, arrive, lastly};
+ghost use Rattle.step_end.specs.Kept.{kept, keepingUnder};
 
 fn stepped_by(answer: InjectionAnswer, entries: Guesses) -> Stepped
     ensures { λ r. ⌜ r ≡ kept entries (movedBy answer) ⌝ }

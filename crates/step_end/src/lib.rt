@@ -1,6 +1,6 @@
 // The end of a step.
 
-pub mod known;
+pub mod inner;
 
 use gravity::Guesses;
 use state::State;

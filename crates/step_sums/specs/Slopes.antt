@@ -1,7 +1,7 @@
 -- Document 01, "The step and the run": the length of a step, a point along a slope, and the slopes of the four stages weighed.
 use Prim.Native.Nat.{ℕ}
 use lib.Ieee.{Float}
-use Rattle.basis.specs.Floats.{_⊕_, _⊗_, _⊘_, whole, decimal}
+use Rattle.base.specs.Floats.{_⊕_, _⊗_, _⊘_, whole, decimal}
 use Rattle.state.specs.declared.Vector.{Vector}
 
 -- "H = h/1000 as one float quotient"

@@ -2,7 +2,7 @@
 
 use state::Vector;
 ghost use mathlib.Core.Path.{_≡_};
-ghost use Rattle.slopes.specs.Slopes.{stepH, along, weigh, weighed, half, sixth};
+ghost use Rattle.step_sums.specs.Slopes.{stepH, along, weigh, weighed, half, sixth};
 
 pub fn seconds(h: u32) -> f64
     ensures { λ r. ⌜ r ≡ stepH h ⌝ }

@@ -1,8 +1,8 @@
--- `shift::shifted_state` meets its contract. Assumes nothing.
-use Rattle.shift.specs.Shift.{shifted}
+-- `centre_shift::shifted_state` meets its contract. Assumes nothing.
+use Rattle.centre_shift.specs.Shift.{shifted}
 use borrow.Author.Needs.{needs}
-use Rattle.shift.proofs.shifted_state.Statement.{statement}
-use Rattle.shift.proofs.shifted_state.Tie as tie
+use Rattle.centre_shift.proofs.shifted_state.Statement.{statement}
+use Rattle.centre_shift.proofs.shifted_state.Tie as tie
 
 position-of-requires : tie.Need-position-of-requires
 position-of-requires c κs = search needs

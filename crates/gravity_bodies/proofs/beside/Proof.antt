@@ -1,8 +1,8 @@
--- `sight::beside` meets its contract. Assumes nothing.
-use Rattle.sight.specs.Looked.{besides}
+-- `gravity_bodies::beside` meets its contract. Assumes nothing.
+use Rattle.gravity_bodies.specs.Looked.{besides}
 use borrow.Author.Needs.{needs}
-use Rattle.sight.proofs.beside.Statement.{statement}
-use Rattle.sight.proofs.beside.Tie as tie
+use Rattle.gravity_bodies.proofs.beside.Statement.{statement}
+use Rattle.gravity_bodies.proofs.beside.Tie as tie
 
 either-requires : tie.Need-either-requires
 either-requires c κs = search needs

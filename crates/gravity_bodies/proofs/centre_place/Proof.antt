@@ -1,8 +1,8 @@
--- `sight::centre_place` meets its contract. Assumes nothing.
-use Rattle.sight.specs.Looked.{placeIn}
+-- `gravity_bodies::centre_place` meets its contract. Assumes nothing.
+use Rattle.gravity_bodies.specs.Looked.{placeIn}
 use borrow.Author.Tests.{ne-eqb}
-use Rattle.sight.proofs.centre_place.Statement.{statement}
-use Rattle.sight.proofs.centre_place.Tie as tie
+use Rattle.gravity_bodies.proofs.centre_place.Statement.{statement}
+use Rattle.gravity_bodies.proofs.centre_place.Tie as tie
 
 returns : tie.Need-returns
 unfolding placeIn

@@ -1,7 +1,7 @@
--- `sight::or_later` meets its contract. Assumes nothing.
+-- `gravity_bodies::or_later` meets its contract. Assumes nothing.
 use borrow.Author.Tests.{eq-eqb, ne-eqb}
-use Rattle.sight.proofs.or_later.Statement.{statement}
-use Rattle.sight.proofs.or_later.Tie as tie
+use Rattle.gravity_bodies.proofs.or_later.Statement.{statement}
+use Rattle.gravity_bodies.proofs.or_later.Tie as tie
 
 returns : tie.Need-returns
 returns c = simp (eq-eqb _ _ (c .if1 .taken))

@@ -1,8 +1,8 @@
--- `sight::refusal_of` meets its contract. Assumes nothing.
-use Rattle.sight.specs.Looked.{refusalOf, refusalIn}
+-- `gravity_bodies::refusal_of` meets its contract. Assumes nothing.
+use Rattle.gravity_bodies.specs.Looked.{refusalOf, refusalIn}
 use borrow.Author.Needs.{needs}
-use Rattle.sight.proofs.refusal_of.Statement.{statement}
-use Rattle.sight.proofs.refusal_of.Tie as tie
+use Rattle.gravity_bodies.proofs.refusal_of.Statement.{statement}
+use Rattle.gravity_bodies.proofs.refusal_of.Tie as tie
 
 or-later-requires : tie.Need-or-later-requires
 or-later-requires c κs = search needs

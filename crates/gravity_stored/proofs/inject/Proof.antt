@@ -1,13 +1,13 @@
--- `injection::inject` meets its contract. Assumes nothing.
+-- `gravity_stored::inject` meets its contract. Assumes nothing.
 use mathlib.Core.Path.{_≡_, sym, ap, _∙_}
 use Prim.Native.Nat.{ℕ}
 use denote.Ref.{now}
 use borrow.Author.Tests.{ne-eqb}
 use Rattle.injection.specs.Injection.{injectionRefusal, injectionAnswer}
-use Rattle.injection.proofs.Checked.{injectable}
+use Rattle.gravity_stored.proofs.Checked.{injectable}
 use borrow.Author.Needs.{needs}
-use Rattle.injection.proofs.inject.Statement.{statement}
-use Rattle.injection.proofs.inject.Tie as tie
+use Rattle.gravity_stored.proofs.inject.Statement.{statement}
+use Rattle.gravity_stored.proofs.inject.Tie as tie
 
 injection-refusal-requires : tie.Need-injection-refusal-requires
 injection-refusal-requires c κs = search needs

@@ -1,8 +1,8 @@
--- `injection::injection_refusal` meets its contract. Assumes nothing.
-use Rattle.injection.specs.Injection.{injectionRefusal}
+-- `gravity_stored::injection_refusal` meets its contract. Assumes nothing.
+use Rattle.gravity_stored.specs.Injection.{injectionRefusal}
 use borrow.Author.Needs.{needs}
-use Rattle.injection.proofs.injection_refusal.Statement.{statement}
-use Rattle.injection.proofs.injection_refusal.Tie as tie
+use Rattle.gravity_stored.proofs.injection_refusal.Statement.{statement}
+use Rattle.gravity_stored.proofs.injection_refusal.Tie as tie
 
 book-passes-requires : tie.Need-book-passes-requires
 book-passes-requires c κs = search needs

@@ -1,8 +1,8 @@
--- `injection::launch` meets its contract. Assumes nothing.
-use Rattle.injection.specs.Injection.{launched}
+-- `gravity_stored::launch` meets its contract. Assumes nothing.
+use Rattle.gravity_stored.specs.Injection.{launched}
 use borrow.Author.Needs.{needs}
-use Rattle.injection.proofs.launch.Statement.{statement}
-use Rattle.injection.proofs.launch.Tie as tie
+use Rattle.gravity_stored.proofs.launch.Statement.{statement}
+use Rattle.gravity_stored.proofs.launch.Tie as tie
 
 inject-requires : tie.Need-inject-requires
 inject-requires c κs = search needs

@@ -1,8 +1,8 @@
--- `injection::or_none` meets its contract. Assumes nothing.
+-- `gravity_stored::or_none` meets its contract. Assumes nothing.
 use mathlib.Core.Path.{sym, ap, _∙_}
 use borrow.Author.Needs.{needs}
-use Rattle.injection.proofs.or_none.Statement.{statement}
-use Rattle.injection.proofs.or_none.Tie as tie
+use Rattle.gravity_stored.proofs.or_none.Statement.{statement}
+use Rattle.gravity_stored.proofs.or_none.Tie as tie
 
 enum-known-answer : tie.Need-enum-known-answer
 enum-known-answer c = search needs

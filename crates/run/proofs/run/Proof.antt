@@ -1,11 +1,11 @@
--- `motion::run` meets its contract. Assumes nothing.
+-- `run::run` meets its contract. Assumes nothing.
 use mathlib.Core.Path.{sym, _∙_}
 use borrow.Author.Tests.{ne-eqb}
-use Rattle.motion.specs.Run.{runAnswer}
-use Rattle.motion.proofs.Start.{mayWalk}
+use Rattle.run.specs.Run.{runAnswer}
+use Rattle.run.proofs.Start.{mayWalk}
 use borrow.Author.Needs.{needs}
-use Rattle.motion.proofs.run.Statement.{statement}
-use Rattle.motion.proofs.run.Tie as tie
+use Rattle.run.proofs.run.Statement.{statement}
+use Rattle.run.proofs.run.Tie as tie
 
 start-refusal-requires : tie.Need-start-refusal-requires
 start-refusal-requires c κs = search needs

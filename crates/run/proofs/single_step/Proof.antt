@@ -1,9 +1,9 @@
--- `motion::single_step` meets its contract. Assumes nothing.
+-- `run::single_step` meets its contract. Assumes nothing.
 use mathlib.Core.Path.{_∙_}
-use Rattle.motion.proofs.Start.{late}
+use Rattle.run.proofs.Start.{late}
 use borrow.Author.Needs.{needs}
-use Rattle.motion.proofs.single_step.Statement.{statement}
-use Rattle.motion.proofs.single_step.Tie as tie
+use Rattle.run.proofs.single_step.Statement.{statement}
+use Rattle.run.proofs.single_step.Tie as tie
 
 add-run : tie.Need-add-run
 add-run c = search needs

@@ -1,10 +1,10 @@
--- `start::start_refusal` meets its contract. Assumes nothing.
+-- `run_checks::start_refusal` meets its contract. Assumes nothing.
 use mathlib.Core.Path.{sym, _∙_}
 use denote.Ref.{now}
 use Rattle.start.proofs.Parted.{opened, passedBoth, notInOrder, notOpened}
 use borrow.Author.Needs.{needs}
-use Rattle.start.proofs.start_refusal.Statement.{statement}
-use Rattle.start.proofs.start_refusal.Tie as tie
+use Rattle.run_checks.proofs.start_refusal.Statement.{statement}
+use Rattle.run_checks.proofs.start_refusal.Tie as tie
 
 opening-requires : tie.Need-opening-requires
 opening-requires c κs = search needs

@@ -1,8 +1,8 @@
--- `way::is_within_steps` meets its contract. Assumes nothing.
+-- `run_target::is_within_steps` meets its contract. Assumes nothing.
 use borrow.Author.Tests.{le-leb, lt-leb}
 use borrow.Author.Needs.{needs}
-use Rattle.way.proofs.is_within_steps.Statement.{statement}
-use Rattle.way.proofs.is_within_steps.Tie as tie
+use Rattle.run_target.proofs.is_within_steps.Statement.{statement}
+use Rattle.run_target.proofs.is_within_steps.Tie as tie
 
 returns : tie.Need-returns
 returns c = simp (lt-leb _ _ (c .if1 .taken))

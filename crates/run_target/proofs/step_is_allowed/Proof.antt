@@ -1,7 +1,7 @@
--- `way::step_is_allowed` meets its contract. Assumes nothing.
+-- `run_target::step_is_allowed` meets its contract. Assumes nothing.
 use borrow.Author.Tests.{le-leb, lt-leb}
-use Rattle.way.proofs.step_is_allowed.Statement.{statement}
-use Rattle.way.proofs.step_is_allowed.Tie as tie
+use Rattle.run_target.proofs.step_is_allowed.Statement.{statement}
+use Rattle.run_target.proofs.step_is_allowed.Tie as tie
 
 returns : tie.Need-returns
 returns c = simp (lt-leb _ _ (c .if1 .taken))

@@ -1,9 +1,9 @@
--- `slopes::half_of` meets its contract. Assumes nothing.
+-- `step_sums::half_of` meets its contract. Assumes nothing.
 use lib.Ieee.{ofBits, round}
-use Rattle.slopes.specs.Slopes.{half}
+use Rattle.step_sums.specs.Slopes.{half}
 use borrow.Author.Needs.{needs}
-use Rattle.slopes.proofs.half_of.Statement.{statement}
-use Rattle.slopes.proofs.half_of.Tie as tie
+use Rattle.step_sums.proofs.half_of.Statement.{statement}
+use Rattle.step_sums.proofs.half_of.Tie as tie
 
 seconds-requires : tie.Need-seconds-requires
 seconds-requires c κs = search needs

@@ -1,10 +1,10 @@
--- `slopes::seconds` meets its contract. Assumes nothing.
+-- `step_sums::seconds` meets its contract. Assumes nothing.
 use mathlib.Core.Path.{refl}
 use lib.Ieee.{ofBits, ofInt, round}
-use Rattle.slopes.specs.Slopes.{stepH}
+use Rattle.step_sums.specs.Slopes.{stepH}
 use borrow.Author.Needs.{needs}
-use Rattle.slopes.proofs.seconds.Statement.{statement}
-use Rattle.slopes.proofs.seconds.Tie as tie
+use Rattle.step_sums.proofs.seconds.Statement.{statement}
+use Rattle.step_sums.proofs.seconds.Tie as tie
 
 int-to-float-result : tie.Need-int-to-float-result
 int-to-float-result c = search needs

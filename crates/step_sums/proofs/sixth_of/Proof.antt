@@ -1,9 +1,9 @@
--- `slopes::sixth_of` meets its contract. Assumes nothing.
+-- `step_sums::sixth_of` meets its contract. Assumes nothing.
 use lib.Ieee.{ofBits, ofInt, round}
-use Rattle.slopes.specs.Slopes.{sixth}
+use Rattle.step_sums.specs.Slopes.{sixth}
 use borrow.Author.Needs.{needs}
-use Rattle.slopes.proofs.sixth_of.Statement.{statement}
-use Rattle.slopes.proofs.sixth_of.Tie as tie
+use Rattle.step_sums.proofs.sixth_of.Statement.{statement}
+use Rattle.step_sums.proofs.sixth_of.Tie as tie
 
 seconds-requires : tie.Need-seconds-requires
 seconds-requires c κs = search needs

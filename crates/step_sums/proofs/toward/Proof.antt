@@ -1,8 +1,8 @@
--- `slopes::toward` meets its contract. Assumes nothing.
+-- `step_sums::toward` meets its contract. Assumes nothing.
 use mathlib.Core.Path.{refl}
-use Rattle.slopes.specs.Slopes.{along}
-use Rattle.slopes.proofs.toward.Statement.{statement}
-use Rattle.slopes.proofs.toward.Tie as tie
+use Rattle.step_sums.specs.Slopes.{along}
+use Rattle.step_sums.proofs.toward.Statement.{statement}
+use Rattle.step_sums.proofs.toward.Tie as tie
 
 returns : tie.Need-returns
 unfolding along

@@ -1,8 +1,8 @@
--- `slopes::weigh_all` meets its contract. Assumes nothing.
-use Rattle.slopes.specs.Slopes.{weighed}
+-- `step_sums::weigh_all` meets its contract. Assumes nothing.
+use Rattle.step_sums.specs.Slopes.{weighed}
 use borrow.Author.Needs.{needs}
-use Rattle.slopes.proofs.weigh_all.Statement.{statement}
-use Rattle.slopes.proofs.weigh_all.Tie as tie
+use Rattle.step_sums.proofs.weigh_all.Statement.{statement}
+use Rattle.step_sums.proofs.weigh_all.Tie as tie
 
 weigh-one-requires : tie.Need-weigh-one-requires
 weigh-one-requires c κs = search needs

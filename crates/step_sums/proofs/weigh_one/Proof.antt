@@ -1,8 +1,8 @@
--- `slopes::weigh_one` meets its contract. Assumes nothing.
+-- `step_sums::weigh_one` meets its contract. Assumes nothing.
 use mathlib.Core.Path.{refl}
 use lib.Ieee.{ofBits, ofInt, round}
-use Rattle.slopes.proofs.weigh_one.Statement.{statement}
-use Rattle.slopes.proofs.weigh_one.Tie as tie
+use Rattle.step_sums.proofs.weigh_one.Statement.{statement}
+use Rattle.step_sums.proofs.weigh_one.Tie as tie
 
 returns : tie.Need-returns
 unfolding ofBits ofInt round

@@ -1,9 +1,9 @@
--- `gravity::known::acceleration_under` meets its contract. Assumes nothing.
+-- `gravity::inner::acceleration_under` meets its contract. Assumes nothing.
 use mathlib.Core.Path.{sym}
 use Rattle.gravity.proofs.Under.{clear, refused}
 use borrow.Author.Needs.{needs}
-use Rattle.gravity.proofs.known.acceleration_under.Statement.{statement}
-use Rattle.gravity.proofs.known.acceleration_under.Tie as tie
+use Rattle.gravity.proofs.inner.acceleration_under.Statement.{statement}
+use Rattle.gravity.proofs.inner.acceleration_under.Tie as tie
 
 near-sum-requires : tie.Need-near-sum-requires
 near-sum-requires c κs = search needs

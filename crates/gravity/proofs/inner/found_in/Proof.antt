@@ -1,8 +1,8 @@
--- `gravity::known::found_in` meets its contract. Assumes nothing.
-use Rattle.sight.specs.Looked.{foundIn}
+-- `gravity::inner::found_in` meets its contract. Assumes nothing.
+use Rattle.gravity_bodies.specs.Looked.{foundIn}
 use borrow.Author.Needs.{needs}
-use Rattle.gravity.proofs.known.found_in.Statement.{statement}
-use Rattle.gravity.proofs.known.found_in.Tie as tie
+use Rattle.gravity.proofs.inner.found_in.Statement.{statement}
+use Rattle.gravity.proofs.inner.found_in.Tie as tie
 
 found-requires : tie.Need-found-requires
 found-requires c κs = search needs

@@ -1,8 +1,8 @@
--- `gravity::known::other` meets its contract. Assumes nothing.
+-- `gravity::inner::other` meets its contract. Assumes nothing.
 use Rattle.gravity.specs.Sight.{otherOf}
 use borrow.Author.Needs.{needs}
-use Rattle.gravity.proofs.known.other.Statement.{statement}
-use Rattle.gravity.proofs.known.other.Tie as tie
+use Rattle.gravity.proofs.inner.other.Statement.{statement}
+use Rattle.gravity.proofs.inner.other.Tie as tie
 
 difference-requires : tie.Need-difference-requires
 difference-requires c κs = search needs

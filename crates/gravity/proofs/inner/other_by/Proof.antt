@@ -1,6 +1,6 @@
--- `gravity::known::other_by` meets its contract. Assumes nothing.
-use Rattle.gravity.proofs.known.other_by.Statement.{statement}
-use Rattle.gravity.proofs.known.other_by.Tie as tie
+-- `gravity::inner::other_by` meets its contract. Assumes nothing.
+use Rattle.gravity.proofs.inner.other_by.Statement.{statement}
+use Rattle.gravity.proofs.inner.other_by.Tie as tie
 
 returns : tie.Need-returns
 returns c = rw (c .if1 .taken)

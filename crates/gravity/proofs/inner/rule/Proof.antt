@@ -1,9 +1,9 @@
--- `gravity::known::rule` meets its contract. Assumes nothing.
+-- `gravity::inner::rule` meets its contract. Assumes nothing.
 use Rattle.gravity.proofs.Under.{underIs}
 use Rattle.book.proofs.Slow.{untold}
 use borrow.Author.Needs.{needs}
-use Rattle.gravity.proofs.known.rule.Statement.{statement}
-use Rattle.gravity.proofs.known.rule.Tie as tie
+use Rattle.gravity.proofs.inner.rule.Statement.{statement}
+use Rattle.gravity.proofs.inner.rule.Tie as tie
 
 sights-at-requires : tie.Need-sights-at-requires
 sights-at-requires c κs = untold _ (c .before .pre .0)

@@ -1,8 +1,8 @@
--- `gravity::known::seen_from` meets its contract. Assumes nothing.
+-- `gravity::inner::seen_from` meets its contract. Assumes nothing.
 use Rattle.gravity.specs.Sight.{otherOf, othersOf}
 use borrow.Author.Needs.{needs}
-use Rattle.gravity.proofs.known.seen_from.Statement.{statement}
-use Rattle.gravity.proofs.known.seen_from.Tie as tie
+use Rattle.gravity.proofs.inner.seen_from.Statement.{statement}
+use Rattle.gravity.proofs.inner.seen_from.Tie as tie
 
 difference-requires : tie.Need-difference-requires
 difference-requires c κs = search needs

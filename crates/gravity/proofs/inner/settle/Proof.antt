@@ -1,8 +1,8 @@
--- `gravity::known::settle` meets its contract. Assumes nothing.
+-- `gravity::inner::settle` meets its contract. Assumes nothing.
 use mathlib.Core.Path.{sym, _∙_}
 use borrow.Author.Needs.{needs}
-use Rattle.gravity.proofs.known.settle.Statement.{statement}
-use Rattle.gravity.proofs.known.settle.Tie as tie
+use Rattle.gravity.proofs.inner.settle.Statement.{statement}
+use Rattle.gravity.proofs.inner.settle.Tie as tie
 
 vector-is-finite-requires : tie.Need-vector-is-finite-requires
 vector-is-finite-requires c κs = search needs

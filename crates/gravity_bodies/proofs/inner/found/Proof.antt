@@ -1,10 +1,10 @@
--- `sight::known::found` meets its contract. Assumes nothing.
+-- `gravity_bodies::inner::found` meets its contract. Assumes nothing.
 use Rattle.book.proofs.Found.{covered}
 use mathlib.Core.Path.{sym, _∙_}
-use Rattle.sight.specs.Looked.{foundOf}
+use Rattle.gravity_bodies.specs.Looked.{foundOf}
 use borrow.Author.Needs.{needs}
-use Rattle.sight.proofs.known.found.Statement.{statement}
-use Rattle.sight.proofs.known.found.Tie as tie
+use Rattle.gravity_bodies.proofs.inner.found.Statement.{statement}
+use Rattle.gravity_bodies.proofs.inner.found.Tie as tie
 
 is-looked-up-requires : tie.Need-is-looked-up-requires
 is-looked-up-requires c κs = search needs

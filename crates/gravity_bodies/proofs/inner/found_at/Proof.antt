@@ -1,8 +1,8 @@
--- `sight::known::found_at` meets its contract. Assumes nothing.
+-- `gravity_bodies::inner::found_at` meets its contract. Assumes nothing.
 use mathlib.Core.Path.{sym, _∙_}
 use borrow.Author.Needs.{needs}
-use Rattle.sight.proofs.known.found_at.Statement.{statement}
-use Rattle.sight.proofs.known.found_at.Tie as tie
+use Rattle.gravity_bodies.proofs.inner.found_at.Statement.{statement}
+use Rattle.gravity_bodies.proofs.inner.found_at.Tie as tie
 
 vector-is-finite-requires : tie.Need-vector-is-finite-requires
 vector-is-finite-requires c κs = search needs

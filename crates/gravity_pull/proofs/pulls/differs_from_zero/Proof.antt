@@ -1,6 +1,6 @@
--- `pull::pulls::differs_from_zero` meets its contract. Assumes nothing.
-use Rattle.pull.proofs.pulls.differs_from_zero.Statement.{statement}
-use Rattle.pull.proofs.pulls.differs_from_zero.Tie as tie
+-- `gravity_pull::pulls::differs_from_zero` meets its contract. Assumes nothing.
+use Rattle.gravity_pull.proofs.pulls.differs_from_zero.Statement.{statement}
+use Rattle.gravity_pull.proofs.pulls.differs_from_zero.Tie as tie
 
 returns : tie.Need-returns
 returns c = rw (c .if1 .taken)

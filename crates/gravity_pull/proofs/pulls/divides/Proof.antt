@@ -1,7 +1,7 @@
--- `pull::pulls::divides` meets its contract. Assumes nothing.
+-- `gravity_pull::pulls::divides` meets its contract. Assumes nothing.
 use borrow.Author.Needs.{needs}
-use Rattle.pull.proofs.pulls.divides.Statement.{statement}
-use Rattle.pull.proofs.pulls.divides.Tie as tie
+use Rattle.gravity_pull.proofs.pulls.divides.Statement.{statement}
+use Rattle.gravity_pull.proofs.pulls.divides.Tie as tie
 
 is-finite-requires : tie.Need-is-finite-requires
 is-finite-requires c κs = search needs

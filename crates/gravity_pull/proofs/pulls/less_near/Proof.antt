@@ -1,7 +1,7 @@
--- `pull::pulls::less_near` meets its contract. Assumes nothing.
+-- `gravity_pull::pulls::less_near` meets its contract. Assumes nothing.
 use borrow.Author.Needs.{needs}
-use Rattle.pull.proofs.pulls.less_near.Statement.{statement}
-use Rattle.pull.proofs.pulls.less_near.Tie as tie
+use Rattle.gravity_pull.proofs.pulls.less_near.Statement.{statement}
+use Rattle.gravity_pull.proofs.pulls.less_near.Tie as tie
 
 take-off-requires : tie.Need-take-off-requires
 take-off-requires c κs = search needs

@@ -1,8 +1,8 @@
--- `pull::pulls::near_sum` meets its contract. Assumes nothing.
-use Rattle.pull.specs.Sum.{lessBy}
+-- `gravity_pull::pulls::near_sum` meets its contract. Assumes nothing.
+use Rattle.gravity_pull.specs.Sum.{lessBy}
 use borrow.Author.Needs.{needs}
-use Rattle.pull.proofs.pulls.near_sum.Statement.{statement}
-use Rattle.pull.proofs.pulls.near_sum.Tie as tie
+use Rattle.gravity_pull.proofs.pulls.near_sum.Statement.{statement}
+use Rattle.gravity_pull.proofs.pulls.near_sum.Tie as tie
 
 difference-requires : tie.Need-difference-requires
 difference-requires c κs = search needs

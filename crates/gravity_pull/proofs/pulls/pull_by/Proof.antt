@@ -1,7 +1,7 @@
--- `pull::pulls::pull_by` meets its contract. Assumes nothing.
+-- `gravity_pull::pulls::pull_by` meets its contract. Assumes nothing.
 use borrow.Author.Needs.{needs}
-use Rattle.pull.proofs.pulls.pull_by.Statement.{statement}
-use Rattle.pull.proofs.pulls.pull_by.Tie as tie
+use Rattle.gravity_pull.proofs.pulls.pull_by.Statement.{statement}
+use Rattle.gravity_pull.proofs.pulls.pull_by.Tie as tie
 
 divides-requires : tie.Need-divides-requires
 divides-requires c κs = search needs

@@ -1,7 +1,7 @@
--- `pull::pulls::take_off` meets its contract. Assumes nothing.
+-- `gravity_pull::pulls::take_off` meets its contract. Assumes nothing.
 use borrow.Author.Needs.{needs}
-use Rattle.pull.proofs.pulls.take_off.Statement.{statement}
-use Rattle.pull.proofs.pulls.take_off.Tie as tie
+use Rattle.gravity_pull.proofs.pulls.take_off.Statement.{statement}
+use Rattle.gravity_pull.proofs.pulls.take_off.Tie as tie
 
 both-requires : tie.Need-both-requires
 both-requires c κs = search needs

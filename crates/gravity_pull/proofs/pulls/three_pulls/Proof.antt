@@ -1,9 +1,9 @@
--- `pull::pulls::three_pulls` meets its contract. Assumes nothing.
-use Rattle.pull.specs.Pull.{g, sound, r3}
-use Rattle.pull.specs.Sum.{pullOf}
+-- `gravity_pull::pulls::three_pulls` meets its contract. Assumes nothing.
+use Rattle.gravity_pull.specs.Pull.{g, sound, r3}
+use Rattle.gravity_pull.specs.Sum.{pullOf}
 use borrow.Author.Needs.{needs}
-use Rattle.pull.proofs.pulls.three_pulls.Statement.{statement}
-use Rattle.pull.proofs.pulls.three_pulls.Tie as tie
+use Rattle.gravity_pull.proofs.pulls.three_pulls.Statement.{statement}
+use Rattle.gravity_pull.proofs.pulls.three_pulls.Tie as tie
 
 square-requires : tie.Need-square-requires
 square-requires c κs = search needs

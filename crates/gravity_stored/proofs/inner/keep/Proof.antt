@@ -1,9 +1,9 @@
--- `injection::known::keep` meets its contract. Assumes nothing.
+-- `gravity_stored::inner::keep` meets its contract. Assumes nothing.
 use mathlib.Core.Path.{refl, sym, ap, _∙_}
-use Rattle.injection.specs.declared.InjectionAnswer.the-variants.{Injected}
+use Rattle.gravity_stored.specs.declared.InjectionAnswer.the-variants.{Injected}
 use borrow.Author.Needs.{needs}
-use Rattle.injection.proofs.known.keep.Statement.{statement}
-use Rattle.injection.proofs.known.keep.Tie as tie
+use Rattle.gravity_stored.proofs.inner.keep.Statement.{statement}
+use Rattle.gravity_stored.proofs.inner.keep.Tie as tie
 
 enum-known-answer : tie.Need-enum-known-answer
 enum-known-answer c = search needs

@@ -1,8 +1,8 @@
--- `injection::known::kept_at` meets its contract. Assumes nothing.
-use Rattle.injection.specs.Injection.{kept}
+-- `gravity_stored::inner::kept_at` meets its contract. Assumes nothing.
+use Rattle.gravity_stored.specs.Injection.{kept}
 use borrow.Author.Needs.{needs}
-use Rattle.injection.proofs.known.kept_at.Statement.{statement}
-use Rattle.injection.proofs.known.kept_at.Tie as tie
+use Rattle.gravity_stored.proofs.inner.kept_at.Statement.{statement}
+use Rattle.gravity_stored.proofs.inner.kept_at.Tie as tie
 
 starting-position-requires : tie.Need-starting-position-requires
 starting-position-requires c κs = search needs

@@ -1,7 +1,7 @@
--- `injection::known::kept_under` meets its contract. Assumes nothing.
+-- `gravity_stored::inner::kept_under` meets its contract. Assumes nothing.
 use borrow.Author.Needs.{needs}
-use Rattle.injection.proofs.known.kept_under.Statement.{statement}
-use Rattle.injection.proofs.known.kept_under.Tie as tie
+use Rattle.gravity_stored.proofs.inner.kept_under.Statement.{statement}
+use Rattle.gravity_stored.proofs.inner.kept_under.Tie as tie
 
 starting-position-requires : tie.Need-starting-position-requires
 starting-position-requires c κs = search needs

@@ -1,8 +1,8 @@
--- `motion::walking::guess_from` meets its contract. Assumes nothing.
+-- `run::walking::guess_from` meets its contract. Assumes nothing.
 use mathlib.Core.Path.{sym, _∙_}
 use borrow.Author.Needs.{needs}
-use Rattle.motion.proofs.walking.guess_from.Statement.{statement}
-use Rattle.motion.proofs.walking.guess_from.Tie as tie
+use Rattle.run.proofs.walking.guess_from.Statement.{statement}
+use Rattle.run.proofs.walking.guess_from.Tie as tie
 
 is-looked-up-requires : tie.Need-is-looked-up-requires
 is-looked-up-requires c κs = search needs

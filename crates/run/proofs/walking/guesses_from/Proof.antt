@@ -1,7 +1,7 @@
--- `motion::walking::guesses_from` meets its contract. Assumes nothing.
+-- `run::walking::guesses_from` meets its contract. Assumes nothing.
 use borrow.Author.Needs.{needs}
-use Rattle.motion.proofs.walking.guesses_from.Statement.{statement}
-use Rattle.motion.proofs.walking.guesses_from.Tie as tie
+use Rattle.run.proofs.walking.guesses_from.Statement.{statement}
+use Rattle.run.proofs.walking.guesses_from.Tie as tie
 
 sun-shines-requires : tie.Need-sun-shines-requires
 sun-shines-requires c κs = search needs

@@ -1,4 +1,4 @@
--- `motion::walking::walk_on` meets its contract: at the loop's test the rest of the run starts from now (`Walking`). The measure is
+-- `run::walking::walk_on` meets its contract: at the loop's test the rest of the run starts from now (`Walking`). The measure is
 -- what is left of the budget. Assumes nothing.
 use mathlib.Core.Path.{_≡_, sym, ap, _∙_}
 use Prim.Native.Nat.{ℕ, suc, _+_, _-_, _≤_, _<_}
@@ -6,14 +6,14 @@ use native.Mathlib.Omega.{arith}
 use borrow.Author.Needs.{needs}
 use denote.Ref.{now}
 use Rattle.book.specs.Calm.{Ready}
-use Rattle.stages.specs.Step.{step}
-use Rattle.motion.specs.Run.{runTo}
-use Rattle.motion.specs.Kept.{Walking}
-use Rattle.motion.specs.declared.Outcome.the-variants.{Arrived, Going, Refused}
-use Rattle.motion.proofs.Runs.{runArrived, runGoing, runRefused}
-use Rattle.motion.proofs.Walked.{handedOff, walkStarts, walkIn, walkEnds, walkGoesOn}
-use Rattle.motion.proofs.walking.walk_on.Statement.{statement}
-use Rattle.motion.proofs.walking.walk_on.Tie as tie
+use Rattle.step.specs.Step.{step}
+use Rattle.run.specs.Run.{runTo}
+use Rattle.run.specs.Kept.{Walking}
+use Rattle.run.specs.declared.Outcome.the-variants.{Arrived, Going, Refused}
+use Rattle.run.proofs.Runs.{runArrived, runGoing, runRefused}
+use Rattle.run.proofs.Walked.{handedOff, walkStarts, walkIn, walkEnds, walkGoesOn}
+use Rattle.run.proofs.walking.walk_on.Statement.{statement}
+use Rattle.run.proofs.walking.walk_on.Tie as tie
 
 oneMore : (n budget : ℕ) → n < budget → budget - n ≡ suc (budget - (n + 1))
 oneMore n budget h = omega arith

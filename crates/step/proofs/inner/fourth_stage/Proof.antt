@@ -1,15 +1,15 @@
--- `stages::known::fourth_stage` meets its contract. Assumes nothing.
+-- `step::inner::fourth_stage` meets its contract. Assumes nothing.
 use Prim.Native.Nat.{_+_, _/_}
 use mathlib.Core.Path.{_∙_}
 use denote.Ref.{now}
 use Rattle.state.specs.State.{position, acceleration}
 use Rattle.gravity.specs.Acceleration.{accelerationAt}
 use Rattle.stages.specs.Step.{along, stepH, velocity3, lastly, keeping}
-use Rattle.stages.specs.Entries.{entriesAfter}
-use Rattle.stages.proofs.Answered.{answered, goesOn, leaves, endedLastly}
+use Rattle.step.specs.Entries.{entriesAfter}
+use Rattle.step.proofs.Answered.{answered, goesOn, leaves, endedLastly}
 use borrow.Author.Needs.{needs}
-use Rattle.stages.proofs.known.fourth_stage.Statement.{statement}
-use Rattle.stages.proofs.known.fourth_stage.Tie as tie
+use Rattle.step.proofs.inner.fourth_stage.Statement.{statement}
+use Rattle.step.proofs.inner.fourth_stage.Tie as tie
 
 velocity-of-requires : tie.Need-velocity-of-requires
 velocity-of-requires c κs = search needs

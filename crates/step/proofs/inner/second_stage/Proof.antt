@@ -1,14 +1,14 @@
--- `stages::known::second_stage` meets its contract. Assumes nothing.
+-- `step::inner::second_stage` meets its contract. Assumes nothing.
 use Prim.Native.Nat.{_+_, _/_}
 use denote.Ref.{now}
 use Rattle.state.specs.State.{position, velocity, acceleration}
 use Rattle.gravity.specs.Acceleration.{accelerationAt}
 use Rattle.stages.specs.Step.{along, half, stage3, keeping}
-use Rattle.stages.specs.Entries.{entriesAfter}
-use Rattle.stages.proofs.Answered.{answered, goesOn, leaves}
+use Rattle.step.specs.Entries.{entriesAfter}
+use Rattle.step.proofs.Answered.{answered, goesOn, leaves}
 use borrow.Author.Needs.{needs}
-use Rattle.stages.proofs.known.second_stage.Statement.{statement}
-use Rattle.stages.proofs.known.second_stage.Tie as tie
+use Rattle.step.proofs.inner.second_stage.Statement.{statement}
+use Rattle.step.proofs.inner.second_stage.Tie as tie
 
 position-of-requires : tie.Need-position-of-requires
 position-of-requires c κs = search needs

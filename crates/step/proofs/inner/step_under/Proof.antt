@@ -1,8 +1,8 @@
--- `stages::known::step_under` meets its contract. Assumes nothing.
-use Rattle.stages.specs.Step.{step}
+-- `step::inner::step_under` meets its contract. Assumes nothing.
+use Rattle.step.specs.Step.{step}
 use borrow.Author.Needs.{needs}
-use Rattle.stages.proofs.known.step_under.Statement.{statement}
-use Rattle.stages.proofs.known.step_under.Tie as tie
+use Rattle.step.proofs.inner.step_under.Statement.{statement}
+use Rattle.step.proofs.inner.step_under.Tie as tie
 
 second-stage-requires : tie.Need-second-stage-requires
 second-stage-requires c κs = search needs

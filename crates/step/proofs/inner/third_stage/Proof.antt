@@ -1,14 +1,14 @@
--- `stages::known::third_stage` meets its contract. Assumes nothing.
+-- `step::inner::third_stage` meets its contract. Assumes nothing.
 use Prim.Native.Nat.{_+_, _/_}
 use denote.Ref.{now}
 use Rattle.state.specs.State.{position, acceleration}
 use Rattle.gravity.specs.Acceleration.{accelerationAt}
 use Rattle.stages.specs.Step.{along, half, stage4, velocity2, keeping}
-use Rattle.stages.specs.Entries.{entriesAfter}
-use Rattle.stages.proofs.Answered.{answered, goesOn, leaves}
+use Rattle.step.specs.Entries.{entriesAfter}
+use Rattle.step.proofs.Answered.{answered, goesOn, leaves}
 use borrow.Author.Needs.{needs}
-use Rattle.stages.proofs.known.third_stage.Statement.{statement}
-use Rattle.stages.proofs.known.third_stage.Tie as tie
+use Rattle.step.proofs.inner.third_stage.Statement.{statement}
+use Rattle.step.proofs.inner.third_stage.Tie as tie
 
 half-of-requires : tie.Need-half-of-requires
 half-of-requires c κs = search needs

@@ -1,8 +1,8 @@
--- `arrival::known::arrived` meets its contract. Assumes nothing.
+-- `step_end::inner::arrived` meets its contract. Assumes nothing.
 use mathlib.Core.Path.{sym, _∙_}
 use borrow.Author.Needs.{needs}
-use Rattle.arrival.proofs.known.arrived.Statement.{statement}
-use Rattle.arrival.proofs.known.arrived.Tie as tie
+use Rattle.step_end.proofs.inner.arrived.Statement.{statement}
+use Rattle.step_end.proofs.inner.arrived.Tie as tie
 
 vector-is-finite-requires : tie.Need-vector-is-finite-requires
 vector-is-finite-requires c κs = search needs

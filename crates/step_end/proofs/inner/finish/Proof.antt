@@ -1,8 +1,8 @@
--- `arrival::known::finish` meets its contract. Assumes nothing.
+-- `step_end::inner::finish` meets its contract. Assumes nothing.
 use native.Mathlib.Omega.{arith}
 use borrow.Author.Needs.{needs}
-use Rattle.arrival.proofs.known.finish.Statement.{statement}
-use Rattle.arrival.proofs.known.finish.Tie as tie
+use Rattle.step_end.proofs.inner.finish.Statement.{statement}
+use Rattle.step_end.proofs.inner.finish.Tie as tie
 
 half-of-requires : tie.Need-half-of-requires
 half-of-requires c κs = search needs

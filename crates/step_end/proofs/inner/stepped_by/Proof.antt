@@ -1,7 +1,7 @@
--- `arrival::known::stepped_by` meets its contract. Assumes nothing.
+-- `step_end::inner::stepped_by` meets its contract. Assumes nothing.
 use borrow.Author.Needs.{needs}
-use Rattle.arrival.proofs.known.stepped_by.Statement.{statement}
-use Rattle.arrival.proofs.known.stepped_by.Tie as tie
+use Rattle.step_end.proofs.inner.stepped_by.Statement.{statement}
+use Rattle.step_end.proofs.inner.stepped_by.Tie as tie
 
 enum-known-answer : tie.Need-enum-known-answer
 enum-known-answer c = search needs
