@@ -3,7 +3,7 @@
 use mathlib.Core.Path.{_≡_, refl}
 use Prim.Native.Nat.{ℕ}
 use lib.Ieee.{neg, add, sub, mul, div, lt, eq, ofBits, ofInt}
-use Rattle.basis.specs.Floats.{whole}
+use Rattle.base.specs.Floats.{whole}
 use Rattle.state.specs.declared.Vector.{Vector}
 use Rattle.state.specs.declared.State.{State}
 use Rattle.state.specs.State.{n}

@@ -1,6 +1,6 @@
 -- Any two results that the promise of `conic_figures` allows are equal. Assumes nothing.
 use mathlib.Core.Path.{refl}
-use Rattle.basis.proofs.OneAnswer.{OneAnswer, one-answer}
+use Rattle.base.proofs.OneAnswer.{OneAnswer, one-answer}
 use Rattle.conic.specs.Conic.{conicAnswer}
 use Rattle.conic.proofs.conic_figures as conic-figures
 

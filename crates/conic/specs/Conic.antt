@@ -3,8 +3,8 @@ use mathlib.Core.Bool.{not, _&&_}
 use Prim.Native.Nat.{ℕ}
 use lib.Ieee.{Float}
 use lib.Ieee.Scale.{finite}
-use Rattle.basis.specs.Choice.{if_then_else_, _=?_}
-use Rattle.basis.specs.Floats.{above0, below0}
+use Rattle.base.specs.Choice.{if_then_else_, _=?_}
+use Rattle.base.specs.Floats.{above0, below0}
 use Rattle.state.specs.declared.State.{State}
 use Rattle.state.specs.State.{finiteState, isBody}
 use Rattle.conic.specs.declared.Conic.{Conic}
@@ -12,9 +12,9 @@ use Rattle.conic.specs.declared.Conic.the-variants.{Ellipse, Hyperbola}
 use Rattle.conic.specs.declared.CentredConic.{CentredConic}
 use Rattle.conic.specs.declared.ConicAnswer.{ConicAnswer}
 use Rattle.conic.specs.declared.ConicAnswer.the-variants.{Figures, Refused}
-use Rattle.orbitcheck.specs.declared.Orbit.{Orbit}
-unfoldable pub use Rattle.orbitcheck.specs.Refusal.{unfit, _before_, refusal}
-unfoldable pub use Rattle.orbit.specs.Orbit.{cross, eccentricity, lastFigure, orbit}
+use Rattle.conic_checks.specs.declared.Orbit.{Orbit}
+unfoldable pub use Rattle.conic_checks.specs.Refusal.{unfit, _before_, refusal}
+unfoldable pub use Rattle.conic_formulas.specs.Orbit.{cross, eccentricity, lastFigure, orbit}
 
 -- "an ellipse when c3 is below 0, a hyperbola when above"
 unfoldable pub conicOf : Orbit → Conic

@@ -1,8 +1,8 @@
 // The conic that a state would follow about its centre alone.
 
 use orbit::orbit_of;
-use orbitcheck::Orbit;
-use orbitcheck::refusal_of;
+use conic_checks::Orbit;
+use conic_checks::refusal_of;
 use state::State;
 ghost use mathlib.Core.Path.{_≡_};
 ghost use Rattle.conic.specs.Conic.{conicOf, orbitAnswer, figuresAbout, conicAnswer};
@@ -81,7 +81,7 @@ fn figures_about(m: f64, state: State) -> ConicAnswer
 pub fn conic_figures(m: f64, state: State) -> ConicAnswer
     ensures { λ r. ⌜ r ≡ conicAnswer m state ⌝ }
 {
-    if basis::is_finite(m) {
+    if base::is_finite(m) {
         if 0.0 < m {
             return figures_about(m, state);
         }

@@ -3,9 +3,9 @@ use mathlib.Core.Bool.{not}
 use Prim.Native.Nat.{ℕ}
 use lib.Ieee.{Float, eq}
 use lib.Ieee.Scale.{finite}
-use Rattle.basis.specs.Choice.{if_then_else_, _=?_}
-use Rattle.basis.specs.Floats.{zero64}
-use Rattle.orbitcheck.specs.declared.Orbit.{Orbit}
+use Rattle.base.specs.Choice.{if_then_else_, _=?_}
+use Rattle.base.specs.Floats.{zero64}
+use Rattle.conic_checks.specs.declared.Orbit.{Orbit}
 
 -- the refusal of a figure, 0 for none: 7 where it is not finite, and its own number where it is zero, 0 if it may be
 unfoldable pub unfit : Float → ℕ → ℕ

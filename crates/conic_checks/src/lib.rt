@@ -1,7 +1,7 @@
 // The figures of a conic, and the tests that they have to pass, in their order.
 
 ghost use mathlib.Core.Path.{_≡_};
-ghost use Rattle.orbitcheck.specs.Refusal.{unfit, _before_, refusal};
+ghost use Rattle.conic_checks.specs.Refusal.{unfit, _before_, refusal};
 
 // The figures in the order in which they are tested; `last` is the ellipse's far distance or the hyperbola's v.
 pub struct Orbit {
@@ -22,7 +22,7 @@ fn tested(number: u64, x: f64, own: u64) -> u64
     ensures { λ r. ⌜ r ≡ number before unfit x own ⌝ }
 {
     if number == 0 {
-        if basis::is_finite(x) {
+        if base::is_finite(x) {
             if x == 0.0 {
                 return own;
             }

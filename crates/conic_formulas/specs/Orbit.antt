@@ -1,12 +1,12 @@
 -- Document 01, "Earth-fixed turn and conic": the figures of the conic for a centre coefficient m.
 use lib.Ieee.{Float, neg}
-use Rattle.basis.specs.Choice.{if_then_else_}
-use Rattle.basis.specs.Floats.{_⊕_, _⊖_, _⊗_, _⊘_, zero64, below0, whole}
+use Rattle.base.specs.Choice.{if_then_else_}
+use Rattle.base.specs.Floats.{_⊕_, _⊖_, _⊗_, _⊘_, zero64, below0, whole}
 use Rattle.state.specs.declared.State.{State}
 use Rattle.state.specs.declared.Vector.{Vector}
 use Rattle.state.specs.State.{position, velocity, n}
 use Rattle.root.specs.Root.{rootOf}
-use Rattle.orbitcheck.specs.declared.Orbit.{Orbit}
+use Rattle.conic_checks.specs.declared.Orbit.{Orbit}
 
 -- "C = (y·vz - z·vy, z·vx - x·vz, x·vy - y·vx)"
 unfoldable pub cross : Vector → Vector → Vector

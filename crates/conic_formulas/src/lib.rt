@@ -1,10 +1,10 @@
 // The figures of a conic by their formulas.
 
-use orbitcheck::Orbit;
+use conic_checks::Orbit;
 use state::State;
 use state::Vector;
 ghost use mathlib.Core.Path.{_≡_};
-ghost use Rattle.orbit.specs.Orbit.{cross, eccentricity, lastFigure, orbit};
+ghost use Rattle.conic_formulas.specs.Orbit.{cross, eccentricity, lastFigure, orbit};
 
 fn cross_product(p: Vector, v: Vector) -> Vector
     ensures { λ r. ⌜ r ≡ cross p v ⌝ }
@@ -22,7 +22,7 @@ fn eccentricity_of(e2: f64) -> f64
     if e2 < 0.0 {
         return 0.0;
     }
-    root::known::square_root(e2)
+    root::inner::square_root(e2)
 }
 
 fn last_figure(c3: f64, a: f64, e: f64) -> f64
@@ -31,7 +31,7 @@ fn last_figure(c3: f64, a: f64, e: f64) -> f64
     if c3 < 0.0 {
         return a * (1.0 + e);
     }
-    root::known::square_root(c3)
+    root::inner::square_root(c3)
 }
 
 pub fn orbit_of(m: f64, state: State) -> Orbit
@@ -41,7 +41,7 @@ pub fn orbit_of(m: f64, state: State) -> Orbit
     let velocity = state::velocity_of(state);
     let n = state::square(position);
     let v2 = state::square(velocity);
-    let c3 = v2 - (2.0 * m) / root::known::square_root(n);
+    let c3 = v2 - (2.0 * m) / root::inner::square_root(n);
     let nc = state::square(cross_product(position, velocity));
     let p = nc / m;
     let e2 = 1.0 + (p * c3) / m;

@@ -3,15 +3,15 @@ use mathlib.Core.Bool.{true, false, not}
 use mathlib.Core.Path.{_≡_}
 use borrow.Author.Tests.{eq-eqb}
 use Prim.Native.Nat.{ℕ}
-use Rattle.basis.specs.Choice.{if_then_else_}
-use Rattle.basis.specs.Limits.{isDUT}
+use Rattle.base.specs.Choice.{if_then_else_}
+use Rattle.base.specs.Limits.{isDUT}
 use Rattle.hour.specs.Hour.{isRule, siderealAnswer}
 use Rattle.state.specs.declared.State.{State}
 use Rattle.state.specs.State.{finiteState}
-use Rattle.fixed.specs.declared.EarthFixed.{EarthFixed}
-use Rattle.fixed.specs.declared.FixedAnswer.the-variants.{Fixed, Refused}
-use Rattle.rotation.specs.Rotation.{rotation}
-use Rattle.fixed.specs.Fixed.{turned, finiteFixed, finiteAnswer, afterHour, fixedAnswer}
+use Rattle.earth_fixed.specs.declared.EarthFixed.{EarthFixed}
+use Rattle.earth_fixed.specs.declared.FixedAnswer.the-variants.{Fixed, Refused}
+use Rattle.earth_rotation.specs.Rotation.{rotation}
+use Rattle.earth_fixed.specs.Fixed.{turned, finiteFixed, finiteAnswer, afterHour, fixedAnswer}
 
 pub refused-is : (rule dut : ℕ) (state : State) → finiteState state ≡ false → Refused 7 ≡ finiteAnswer rule dut state
 unfolding finiteAnswer

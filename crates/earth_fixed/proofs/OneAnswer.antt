@@ -1,8 +1,8 @@
 -- Any two results that the promise of the Earth-fixed call allows are equal. Assumes nothing.
 use mathlib.Core.Path.{refl}
-use Rattle.basis.proofs.OneAnswer.{OneAnswer, one-answer}
-use Rattle.fixed.specs.Fixed.{fixedAnswer}
-use Rattle.fixed.proofs.earth_fixed as earth-fixed
+use Rattle.base.proofs.OneAnswer.{OneAnswer, one-answer}
+use Rattle.earth_fixed.specs.Fixed.{fixedAnswer}
+use Rattle.earth_fixed.proofs.earth_fixed as earth-fixed
 
 pub earth-fixed-answers-once : OneAnswer earth-fixed.ended (λ M. earth-fixed.clauses)
 earth-fixed-answers-once =

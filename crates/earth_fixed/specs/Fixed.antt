@@ -1,17 +1,17 @@
 -- Document 01, "Earth-fixed turn and conic", and document 02, R-2, R-6 and R-9: a state in coordinates that turn with the Earth.
 use mathlib.Core.Bool.{Bool, not, _&&_}
 use Prim.Native.Nat.{ℕ}
-use Rattle.basis.specs.Choice.{if_then_else_, _=?_}
-use Rattle.basis.specs.Floats.{_⊕_, _⊖_, _⊗_}
-use Rattle.basis.specs.Limits.{isDUT}
+use Rattle.base.specs.Choice.{if_then_else_, _=?_}
+use Rattle.base.specs.Floats.{_⊕_, _⊖_, _⊗_}
+use Rattle.base.specs.Limits.{isDUT}
 use Rattle.state.specs.declared.State.{State}
 use Rattle.state.specs.State.{position, velocity, finiteVector, finiteState}
 use Rattle.hour.specs.Hour.{isRule, siderealAnswer}
 use Rattle.hour.specs.declared.HourAnswer.{HourAnswer}
-use Rattle.rotation.specs.Rotation.{times, Rotation, rotation}
-use Rattle.fixed.specs.declared.EarthFixed.{EarthFixed}
-use Rattle.fixed.specs.declared.FixedAnswer.{FixedAnswer}
-use Rattle.fixed.specs.declared.FixedAnswer.the-variants.{Fixed, Refused}
+use Rattle.earth_rotation.specs.Rotation.{times, Rotation, rotation}
+use Rattle.earth_fixed.specs.declared.EarthFixed.{EarthFixed}
+use Rattle.earth_fixed.specs.declared.FixedAnswer.{FixedAnswer}
+use Rattle.earth_fixed.specs.declared.FixedAnswer.the-variants.{Fixed, Refused}
 
 -- "Velocity x gains w·y and velocity y loses w·x, with x, y the turned position" (so of the product)
 unfoldable pub turned : Rotation → State → EarthFixed

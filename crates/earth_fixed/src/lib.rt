@@ -1,15 +1,15 @@
 // A state in coordinates that turn with the Earth.
 
 use hour::HourAnswer;
-use rotation::known::rate_on;
-use rotation::known::table_on;
-use rotation::known::table_times;
+use earth_rotation::inner::rate_on;
+use earth_rotation::inner::table_on;
+use earth_rotation::inner::table_times;
 use state::State;
 use state::Vector;
 ghost use mathlib.Core.Path.{_≡_};
 ghost use Rattle.hour.specs.declared.HourAnswer.the-variants.{Parts};
 ghost use Rattle.hour.specs.Hour.{siderealAnswer};
-ghost use Rattle.fixed.specs.Fixed.{turned, finiteFixed, finiteAnswer, afterHour, fixedAnswer};
+ghost use Rattle.earth_fixed.specs.Fixed.{turned, finiteFixed, finiteAnswer, afterHour, fixedAnswer};
 
 // Position in km and velocity in km/s, in axes that turn with the Earth.
 pub struct EarthFixed {
@@ -79,7 +79,7 @@ fn fixed_at(rule: u64, dut: u32, state: State, parts: u64) -> FixedAnswer
 pub fn earth_fixed(rule: u64, dut: u32, state: State) -> FixedAnswer
     ensures { λ r. ⌜ r ≡ fixedAnswer rule dut state ⌝ }
 {
-    if basis::LONGEST_DUT < dut {
+    if base::LONGEST_DUT < dut {
         return FixedAnswer::Refused(4);
     }
     if hour::LAST_RULE < rule {

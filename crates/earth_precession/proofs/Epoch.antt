@@ -2,8 +2,8 @@
 use mathlib.Core.List.{[], _∷_}
 use mathlib.Core.Path.{_≡_, refl}
 use lib.Ieee.{neg, ofInt, round, add, mul}
-use Rattle.basis.specs.Floats.{whole}
-use Rattle.precession.specs.Precession.{Table, a11, a12, a13, a22, a23, a33, precessionBy}
+use Rattle.base.specs.Floats.{whole}
+use Rattle.earth_precession.specs.Precession.{Table, a11, a12, a13, a22, a23, a33, precessionBy}
 
 unfoldable pub unit : Table
 unit =

@@ -2,7 +2,7 @@
 use mathlib.Core.List.{List, [], _∷_}
 use Prim.Native.Nat.{ℕ, _+_}
 use lib.Ieee.{Float, neg}
-use Rattle.basis.specs.Floats.{_⊕_, _⊗_, _⊘_, whole, decimal}
+use Rattle.base.specs.Floats.{_⊕_, _⊗_, _⊘_, whole, decimal}
 
 -- "three rows of three numbers"
 abbrev pub Table : Type 0

@@ -2,8 +2,8 @@
 
 ghost use mathlib.Core.Path.{_≡_};
 ghost use Prim.Native.Nat.{_<_};
-ghost use Rattle.basis.specs.Limits.{endOfTime};
-ghost use Rattle.precession.specs.Precession.{centuries, horner, precessionBy, precession};
+ghost use Rattle.base.specs.Limits.{endOfTime};
+ghost use Rattle.earth_precession.specs.Precession.{centuries, horner, precessionBy, precession};
 
 // Julian centuries past 1950.0, which lies 6,621,955 whole milliseconds before moment 0.
 fn centuries_at(moment: u64) -> f64

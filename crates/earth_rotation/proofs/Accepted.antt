@@ -4,8 +4,8 @@ use mathlib.Core.Path.{_≡_, refl, sym}
 use Prim.Native.Nat.{ℕ, _≤_, _<_}
 use native.Mathlib.Omega.{arith}
 use borrow.Author.Tests.{ltb-true, ltb-false}
-use Rattle.basis.specs.Choice.{if_then_else_, _<?_}
-use Rattle.basis.specs.Limits.{endOfTime, isMoment, isDUT, circle}
+use Rattle.base.specs.Choice.{if_then_else_, _<?_}
+use Rattle.base.specs.Limits.{endOfTime, isMoment, isDUT, circle}
 use Rattle.hour.specs.Hour.{utDay, utTime, isRule, siderealAngle, siderealAnswer}
 use Rattle.hour.proofs.BothRules.{angle-below}
 use Rattle.hour.specs.declared.HourAnswer.the-variants.{Parts, Refused}

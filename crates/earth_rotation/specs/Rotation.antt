@@ -3,12 +3,12 @@ use mathlib.Core.List.{List, [], _∷_}
 use Prim.Native.Nat.{ℕ}
 use lib.ListN.{getD}
 use lib.Ieee.{Float, nan, neg}
-use Rattle.basis.specs.Floats.{_⊕_, _⊗_, _⊘_, whole, decimal}
+use Rattle.base.specs.Floats.{_⊕_, _⊗_, _⊘_, whole, decimal}
 use Rattle.state.specs.declared.Vector.{Vector}
 use Rattle.hour.specs.Hour.{utDay, utTime, siderealAngle}
 use Rattle.sine.specs.declared.SineCosine.{SineCosine}
 use Rattle.sine.specs.Sine.{c, sineCosine}
-use Rattle.precession.specs.Precession.{Table, precession}
+use Rattle.earth_precession.specs.Precession.{Table, precession}
 
 -- "(cos, sin, 0), (-sin, cos, 0), (0, 0, 1)"
 unfoldable pub turn : SineCosine → Table

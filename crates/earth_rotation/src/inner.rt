@@ -5,10 +5,10 @@ use sine::SineCosine;
 use state::Vector;
 ghost use mathlib.Core.Path.{_≡_};
 ghost use Prim.Native.Nat.{_≤_};
-ghost use Rattle.basis.specs.Limits.{lastDay};
+ghost use Rattle.base.specs.Limits.{lastDay};
 ghost use Rattle.hour.specs.declared.HourAnswer.the-variants.{Parts};
 ghost use Rattle.hour.specs.Hour.{siderealAnswer};
-ghost use Rattle.rotation.specs.Rotation.{turn, rowTimes, times, rowProduct, product, rate, rotation};
+ghost use Rattle.earth_rotation.specs.Rotation.{turn, rowTimes, times, rowProduct, product, rate, rotation};
 
 fn turn_table(of: SineCosine) -> [[f64; 3]; 3]
     ensures { λ r. ⌜ r ≡ turn of ⌝ }
@@ -84,8 +84,8 @@ pub fn table_on(rule: u64, moment: u64, dut: u32, parts: u64) -> [[f64; 3]; 3]
     requires { ⌜ siderealAnswer rule moment dut ≡ Parts parts ⌝ }
     ensures { λ r. ⌜ r ≡ rotation rule moment dut .table ⌝ }
 {
-    let of = sine::known::of_parts(parts);
-    table_product(turn_table(of), precession::known::table_at(moment))
+    let of = sine::inner::of_parts(parts);
+    table_product(turn_table(of), earth_precession::inner::table_at(moment))
 }
 
 pub fn rate_on(rule: u64, moment: u64, dut: u32, parts: u64) -> f64
@@ -93,5 +93,5 @@ pub fn rate_on(rule: u64, moment: u64, dut: u32, parts: u64) -> f64
     ensures { λ r. ⌜ r ≡ rotation rule moment dut .w ⌝ }
 {
     let ut = moment - dut as u64;
-    turning_rate(ut / basis::DAY_LENGTH)
+    turning_rate(ut / base::DAY_LENGTH)
 }

@@ -1,3 +1,3 @@
 // How the Earth stands at a moment, and how fast it turns.
 
-pub mod known;
+pub mod inner;

@@ -5,11 +5,11 @@ use Prim.Native.Nat.{ℕ, _-_, _≤_, _<_}
 use native.Mathlib.Omega.{arith}
 use lib.Dec.{eqb}
 use borrow.Author.Tests.{ltb-true, leb-true, eqb-false}
-use Rattle.basis.specs.Choice.{if_then_else_, _<?_, _≤?_, _=?_}
-use Rattle.basis.specs.Limits.{circle}
-use Rattle.sphere.specs.declared.Signed.{Signed}
-use Rattle.sphere.specs.declared.Sphere.{Sphere}
-use Rattle.sphere.specs.Sphere.{quarter, anglesAllowed, partsOf}
+use Rattle.base.specs.Choice.{if_then_else_, _<?_, _≤?_, _=?_}
+use Rattle.base.specs.Limits.{circle}
+use Rattle.launch.specs.declared.Signed.{Signed}
+use Rattle.launch.specs.declared.Sphere.{Sphere}
+use Rattle.launch.specs.Sphere.{quarter, anglesAllowed, partsOf}
 
 pub record Angles (s : Sphere) : Type 0 where
   pub latitude : s .latitude .parts ≤ quarter

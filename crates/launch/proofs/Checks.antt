@@ -3,11 +3,11 @@ use mathlib.Core.Bool.{Bool, true, false, not}
 use mathlib.Core.Path.{_≡_, refl}
 use Prim.Native.Nat.{ℕ}
 use native.Mathlib.Omega.{arith}
-use Rattle.basis.specs.Choice.{if_then_else_}
+use Rattle.base.specs.Choice.{if_then_else_}
 use Rattle.state.specs.State.{finiteInjection}
-use Rattle.sphere.specs.declared.Sphere.{Sphere}
-use Rattle.sphere.specs.declared.SphereAnswer.the-variants.{Injected, Refused}
-use Rattle.sphere.specs.Sphere.{anglesAllowed, sizesAllowed, injected, injectionAnswer}
+use Rattle.launch.specs.declared.Sphere.{Sphere}
+use Rattle.launch.specs.declared.SphereAnswer.the-variants.{Injected, Refused}
+use Rattle.launch.specs.Sphere.{anglesAllowed, sizesAllowed, injected, injectionAnswer}
 
 abbrev pub checks : Bool → Bool → ℕ
 checks angles sizes = if not angles then 12 else if not sizes then 7 else 0

@@ -1,8 +1,8 @@
 -- Any two results that the promise of the injection call allows are equal. Assumes nothing.
 use mathlib.Core.Path.{refl}
-use Rattle.basis.proofs.OneAnswer.{OneAnswer, one-answer}
-use Rattle.sphere.specs.Sphere.{sphereAnswer}
-use Rattle.sphere.proofs.from_sphere as from-sphere
+use Rattle.base.proofs.OneAnswer.{OneAnswer, one-answer}
+use Rattle.launch.specs.Sphere.{sphereAnswer}
+use Rattle.launch.proofs.from_sphere as from-sphere
 
 pub from-sphere-answers-once : OneAnswer from-sphere.ended (λ M. from-sphere.clauses)
 from-sphere-answers-once =

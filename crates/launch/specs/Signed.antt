@@ -1,8 +1,8 @@
 -- An angle with a sign, as it lies in 64 bits.
 use Prim.Native.Nat.{ℕ, _-_}
 use mathlib.Core.Bool.{true, false}
-use Rattle.basis.specs.Choice.{if_then_else_, _<?_}
-use Rattle.sphere.specs.declared.Signed.{Signed}
+use Rattle.base.specs.Choice.{if_then_else_, _<?_}
+use Rattle.launch.specs.declared.Signed.{Signed}
 
 -- as C has a number with a sign
 abbrev pub signedOf : ℕ → Signed

@@ -2,21 +2,21 @@
 use mathlib.Core.Bool.{Bool, not, _&&_}
 use Prim.Native.Nat.{ℕ, _-_}
 use lib.Ieee.Scale.{finite}
-use Rattle.basis.specs.Choice.{if_then_else_, _<?_, _≤?_, _=?_}
-use Rattle.basis.specs.Limits.{circle}
-use Rattle.basis.specs.Floats.{above0}
+use Rattle.base.specs.Choice.{if_then_else_, _<?_, _≤?_, _=?_}
+use Rattle.base.specs.Limits.{circle}
+use Rattle.base.specs.Floats.{above0}
 use Rattle.state.specs.declared.Injection.{Injection}
 use Rattle.state.specs.declared.Vector.{Vector}
 use Rattle.state.specs.State.{finiteInjection}
 use Rattle.hour.specs.Hour.{siderealAnswer}
 use Rattle.hour.specs.declared.HourAnswer.{HourAnswer}
 use Rattle.sine.specs.Sine.{sineCosine}
-use Rattle.rotation.specs.Rotation.{rotation}
-unfoldable pub use Rattle.turns.specs.Turns.{placeOn, horizontal, tilt, swing, relative, carried, transposed, returned}
-use Rattle.sphere.specs.declared.Signed.{Signed}
-use Rattle.sphere.specs.declared.Sphere.{Sphere}
-use Rattle.sphere.specs.declared.SphereAnswer.{SphereAnswer}
-use Rattle.sphere.specs.declared.SphereAnswer.the-variants.{Injected, Refused}
+use Rattle.earth_rotation.specs.Rotation.{rotation}
+unfoldable pub use Rattle.launch_turns.specs.Turns.{placeOn, horizontal, tilt, swing, relative, carried, transposed, returned}
+use Rattle.launch.specs.declared.Signed.{Signed}
+use Rattle.launch.specs.declared.Sphere.{Sphere}
+use Rattle.launch.specs.declared.SphereAnswer.{SphereAnswer}
+use Rattle.launch.specs.declared.SphereAnswer.the-variants.{Injected, Refused}
 
 -- 90 degrees in parts
 abbrev pub quarter : ℕ

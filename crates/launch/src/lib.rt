@@ -1,21 +1,21 @@
 // An injection as launch crews speak it, taken to 1950.0 axes (02, R-4).
 
-use basis::CIRCLE;
-use basis::unless;
+use base::CIRCLE;
+use base::unless;
 use hour::HourAnswer;
 use state::Injection;
 use state::Vector;
-use turns::horizontal_velocity;
-use turns::place_on;
-use turns::relative_velocity;
-use turns::returned_state;
+use launch_turns::horizontal_velocity;
+use launch_turns::place_on;
+use launch_turns::relative_velocity;
+use launch_turns::returned_state;
 ghost use mathlib.Core.Bool.{true, _&&_};
 ghost use mathlib.Core.Path.{_≡_};
 ghost use Prim.Native.Nat.{_≤_};
 ghost use Rattle.hour.specs.declared.HourAnswer.the-variants.{Parts};
 ghost use Rattle.hour.specs.Hour.{siderealAnswer};
-ghost use Rattle.sphere.specs.Signed.{signedOf};
-ghost use Rattle.sphere.specs.Sphere.{quarter, anglesAllowed, partsOf, placeOf, velocityOf, injected, sizesAllowed, injectionAnswer, sphereAnswer};
+ghost use Rattle.launch.specs.Signed.{signedOf};
+ghost use Rattle.launch.specs.Sphere.{quarter, anglesAllowed, partsOf, placeOf, velocityOf, injected, sizesAllowed, injectionAnswer, sphereAnswer};
 
 // 90 degrees in parts.
 const QUARTER: u64 = 900_000_000_000;
@@ -88,8 +88,8 @@ fn angles_allowed(s: Sphere) -> bool
 fn sizes_allowed(s: Sphere) -> bool
     ensures { λ r. ⌜ r ≡ sizesAllowed s ⌝ }
 {
-    if basis::is_finite(s.radius) {
-        if basis::is_finite(s.speed) {
+    if base::is_finite(s.radius) {
+        if base::is_finite(s.speed) {
             return 0.0 < s.radius;
         }
     }
@@ -101,8 +101,8 @@ fn fixed_place(s: Sphere) -> Vector
     ensures { λ r. ⌜ r ≡ placeOf s ⌝ }
 {
     let latitude = s.latitude;
-    let f = sine::known::of_parts(parts_of(latitude));
-    let t = sine::known::of_parts(s.longitude);
+    let f = sine::inner::of_parts(parts_of(latitude));
+    let t = sine::inner::of_parts(s.longitude);
     place_on(s.radius, f, t)
 }
 
@@ -112,10 +112,10 @@ fn fixed_velocity(s: Sphere) -> Vector
 {
     let latitude = s.latitude;
     let path = s.path;
-    let f = sine::known::of_parts(parts_of(latitude));
-    let t = sine::known::of_parts(s.longitude);
-    let g = sine::known::of_parts(parts_of(path));
-    let z = sine::known::of_parts(s.azimuth);
+    let f = sine::inner::of_parts(parts_of(latitude));
+    let t = sine::inner::of_parts(s.longitude);
+    let g = sine::inner::of_parts(parts_of(path));
+    let z = sine::inner::of_parts(s.azimuth);
     relative_velocity(f, t, horizontal_velocity(s.speed, g, z))
 }
 
@@ -123,8 +123,8 @@ fn injected_state(s: Sphere, rule: u64, moment: u64, dut: u32, parts: u64) -> In
     requires { ⌜ (siderealAnswer rule moment dut ≡ Parts parts) × (anglesAllowed s ≡ true) ⌝ }
     ensures { λ r. ⌜ r ≡ injected s rule moment dut ⌝ }
 {
-    let table = rotation::known::table_on(rule, moment, dut, parts);
-    let w = rotation::known::rate_on(rule, moment, dut, parts);
+    let table = earth_rotation::inner::table_on(rule, moment, dut, parts);
+    let w = earth_rotation::inner::rate_on(rule, moment, dut, parts);
     let place = fixed_place(s);
     let velocity = fixed_velocity(s);
     returned_state(moment, table, w, place, velocity)

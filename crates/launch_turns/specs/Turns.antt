@@ -3,13 +3,13 @@ use mathlib.Core.List.{List, [], _∷_}
 use Prim.Native.Nat.{ℕ}
 use lib.ListN.{getD}
 use lib.Ieee.{Float, nan, neg}
-use Rattle.basis.specs.Floats.{_⊕_, _⊖_, _⊗_, whole}
+use Rattle.base.specs.Floats.{_⊕_, _⊖_, _⊗_, whole}
 use Rattle.state.specs.declared.Injection.{Injection}
 use Rattle.state.specs.declared.Vector.{Vector}
 use Rattle.state.specs.State.{injectionAt}
 use Rattle.sine.specs.declared.SineCosine.{SineCosine}
-use Rattle.precession.specs.Precession.{Table}
-use Rattle.rotation.specs.Rotation.{Rotation, times}
+use Rattle.earth_precession.specs.Precession.{Table}
+use Rattle.earth_rotation.specs.Rotation.{Rotation, times}
 
 -- X = R cos Φ cos Θ, Y = R cos Φ sin Θ, Z = R sin Φ, with R cos Φ first
 unfoldable pub placeOn : Float → SineCosine → SineCosine → Vector

@@ -1,11 +1,11 @@
 // (02, R-4) The turns of an injection as launch crews speak it, each by itself.
 
-use rotation::known::table_times;
+use earth_rotation::inner::table_times;
 use sine::SineCosine;
 use state::Injection;
 use state::Vector;
 ghost use mathlib.Core.Path.{_≡_};
-ghost use Rattle.turns.specs.Turns.{placeOn, horizontal, tilt, swing, relative, carried, transposed, returned};
+ghost use Rattle.launch_turns.specs.Turns.{placeOn, horizontal, tilt, swing, relative, carried, transposed, returned};
 
 pub fn place_on(radius: f64, f: SineCosine, t: SineCosine) -> Vector
     ensures { λ r. ⌜ r ≡ placeOn radius f t ⌝ }

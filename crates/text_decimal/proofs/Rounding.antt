@@ -6,7 +6,7 @@ use native.Mathlib.Nat.{mul-assoc, mul-comm, mul-right-comm, mul-le-mul-right, l
 use native.Mathlib.Omega.{arith}
 use lib.Dec.{ltb}
 use borrow.Author.Tests.{lt-ltb, le-ltb, ltb-true, ltb-false}
-use Rattle.numeral.specs.Nearest.{apart, Nearest, nearestTo}
+use Rattle.text_decimal.specs.Nearest.{apart, Nearest, nearestTo}
 
 -- ---- it is the quotient or the next one up
 

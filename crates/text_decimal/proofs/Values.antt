@@ -11,9 +11,9 @@ use lib.Ieee.Fits.{down-pos}
 use lib.Ieee.Exact.{HasValue, odd-sign}
 use lib.Ieee.Scale.{finite}
 use borrow.Author.Tests.{lt-ltb, le-ltb, le-leb, lt-leb, leb-true, leb-false, ltb-true, ltb-false, ne-eqb}
-use Rattle.numeral.specs.Nearest.{Nearest, nearestTo}
-use Rattle.numeral.specs.Numeral.{unitsIn, Rounded, isNegative, isLarge}
-use Rattle.numeral.proofs.Rounding.{down-to, nearest-is, one-nearest, same-value}
+use Rattle.text_decimal.specs.Nearest.{Nearest, nearestTo}
+use Rattle.text_decimal.specs.Numeral.{unitsIn, Rounded, isNegative, isLarge}
+use Rattle.text_decimal.proofs.Rounding.{down-to, nearest-is, one-nearest, same-value}
 
 -- ---- the law of the numeral: for any count of places
 

@@ -10,18 +10,18 @@ use lib.ListN.{length, set, length-append}
 use lib.Ieee.{Float, nan, inf, fin, binary64, up, down, ofBits}
 use lib.Ieee.Fits.{down-pos}
 use borrow.Author.Tests.{lt-ltb, le-ltb, le-leb, lt-leb, leb-false}
-use Rattle.basis.specs.Choice.{if_then_else_}
-use Rattle.text.specs.Numerals.{digits, decimalOf}
-use Rattle.text.specs.Written.{Wrote}
+use Rattle.base.specs.Choice.{if_then_else_}
+use Rattle.text_write.specs.Numerals.{digits, decimalOf}
+use Rattle.text_write.specs.Written.{Wrote}
 use Rattle.text.proofs.Writing.{both, byte}
 use Rattle.text.proofs.Digits.{length-digits, two-digits, halves}
-use Rattle.text.proofs.Decimal.{decimal-length}
-use Rattle.numeral.specs.declared.Places.{Places}
-use Rattle.numeral.specs.declared.Places.the-variants.{Three, Six}
-use Rattle.numeral.specs.Nearest.{nearestTo}
-use Rattle.numeral.specs.Numeral.{count, unitOf, unitsIn, isNegative, signOf, unitsText, numeral, isLarge}
-use Rattle.numeral.proofs.Rounding.{nearest-is, at-most}
-use Rattle.numeral.proofs.Values.{sign-bits}
+use Rattle.text_write.proofs.Decimal.{decimal-length}
+use Rattle.text_decimal.specs.declared.Places.{Places}
+use Rattle.text_decimal.specs.declared.Places.the-variants.{Three, Six}
+use Rattle.text_decimal.specs.Nearest.{nearestTo}
+use Rattle.text_decimal.specs.Numeral.{count, unitOf, unitsIn, isNegative, signOf, unitsText, numeral, isLarge}
+use Rattle.text_decimal.proofs.Rounding.{nearest-is, at-most}
+use Rattle.text_decimal.proofs.Values.{sign-bits}
 
 -- ---- digits
 

@@ -1,7 +1,7 @@
 -- Document 02, R-13: "rounded to nearest, a tie to the even last digit", over whole numbers.
 use Prim.Native.Nat.{ℕ, _+_, _-_, _*_, _/_, _%_, _≤_}
 use mathlib.Core.Path.{_≡_}
-use Rattle.basis.specs.Choice.{if_then_else_, _<?_}
+use Rattle.base.specs.Choice.{if_then_else_, _<?_}
 
 -- the distance of two whole numbers: one of the two differences is 0
 abbrev pub apart : ℕ → ℕ → ℕ

@@ -4,11 +4,11 @@ use Prim.Native.Nat.{ℕ, _+_, _*_, _/_, _^_}
 use mathlib.Core.Bool.{Bool, true, false, _&&_}
 use mathlib.Core.List.{List, [], _∷_, _++_}
 use lib.Ieee.{Float, nan, inf, fin, up, down}
-use Rattle.basis.specs.Choice.{if_then_else_, _<?_, _≤?_}
-use Rattle.text.specs.Numerals.{digits, decimalOf}
-use Rattle.numeral.specs.Nearest.{Nearest, nearestTo}
-use Rattle.numeral.specs.declared.Places.{Places}
-use Rattle.numeral.specs.declared.Places.the-variants.{Three, Six}
+use Rattle.base.specs.Choice.{if_then_else_, _<?_, _≤?_}
+use Rattle.text_write.specs.Numerals.{digits, decimalOf}
+use Rattle.text_decimal.specs.Nearest.{Nearest, nearestTo}
+use Rattle.text_decimal.specs.declared.Places.{Places}
+use Rattle.text_decimal.specs.declared.Places.the-variants.{Three, Six}
 
 -- "three and six places"
 abbrev pub count : Places → ℕ

@@ -2,18 +2,18 @@
 // answer the place after it.
 
 use crate::Places;
-use text::known::put_bytes;
-use text::known::put_decimal;
+use text_write::inner::put_bytes;
+use text_write::inner::put_decimal;
 ghost use mathlib.Core.Path.{_≡_};
 ghost use mathlib.Core.Bool.{false};
 ghost use Prim.Native.Nat.{_+_, _*_, _^_, _≤_, _<_};
 ghost use lib.Dec.{leb};
 ghost use lib.ListN.{length};
 ghost use lib.Ieee.{binary64, ofBits};
-ghost use Rattle.text.specs.Numerals.{digits};
-ghost use Rattle.text.specs.Written.{Wrote};
-ghost use Rattle.numeral.specs.Nearest.{Nearest};
-ghost use Rattle.numeral.specs.Numeral.{count, unitOf, unitsIn, signOf, isLarge, numeral};
+ghost use Rattle.text_write.specs.Numerals.{digits};
+ghost use Rattle.text_write.specs.Written.{Wrote};
+ghost use Rattle.text_decimal.specs.Nearest.{Nearest};
+ghost use Rattle.text_decimal.specs.Numeral.{count, unitOf, unitsIn, signOf, isLarge, numeral};
 
 // 2^52, the leading digit of a float's 53.
 const LEADING: u64 = 0x10_0000_0000_0000;

@@ -1,10 +1,10 @@
 // A float as a decimal numeral of three or six places, rounded to nearest.
 
-pub mod known;
+pub mod inner;
 
 ghost use mathlib.Core.Path.{_≡_};
 ghost use lib.Ieee.{binary64, ofBits};
-ghost use Rattle.numeral.specs.Numeral.{isLarge};
+ghost use Rattle.text_decimal.specs.Numeral.{isLarge};
 
 // How many places stand behind the point.
 pub enum Places {

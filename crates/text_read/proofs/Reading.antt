@@ -9,9 +9,9 @@ use native.Mathlib.Omega.{arith}
 use lib.ListN.{length, drop, getD, drop-of-length-le}
 use lib.Seq.{drop-cons}
 use borrow.Author.Tests.{lt-ltb, le-ltb, eq-eqb, ne-eqb}
-use Rattle.fields.specs.Fields.{untilSpace, digitValue, allDigits, valueAfter, sized, numeral, readNumber}
+use Rattle.text_read.specs.Fields.{untilSpace, digitValue, allDigits, valueAfter, sized, numeral, readNumber}
 use Rattle.fields.specs.declared.Field.{Field}
-use Rattle.fields.specs.declared.Field.the-variants.{Bad}
+use Rattle.text_read.specs.declared.Field.the-variants.{Bad}
 
 pub at-end : (s : List ℕ) (i : ℕ) → length s ≤ i → untilSpace (drop i s) ≡ []
 unfolding untilSpace

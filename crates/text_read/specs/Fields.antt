@@ -3,9 +3,9 @@ use Prim.Native.Nat.{ℕ, _+_, _-_, _*_, _^_}
 use mathlib.Core.Bool.{Bool, true, _&&_}
 use mathlib.Core.List.{List, [], _∷_}
 use lib.ListN.{length, drop}
-use Rattle.basis.specs.Choice.{if_then_else_, _<?_, _≤?_, _=?_}
-use Rattle.fields.specs.declared.Field.{Field}
-use Rattle.fields.specs.declared.Field.the-variants.{Value, Bad}
+use Rattle.base.specs.Choice.{if_then_else_, _<?_, _≤?_, _=?_}
+use Rattle.text_read.specs.declared.Field.{Field}
+use Rattle.text_read.specs.declared.Field.the-variants.{Value, Bad}
 
 -- the bytes up to a space
 unfoldable pub untilSpace : List ℕ → List ℕ

@@ -1,7 +1,7 @@
 -- The pattern of 64 bits that a float is held in.
 use lib.Ieee.{Float, nan, inf, fin, binary64, toBits}
-use Rattle.fields.specs.declared.Bits.{Bits}
-use Rattle.fields.specs.declared.Bits.the-variants.{Pattern, NaN}
+use Rattle.text_read.specs.declared.Bits.{Bits}
+use Rattle.text_read.specs.declared.Bits.the-variants.{Pattern, NaN}
 
 -- the bits of a float; a NaN has none of its own
 abbrev pub bitsOf : Float → Bits

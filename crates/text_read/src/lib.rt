@@ -3,8 +3,8 @@
 ghost use mathlib.Core.Path.{_≡_};
 ghost use Prim.Native.Nat.{_≤_};
 ghost use lib.Ieee.{binary64, ofBits};
-ghost use Rattle.fields.specs.Fields.{between, digitValue, sized, readNumber, readDecimal, readHex16};
-ghost use Rattle.fields.specs.Patterns.{bitsOf};
+ghost use Rattle.text_read.specs.Fields.{between, digitValue, sized, readNumber, readDecimal, readHex16};
+ghost use Rattle.text_read.specs.Patterns.{bitsOf};
 
 // A number that was read, with the place after it.
 pub enum Field {

@@ -4,13 +4,13 @@ use mathlib.Core.List.{List, [], _∷_, _++_, append-assoc}
 use mathlib.Core.Path.{_≡_, refl, sym, ap, subst, _∙_}
 use native.Mathlib.Omega.{arith}
 use lib.ListN.{length, length-append}
-use Rattle.text.specs.Numerals.{digits}
-use Rattle.text.specs.Written.{Wrote}
-use Rattle.text.proofs.Writing.{both}
-use Rattle.text.proofs.Digits.{length-digits}
+use Rattle.text_write.specs.Numerals.{digits}
+use Rattle.text_write.specs.Written.{Wrote}
+use Rattle.text_write.proofs.Writing.{both}
+use Rattle.text_write.proofs.Digits.{length-digits}
 use Rattle.calendar.specs.declared.Calendar.{Calendar}
 use Rattle.calendar.specs.Gregorian.{dateOf}
-use Rattle.basis.specs.Limits.{dayLength, endOfTime, lastDay}
+use Rattle.base.specs.Limits.{dayLength, endOfTime, lastDay}
 use borrow.Author.Tests.{le-leb}
 use Rattle.calendar.specs.declared.DateAnswer.{DateAnswer}
 use Rattle.calendar.specs.declared.DateAnswer.the-variants.{Date, Refused}

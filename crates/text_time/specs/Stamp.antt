@@ -1,8 +1,8 @@
 -- Document 02, R-13: "moment as 1950-01-01T00:00:00.000".
 use Prim.Native.Nat.{ℕ, _/_, _%_}
 use mathlib.Core.List.{List, [], _∷_, _++_}
-use Rattle.basis.specs.Limits.{dayLength}
-use Rattle.text.specs.Numerals.{digits}
+use Rattle.base.specs.Limits.{dayLength}
+use Rattle.text_write.specs.Numerals.{digits}
 use Rattle.calendar.specs.declared.Calendar.{Calendar}
 use Rattle.calendar.specs.Gregorian.{dateOf}
 

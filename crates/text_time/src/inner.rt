@@ -2,15 +2,15 @@
 
 use calendar::Calendar;
 use calendar::DateAnswer;
-use numeral::known::put_three;
-use numeral::known::put_two;
+use text_decimal::inner::put_three;
+use text_decimal::inner::put_two;
 ghost use Prim.Native.Nat.{_+_, _≤_, _<_};
 ghost use mathlib.Core.List.{_∷_, [], _++_};
 ghost use lib.ListN.{length};
-ghost use Rattle.basis.specs.Limits.{endOfTime};
-ghost use Rattle.text.specs.Numerals.{digits};
-ghost use Rattle.text.specs.Written.{Wrote};
-ghost use Rattle.stamp.specs.Stamp.{dateText, timeText, stampText};
+ghost use Rattle.base.specs.Limits.{endOfTime};
+ghost use Rattle.text_write.specs.Numerals.{digits};
+ghost use Rattle.text_write.specs.Written.{Wrote};
+ghost use Rattle.text_time.specs.Stamp.{dateText, timeText, stampText};
 
 // A sign, and two digits.
 fn put_behind(out: &mut [u8], at: usize, sign: u8, n: u64) -> usize
@@ -48,12 +48,12 @@ pub fn put_stamp(out: &mut [u8], at: usize, moment: u64) -> usize
     requires { ⌜ at + 23 ≤ length (now out) ⌝ }
     ensures { λ r. ⌜ Wrote (now (out .entry)) at (stampText moment) (now (out .exit)) r ⌝ }
 {
-    let answer = Calendar::from_day(moment / basis::DAY_LENGTH);
+    let answer = Calendar::from_day(moment / base::DAY_LENGTH);
     match answer {
         DateAnswer::Date(date) => {
             let time = put_date(out, at, date);
             out[time] = b'T';
-            put_time(out, time + 1, moment % basis::DAY_LENGTH)
+            put_time(out, time + 1, moment % base::DAY_LENGTH)
         }
         DateAnswer::Refused(_) => at,
     }

@@ -9,11 +9,11 @@ use lib.Dec.{ltb}
 use lib.ListN.{length, drop, length-append}
 use lib.Seq.{drop-append-seam}
 use borrow.Author.Tests.{lt-ltb, le-ltb, le-leb, lt-leb, ltb-true, ltb-false, ne-eqb}
-use Rattle.text.specs.Numerals.{glyph, digits, hex16, decimalOf}
-use Rattle.fields.specs.Fields.{untilSpace, digitValue, isDigit, allDigits, valueAfter, readNumber, readDecimal, readHex16}
-use Rattle.fields.specs.declared.Field.the-variants.{Value}
-use Rattle.text.proofs.Decimal.{by-size, decimal-short, decimal-long, decimal-some, decimal-fits}
-use Rattle.text.proofs.Digits.{length-digits}
+use Rattle.text_write.specs.Numerals.{glyph, digits, hex16, decimalOf}
+use Rattle.text_read.specs.Fields.{untilSpace, digitValue, isDigit, allDigits, valueAfter, readNumber, readDecimal, readHex16}
+use Rattle.text_read.specs.declared.Field.the-variants.{Value}
+use Rattle.text_write.proofs.Decimal.{by-size, decimal-short, decimal-long, decimal-some, decimal-fits}
+use Rattle.text_write.proofs.Digits.{length-digits}
 
 digit-back : (d : ℕ) → d < 16 → digitValue (glyph d) ≡ d
 digit-back d h =

@@ -8,7 +8,7 @@ use native.Mathlib.Omega.{arith}
 use lib.Dec.{ltb}
 use lib.ListN.{length, length-append}
 use borrow.Author.Tests.{lt-ltb, le-ltb, ltb-true, ltb-false}
-use Rattle.text.specs.Numerals.{glyph, digits, shortest, decimalOf}
+use Rattle.text_write.specs.Numerals.{glyph, digits, shortest, decimalOf}
 
 by-test : (t : Bool) (n : ℕ) {P : Type 0} → ltb n 10 ≡ t → (n < 10 → P) → (10 ≤ n → P) → P
 by-test true n q small big = small (ltb-true n 10 q)

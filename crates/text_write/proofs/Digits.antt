@@ -6,14 +6,14 @@ use native.Mathlib.Nat.{add-zero, mul-one, mul-assoc, pow-zero, pow-succ', div-o
 use native.Mathlib.Omega.{arith}
 use lib.Ieee.{Float}
 use lib.ListN.{length, set, length-append, length-set}
-use Rattle.text.specs.Written.{Wrote}
-use Rattle.text.specs.Numerals.{glyph, digits, bitsText, floatText}
-use Rattle.fields.specs.Patterns.{bitsOf}
-use Rattle.fields.specs.declared.Bits.{Bits}
-use Rattle.fields.specs.declared.Bits.the-variants.{Pattern, NaN}
+use Rattle.text_write.specs.Written.{Wrote}
+use Rattle.text_write.specs.Numerals.{glyph, digits, bitsText, floatText}
+use Rattle.text_read.specs.Patterns.{bitsOf}
+use Rattle.text_read.specs.declared.Bits.{Bits}
+use Rattle.text_read.specs.declared.Bits.the-variants.{Pattern, NaN}
 use borrow.Author.Tests.{lt-ltb, le-ltb}
-use Rattle.text.proofs.Writing.{both, byte}
-use Rattle.text.proofs.Decimal.{by-size}
+use Rattle.text_write.proofs.Writing.{both, byte}
+use Rattle.text_write.proofs.Decimal.{by-size}
 
 pub length-digits : (base k n : ℕ) → length (digits base k n) ≡ k
 unfolding digits

@@ -7,7 +7,7 @@ use native.Mathlib.Numerals.{add-one}
 use native.Mathlib.Omega.{arith}
 use lib.ListN.{length, take, drop, getD, set, length-append, length-take, take-append-drop}
 use lib.Seq.{take-suc, take-suc-set, length-take-le, drop-drop, drop-set-lt}
-use Rattle.text.specs.Written.{Wrote}
+use Rattle.text_write.specs.Written.{Wrote}
 
 pub nothing : (out : List ℕ) (at : ℕ) → Wrote out at [] out at
 nothing out at = record { next = sym (add-zero at); bytes = sym (append-nil (take at out)); rest = refl }

@@ -2,10 +2,10 @@
 use Prim.Native.Nat.{ℕ, zero, suc, _+_, _/_, _%_}
 use mathlib.Core.List.{List, [], _∷_, _++_}
 use lib.Ieee.{Float}
-use Rattle.basis.specs.Choice.{if_then_else_, _<?_}
-use Rattle.fields.specs.Patterns.{bitsOf}
-use Rattle.fields.specs.declared.Bits.{Bits}
-use Rattle.fields.specs.declared.Bits.the-variants.{Pattern, NaN}
+use Rattle.base.specs.Choice.{if_then_else_, _<?_}
+use Rattle.text_read.specs.Patterns.{bitsOf}
+use Rattle.text_read.specs.declared.Bits.{Bits}
+use Rattle.text_read.specs.declared.Bits.the-variants.{Pattern, NaN}
 
 -- a digit below 16 as a byte: 0 to 9, then a to f
 abbrev pub glyph : ℕ → ℕ

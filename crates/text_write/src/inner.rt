@@ -3,13 +3,13 @@
 // The writers put a text at a place of the buffer and answer the place after it. They are inner functions: the caller
 // knows that the room is there.
 
-use fields::Bits;
-use fields::bits_of;
+use text_read::Bits;
+use text_read::bits_of;
 ghost use mathlib.Core.Path.{_≡_};
 ghost use Prim.Native.Nat.{_+_, _≤_, _<_};
 ghost use lib.ListN.{length};
-ghost use Rattle.text.specs.Numerals.{glyph, digits, hex16, decimalOf, floatText};
-ghost use Rattle.text.specs.Written.{Wrote};
+ghost use Rattle.text_write.specs.Numerals.{glyph, digits, hex16, decimalOf, floatText};
+ghost use Rattle.text_write.specs.Written.{Wrote};
 
 pub fn put_bytes(out: &mut [u8], at: usize, word: &[u8]) -> usize
     requires { ⌜ at + length (now word) ≤ length (now out) ⌝ }

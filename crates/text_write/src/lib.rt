@@ -1,10 +1,10 @@
 // Numbers as text: writing them into a lent buffer (`known`), and reading them from bytes.
 
-pub mod known;
+pub mod inner;
 
-pub use fields::Bits;
-pub use fields::Field;
-pub use fields::bits_of;
-pub use fields::float_of_bits;
-pub use fields::read_decimal;
-pub use fields::read_hex16;
+pub use text_read::Bits;
+pub use text_read::Field;
+pub use text_read::bits_of;
+pub use text_read::float_of_bits;
+pub use text_read::read_decimal;
+pub use text_read::read_hex16;

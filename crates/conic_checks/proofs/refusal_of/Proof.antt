@@ -1,9 +1,9 @@
 -- `orbitcheck::refusal_of` meets its contract: the tests stand in the order of the definition. Assumes nothing.
 use mathlib.Core.Path.{_≡_, refl}
 use Prim.Native.Nat.{ℕ}
-use Rattle.orbitcheck.specs.Refusal.{refusal, _before_}
-use Rattle.orbitcheck.proofs.refusal_of.Statement.{statement}
-use Rattle.orbitcheck.proofs.refusal_of.Tie as tie
+use Rattle.conic_checks.specs.Refusal.{refusal, _before_}
+use Rattle.conic_checks.proofs.refusal_of.Statement.{statement}
+use Rattle.conic_checks.proofs.refusal_of.Tie as tie
 
 none-before : (k : ℕ) → (0 before k) ≡ k
 unfolding _before_

@@ -1,9 +1,9 @@
--- `orbitcheck::tested` meets its contract. Assumes nothing.
+-- `conic_checks::tested` meets its contract. Assumes nothing.
 use mathlib.Core.Path.{sym, _∙_}
 use borrow.Author.Tests.{eq-eqb, ne-eqb}
-use Rattle.orbitcheck.specs.Refusal.{_before_, unfit}
-use Rattle.orbitcheck.proofs.tested.Statement.{statement}
-use Rattle.orbitcheck.proofs.tested.Tie as tie
+use Rattle.conic_checks.specs.Refusal.{_before_, unfit}
+use Rattle.conic_checks.proofs.tested.Statement.{statement}
+use Rattle.conic_checks.proofs.tested.Tie as tie
 
 returns : tie.Need-returns
 unfolding _before_ unfit

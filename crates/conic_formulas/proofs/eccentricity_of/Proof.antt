@@ -1,7 +1,7 @@
--- `orbit::eccentricity_of` meets its contract. Assumes nothing.
-use Rattle.orbit.specs.Orbit.{eccentricity}
-use Rattle.orbit.proofs.eccentricity_of.Statement.{statement}
-use Rattle.orbit.proofs.eccentricity_of.Tie as tie
+-- `conic_formulas::eccentricity_of` meets its contract. Assumes nothing.
+use Rattle.conic_formulas.specs.Orbit.{eccentricity}
+use Rattle.conic_formulas.proofs.eccentricity_of.Statement.{statement}
+use Rattle.conic_formulas.proofs.eccentricity_of.Tie as tie
 
 returns : tie.Need-returns
 unfolding eccentricity

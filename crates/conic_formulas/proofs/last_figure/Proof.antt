@@ -1,8 +1,8 @@
--- `orbit::last_figure` meets its contract. Assumes nothing.
+-- `conic_formulas::last_figure` meets its contract. Assumes nothing.
 use lib.Ieee.{ofBits, ofInt}
-use Rattle.orbit.specs.Orbit.{lastFigure}
-use Rattle.orbit.proofs.last_figure.Statement.{statement}
-use Rattle.orbit.proofs.last_figure.Tie as tie
+use Rattle.conic_formulas.specs.Orbit.{lastFigure}
+use Rattle.conic_formulas.proofs.last_figure.Statement.{statement}
+use Rattle.conic_formulas.proofs.last_figure.Tie as tie
 
 returns : tie.Need-returns
 unfolding lastFigure ofBits ofInt

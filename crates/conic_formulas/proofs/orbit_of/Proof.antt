@@ -1,8 +1,8 @@
 -- `orbit::orbit_of` meets its contract: each figure is its formula of the figures before it. Assumes nothing.
 use lib.Ieee.{ofBits, ofInt}
-use Rattle.orbit.specs.Orbit.{orbit}
-use Rattle.orbit.proofs.orbit_of.Statement.{statement}
-use Rattle.orbit.proofs.orbit_of.Tie as tie
+use Rattle.conic_formulas.specs.Orbit.{orbit}
+use Rattle.conic_formulas.proofs.orbit_of.Statement.{statement}
+use Rattle.conic_formulas.proofs.orbit_of.Tie as tie
 
 returns : tie.Need-returns
 unfolding orbit ofBits ofInt

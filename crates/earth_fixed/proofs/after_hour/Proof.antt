@@ -1,8 +1,8 @@
--- `fixed::after_hour` meets its contract. Assumes nothing.
+-- `earth_fixed::after_hour` meets its contract. Assumes nothing.
 use mathlib.Core.Path.{sym, _∙_}
 use borrow.Author.Needs.{needs}
-use Rattle.fixed.proofs.after_hour.Statement.{statement}
-use Rattle.fixed.proofs.after_hour.Tie as tie
+use Rattle.earth_fixed.proofs.after_hour.Statement.{statement}
+use Rattle.earth_fixed.proofs.after_hour.Tie as tie
 
 sidereal-requires : tie.Need-sidereal-requires
 sidereal-requires c κs = search needs

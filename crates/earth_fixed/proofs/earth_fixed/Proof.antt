@@ -1,11 +1,11 @@
--- `fixed::earth_fixed` meets its contract. Assumes nothing.
+-- `earth_fixed::earth_fixed` meets its contract. Assumes nothing.
 use mathlib.Core.Path.{sym, _∙_}
-use Rattle.fixed.proofs.Answers.{about-earth}
+use Rattle.earth_fixed.proofs.Answers.{about-earth}
 use borrow.Author.Tests.{le-leb, lt-leb, ne-eqb}
-use Rattle.fixed.specs.Fixed.{fixedAnswer}
+use Rattle.earth_fixed.specs.Fixed.{fixedAnswer}
 use borrow.Author.Needs.{needs}
-use Rattle.fixed.proofs.earth_fixed.Statement.{statement}
-use Rattle.fixed.proofs.earth_fixed.Tie as tie
+use Rattle.earth_fixed.proofs.earth_fixed.Statement.{statement}
+use Rattle.earth_fixed.proofs.earth_fixed.Tie as tie
 
 returns : tie.Need-returns
 unfolding fixedAnswer

@@ -1,12 +1,12 @@
--- `fixed::fixed_at` meets its contract. Assumes nothing.
+-- `earth_fixed::fixed_at` meets its contract. Assumes nothing.
 use mathlib.Core.Bool.{not}
 use mathlib.Core.Path.{_≡_, sym, _∙_}
-use Rattle.basis.specs.Choice.{if_then_else_}
-use Rattle.fixed.specs.Fixed.{finiteAnswer}
-use Rattle.fixed.specs.declared.FixedAnswer.the-variants.{Fixed, Refused}
-use Rattle.fixed.proofs.Answers.{refused-is, answer-is}
-use Rattle.fixed.proofs.fixed_at.Statement.{statement}
-use Rattle.fixed.proofs.fixed_at.Tie as tie
+use Rattle.base.specs.Choice.{if_then_else_}
+use Rattle.earth_fixed.specs.Fixed.{finiteAnswer}
+use Rattle.earth_fixed.specs.declared.FixedAnswer.the-variants.{Fixed, Refused}
+use Rattle.earth_fixed.proofs.Answers.{refused-is, answer-is}
+use Rattle.earth_fixed.proofs.fixed_at.Statement.{statement}
+use Rattle.earth_fixed.proofs.fixed_at.Tie as tie
 
 table-on-requires : tie.Need-table-on-requires
 table-on-requires c κs = c .before .before .pre

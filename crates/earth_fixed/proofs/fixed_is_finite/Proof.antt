@@ -1,7 +1,7 @@
--- `fixed::fixed_is_finite` meets its contract. Assumes nothing.
+-- `earth_fixed::fixed_is_finite` meets its contract. Assumes nothing.
 use mathlib.Core.Path.{sym, _∙_}
-use Rattle.fixed.proofs.fixed_is_finite.Statement.{statement}
-use Rattle.fixed.proofs.fixed_is_finite.Tie as tie
+use Rattle.earth_fixed.proofs.fixed_is_finite.Statement.{statement}
+use Rattle.earth_fixed.proofs.fixed_is_finite.Tie as tie
 
 returns : tie.Need-returns
 returns c =

@@ -1,7 +1,7 @@
--- `fixed::turned_state` meets its contract. Assumes nothing.
-use Rattle.fixed.specs.Fixed.{turned}
-use Rattle.fixed.proofs.turned_state.Statement.{statement}
-use Rattle.fixed.proofs.turned_state.Tie as tie
+-- `earth_fixed::turned_state` meets its contract. Assumes nothing.
+use Rattle.earth_fixed.specs.Fixed.{turned}
+use Rattle.earth_fixed.proofs.turned_state.Statement.{statement}
+use Rattle.earth_fixed.proofs.turned_state.Tie as tie
 
 returns : tie.Need-returns
 unfolding turned

@@ -1,7 +1,7 @@
--- `sphere::angles_allowed` meets its contract. Assumes nothing.
+-- `launch::angles_allowed` meets its contract. Assumes nothing.
 use borrow.Author.Tests.{lt-ltb, le-ltb, le-leb, lt-leb}
-use Rattle.sphere.proofs.angles_allowed.Statement.{statement}
-use Rattle.sphere.proofs.angles_allowed.Tie as tie
+use Rattle.launch.proofs.angles_allowed.Statement.{statement}
+use Rattle.launch.proofs.angles_allowed.Tie as tie
 
 returns : tie.Need-returns
 returns c = rw (le-leb _ _ (c .before .before .before .before .before .if1 .taken), lt-ltb _ _ (c .before .before .before .if2 .taken), le-leb _ _ (c .before .if3 .taken))

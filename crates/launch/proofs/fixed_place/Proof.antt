@@ -1,8 +1,8 @@
--- `sphere::fixed_place` meets its contract: the sine takes each angle. Assumes nothing.
-use Rattle.sphere.proofs.Angles.{angles, within-circle}
-use Rattle.sphere.specs.Sphere.{placeOf}
-use Rattle.sphere.proofs.fixed_place.Statement.{statement}
-use Rattle.sphere.proofs.fixed_place.Tie as tie
+-- `launch::fixed_place` meets its contract: the sine takes each angle. Assumes nothing.
+use Rattle.launch.proofs.Angles.{angles, within-circle}
+use Rattle.launch.specs.Sphere.{placeOf}
+use Rattle.launch.proofs.fixed_place.Statement.{statement}
+use Rattle.launch.proofs.fixed_place.Tie as tie
 
 parts-of-requires : tie.Need-parts-of-requires
 parts-of-requires c κs = angles (c .before .args .s) (c .before .pre) .latitude

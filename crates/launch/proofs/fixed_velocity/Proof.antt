@@ -1,8 +1,8 @@
--- `sphere::fixed_velocity` meets its contract: the sine takes each angle. Assumes nothing.
-use Rattle.sphere.proofs.Angles.{angles, within-circle}
-use Rattle.sphere.specs.Sphere.{velocityOf}
-use Rattle.sphere.proofs.fixed_velocity.Statement.{statement}
-use Rattle.sphere.proofs.fixed_velocity.Tie as tie
+-- `launch::fixed_velocity` meets its contract: the sine takes each angle. Assumes nothing.
+use Rattle.launch.proofs.Angles.{angles, within-circle}
+use Rattle.launch.specs.Sphere.{velocityOf}
+use Rattle.launch.proofs.fixed_velocity.Statement.{statement}
+use Rattle.launch.proofs.fixed_velocity.Tie as tie
 
 parts-of-requires : tie.Need-parts-of-requires
 parts-of-requires c κs = angles (c .before .before .args .s) (c .before .before .pre) .latitude

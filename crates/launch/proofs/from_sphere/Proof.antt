@@ -1,9 +1,9 @@
--- `sphere::from_sphere` meets its contract. Assumes nothing.
+-- `launch::from_sphere` meets its contract. Assumes nothing.
 use mathlib.Core.Path.{sym, _∙_}
 use borrow.Author.Needs.{needs}
-use Rattle.sphere.specs.Sphere.{sphereAnswer}
-use Rattle.sphere.proofs.from_sphere.Statement.{statement}
-use Rattle.sphere.proofs.from_sphere.Tie as tie
+use Rattle.launch.specs.Sphere.{sphereAnswer}
+use Rattle.launch.proofs.from_sphere.Statement.{statement}
+use Rattle.launch.proofs.from_sphere.Tie as tie
 
 enum-known-parts : tie.Need-enum-known-parts
 enum-known-parts c = search needs

@@ -1,7 +1,7 @@
--- `sphere::injected_state` meets its contract. Assumes nothing.
-use Rattle.sphere.specs.Sphere.{injected}
-use Rattle.sphere.proofs.injected_state.Statement.{statement}
-use Rattle.sphere.proofs.injected_state.Tie as tie
+-- `launch::injected_state` meets its contract. Assumes nothing.
+use Rattle.launch.specs.Sphere.{injected}
+use Rattle.launch.proofs.injected_state.Statement.{statement}
+use Rattle.launch.proofs.injected_state.Tie as tie
 
 returns : tie.Need-returns
 unfolding injected

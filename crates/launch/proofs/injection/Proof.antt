@@ -1,8 +1,8 @@
--- `sphere::injection` meets its contract, by the checks in their order. Assumes nothing.
+-- `launch::injection` meets its contract, by the checks in their order. Assumes nothing.
 use mathlib.Core.Path.{_≡_, sym, _∙_}
-use Rattle.sphere.proofs.Checks.{checks, angles-pass, refused, accepted, not-finite}
-use Rattle.sphere.proofs.injection.Statement.{statement}
-use Rattle.sphere.proofs.injection.Tie as tie
+use Rattle.launch.proofs.Checks.{checks, angles-pass, refused, accepted, not-finite}
+use Rattle.launch.proofs.injection.Statement.{statement}
+use Rattle.launch.proofs.injection.Tie as tie
 
 number : (c : tie.After-unless2) → c .unless2 .result ≡ checks (c .before .before .before .angles-allowed .result) (c .before .before .sizes-allowed .result)
 number c = rw (c .unless2 .ensures, c .before .unless .ensures)

@@ -1,8 +1,8 @@
--- `sphere::parts_of` meets its contract. Assumes nothing.
+-- `launch::parts_of` meets its contract. Assumes nothing.
 use native.Mathlib.Omega.{arith}
 use borrow.Author.Tests.{eq-eqb, ne-eqb}
-use Rattle.sphere.proofs.parts_of.Statement.{statement}
-use Rattle.sphere.proofs.parts_of.Tie as tie
+use Rattle.launch.proofs.parts_of.Statement.{statement}
+use Rattle.launch.proofs.parts_of.Tie as tie
 
 returns : tie.Need-returns
 returns c = rw (c .before .before .if1 .taken, eq-eqb _ _ (c .if2 .taken))

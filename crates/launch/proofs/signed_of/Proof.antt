@@ -1,10 +1,10 @@
--- `sphere::signed_of` meets its contract. Assumes nothing.
+-- `launch::signed_of` meets its contract. Assumes nothing.
 use mathlib.Core.Path.{_≡_}
 use Prim.Native.Nat.{_+_, _-_}
 use native.Mathlib.Omega.{arith}
 use borrow.Author.Tests.{lt-ltb, le-ltb}
-use Rattle.sphere.proofs.signed_of.Statement.{statement}
-use Rattle.sphere.proofs.signed_of.Tie as tie
+use Rattle.launch.proofs.signed_of.Statement.{statement}
+use Rattle.launch.proofs.signed_of.Tie as tie
 
 returns : tie.Need-returns
 returns c = rw (lt-ltb _ _ (c .if1 .taken))

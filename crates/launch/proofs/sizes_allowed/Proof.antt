@@ -1,6 +1,6 @@
--- `sphere::sizes_allowed` meets its contract. Assumes nothing.
-use Rattle.sphere.proofs.sizes_allowed.Statement.{statement}
-use Rattle.sphere.proofs.sizes_allowed.Tie as tie
+-- `launch::sizes_allowed` meets its contract. Assumes nothing.
+use Rattle.launch.proofs.sizes_allowed.Statement.{statement}
+use Rattle.launch.proofs.sizes_allowed.Tie as tie
 
 returns : tie.Need-returns
 returns c = rw (← c .before .before .before .before .is-finite .ensures, c .before .before .before .if1 .taken, ← c .before .before .is-finite2 .ensures, c .before .if2 .taken)

@@ -1,8 +1,8 @@
--- `turns::place_on` meets its contract, operation by operation. Assumes nothing.
+-- `launch_turns::place_on` meets its contract, operation by operation. Assumes nothing.
 use mathlib.Core.Path.{refl}
-use Rattle.turns.specs.Turns.{placeOn}
-use Rattle.turns.proofs.place_on.Statement.{statement}
-use Rattle.turns.proofs.place_on.Tie as tie
+use Rattle.launch_turns.specs.Turns.{placeOn}
+use Rattle.launch_turns.proofs.place_on.Statement.{statement}
+use Rattle.launch_turns.proofs.place_on.Tie as tie
 
 returns : tie.Need-returns
 unfolding placeOn

@@ -1,7 +1,7 @@
--- `turns::relative_velocity` meets its contract. Assumes nothing.
-use Rattle.turns.specs.Turns.{relative}
-use Rattle.turns.proofs.relative_velocity.Statement.{statement}
-use Rattle.turns.proofs.relative_velocity.Tie as tie
+-- `launch_turns::relative_velocity` meets its contract. Assumes nothing.
+use Rattle.launch_turns.specs.Turns.{relative}
+use Rattle.launch_turns.proofs.relative_velocity.Statement.{statement}
+use Rattle.launch_turns.proofs.relative_velocity.Tie as tie
 
 returns : tie.Need-returns
 unfolding relative

@@ -1,7 +1,7 @@
--- `turns::returned_state` meets its contract. Assumes nothing.
-use Rattle.turns.specs.Turns.{returned}
-use Rattle.turns.proofs.returned_state.Statement.{statement}
-use Rattle.turns.proofs.returned_state.Tie as tie
+-- `launch_turns::returned_state` meets its contract. Assumes nothing.
+use Rattle.launch_turns.specs.Turns.{returned}
+use Rattle.launch_turns.proofs.returned_state.Statement.{statement}
+use Rattle.launch_turns.proofs.returned_state.Tie as tie
 
 returns : tie.Need-returns
 unfolding returned

@@ -1,9 +1,9 @@
--- `turns::tilt_table` meets its contract, operation by operation. Assumes nothing.
+-- `launch_turns::tilt_table` meets its contract, operation by operation. Assumes nothing.
 use mathlib.Core.Path.{refl}
 use lib.Ieee.{ofBits, ofInt}
-use Rattle.turns.specs.Turns.{tilt}
-use Rattle.turns.proofs.tilt_table.Statement.{statement}
-use Rattle.turns.proofs.tilt_table.Tie as tie
+use Rattle.launch_turns.specs.Turns.{tilt}
+use Rattle.launch_turns.proofs.tilt_table.Statement.{statement}
+use Rattle.launch_turns.proofs.tilt_table.Tie as tie
 
 returns : tie.Need-returns
 unfolding tilt ofBits ofInt

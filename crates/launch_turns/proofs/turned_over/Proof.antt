@@ -1,9 +1,9 @@
--- `turns::turned_over` meets its contract. Assumes nothing.
+-- `launch_turns::turned_over` meets its contract. Assumes nothing.
 use mathlib.Core.Path.{refl}
 use borrow.Author.Needs.{needs}
-use Rattle.turns.specs.Turns.{transposed}
-use Rattle.turns.proofs.turned_over.Statement.{statement}
-use Rattle.turns.proofs.turned_over.Tie as tie
+use Rattle.launch_turns.specs.Turns.{transposed}
+use Rattle.launch_turns.proofs.turned_over.Statement.{statement}
+use Rattle.launch_turns.proofs.turned_over.Tie as tie
 
 returns : tie.Need-returns
 unfolding transposed

@@ -1,11 +1,11 @@
--- `numeral::is_large` meets its contract. Assumes nothing.
+-- `text_decimal::is_large` meets its contract. Assumes nothing.
 use Prim.Native.Nat.{ℕ, _+_, _-_, _*_, _/_, _%_, _^_, _<_, _≤_}
 use mathlib.Core.Path.{_≡_, refl, sym, ap, subst, _∙_}
 use native.Mathlib.Omega.{arith}
 use borrow.Author.Tests.{le-leb, lt-leb}
-use Rattle.numeral.proofs.Values.{large-bits}
-use Rattle.numeral.proofs.is_large.Statement.{statement}
-use Rattle.numeral.proofs.is_large.Tie as tie
+use Rattle.text_decimal.proofs.Values.{large-bits}
+use Rattle.text_decimal.proofs.is_large.Statement.{statement}
+use Rattle.text_decimal.proofs.is_large.Tie as tie
 use Rattle.numeral.proofs.is_large.Reads as reads
 use Rattle.numeral.proofs.is_large.Lts as lts
 

@@ -1,13 +1,13 @@
--- `fields::bits_of` meets its contract: a NaN is the one float that does not equal itself. Assumes nothing.
+-- `text_read::bits_of` meets its contract: a NaN is the one float that does not equal itself. Assumes nothing.
 use mathlib.Core.Bool.{true, false, not}
 use mathlib.Core.Path.{_≡_, refl, sym, ap, subst, _∙_}
 use lib.Dec.{T}
 use lib.Ieee.{Float, nan, inf, fin, binary64, eq, ne, isNan, toBits}
 use lib.Ieee.Compare.{differs-from-itself}
-use Rattle.fields.specs.Patterns.{bitsOf}
-use Rattle.fields.specs.declared.Bits.the-variants.{Pattern, NaN}
-use Rattle.fields.proofs.bits_of.Statement.{statement}
-use Rattle.fields.proofs.bits_of.Tie as tie
+use Rattle.text_read.specs.Patterns.{bitsOf}
+use Rattle.text_read.specs.declared.Bits.the-variants.{Pattern, NaN}
+use Rattle.text_read.proofs.bits_of.Statement.{statement}
+use Rattle.text_read.proofs.bits_of.Tie as tie
 
 number : (x : Float) → eq x x ≡ true → T (not (isNan x))
 unfolding isNan eq

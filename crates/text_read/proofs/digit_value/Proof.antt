@@ -1,4 +1,4 @@
--- `fields::digit_value` meets its contract. Assumes nothing.
+-- `text_read::digit_value` meets its contract. Assumes nothing.
 use Prim.Native.Nat.{ℕ, _≤_}
 use mathlib.Core.Bool.{Bool, true, false, _&&_}
 use mathlib.Core.Path.{_≡_, refl, sym, subst, _∙_}
@@ -6,10 +6,10 @@ use native.Mathlib.Nat.{le-trans}
 use native.Mathlib.Omega.{arith}
 use lib.Dec.{T, leb}
 use borrow.Author.Tests.{leb-true}
-use Rattle.fields.specs.Fields.{between}
+use Rattle.text_read.specs.Fields.{between}
 use borrow.Author.Needs.{needs}
-use Rattle.fields.proofs.digit_value.Statement.{statement}
-use Rattle.fields.proofs.digit_value.Tie as tie
+use Rattle.text_read.proofs.digit_value.Statement.{statement}
+use Rattle.text_read.proofs.digit_value.Tie as tie
 
 tested : (t : Bool) (low b high : ℕ) → leb low b ≡ t → (t && leb b high) ≡ true → low ≤ b
 tested true low b high e h = leb-true low b e

@@ -1,4 +1,4 @@
--- `fields::float_of_bits` meets its contract: beyond an infinity's bits, the sign left out, every pattern is a NaN's. Assumes nothing.
+-- `text_read::float_of_bits` meets its contract: beyond an infinity's bits, the sign left out, every pattern is a NaN's. Assumes nothing.
 use Prim.Native.Nat.{ℕ, _%_, _<_, _≤_}
 use mathlib.Core.Bool.{Bool, true, false, not}
 use mathlib.Core.Path.{_≡_, refl, sym, ap, subst, _∙_}
@@ -7,8 +7,8 @@ use lib.Ieee.{Float, nan, inf, fin, binary64, ofBits, nanBits, isNan, add, sub, 
 use lib.Ieee.Bits.{nanBits-is, nanBits-above}
 use borrow.Author.Needs.{needs}
 use borrow.Author.Tests.{lt-ltb, le-ltb}
-use Rattle.fields.proofs.float_of_bits.Statement.{statement}
-use Rattle.fields.proofs.float_of_bits.Tie as tie
+use Rattle.text_read.proofs.float_of_bits.Statement.{statement}
+use Rattle.text_read.proofs.float_of_bits.Tie as tie
 
 is-nan : (x : Float) → isNan x ≡ true → nan ≡ x
 unfolding isNan

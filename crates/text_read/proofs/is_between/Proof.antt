@@ -1,7 +1,7 @@
--- `fields::is_between` meets its contract. Assumes nothing.
+-- `text_read::is_between` meets its contract. Assumes nothing.
 use borrow.Author.Tests.{le-leb, lt-leb}
-use Rattle.fields.proofs.is_between.Statement.{statement}
-use Rattle.fields.proofs.is_between.Tie as tie
+use Rattle.text_read.proofs.is_between.Statement.{statement}
+use Rattle.text_read.proofs.is_between.Tie as tie
 
 returns : tie.Need-returns
 returns c = rw (lt-leb _ _ (c .if1 .taken))

@@ -1,4 +1,4 @@
--- `fields::read_number` meets its contract: the digits from the place up to i are read, and spell n. Assumes nothing.
+-- `text_read::read_number` meets its contract: the digits from the place up to i are read, and spell n. Assumes nothing.
 use Prim.Native.Nat.{ℕ, _+_, _-_, _*_, _/_, _<_, _≤_}
 use mathlib.Core.List.{_∷_}
 use mathlib.Core.Path.{_≡_, refl, sym, ap, _∙_}
@@ -7,10 +7,10 @@ use native.Mathlib.Omega.{arith}
 use lib.ListN.{length, drop, getD}
 use borrow.Author.Needs.{needs}
 use denote.Ref.{now}
-use Rattle.fields.specs.Fields.{untilSpace, readNumber}
-use Rattle.fields.proofs.Reading.{Reads, at-end, at-space, at-byte, unread, one-more, no-digit, too-large, ended, overflows, stays}
-use Rattle.fields.proofs.read_number.Statement.{statement}
-use Rattle.fields.proofs.read_number.Tie as tie
+use Rattle.text_read.specs.Fields.{untilSpace, readNumber}
+use Rattle.text_read.proofs.Reading.{Reads, at-end, at-space, at-byte, unread, one-more, no-digit, too-large, ended, overflows, stays}
+use Rattle.text_read.proofs.read_number.Statement.{statement}
+use Rattle.text_read.proofs.read_number.Tie as tie
 
 abbrev Inv-loop : tie.InvT-loop
 Inv-loop bytes at base least most n₀ i₀ n i = (at ≤ i) × (n < 0x1_0000_0000_0000_0000) × Reads base (untilSpace (drop at bytes)) (untilSpace (drop i bytes)) n (i - at)

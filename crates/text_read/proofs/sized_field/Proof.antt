@@ -1,7 +1,7 @@
--- `fields::sized_field` meets its contract. Assumes nothing.
+-- `text_read::sized_field` meets its contract. Assumes nothing.
 use borrow.Author.Tests.{le-leb, lt-leb}
-use Rattle.fields.proofs.sized_field.Statement.{statement}
-use Rattle.fields.proofs.sized_field.Tie as tie
+use Rattle.text_read.proofs.sized_field.Statement.{statement}
+use Rattle.text_read.proofs.sized_field.Tie as tie
 
 returns : tie.Need-returns
 returns c = rw (lt-leb _ _ (c .if1 .taken))

@@ -1,13 +1,13 @@
--- `precession::known::centuries_at` meets its contract: the milliseconds are below 2^53, so the cast is exact. Assumes nothing.
+-- `earth_precession::inner::centuries_at` meets its contract: the milliseconds are below 2^53, so the cast is exact. Assumes nothing.
 use mathlib.Core.Path.{refl}
 use Prim.Native.Nat.{ℕ, _≤_, _^_}
 use native.Mathlib.Omega.{arith}
 use lib.Dec.{T, le→leb}
 use lib.IntN.{pos}
 use lib.Ieee.{binary64, ofBits, ofInt, round, inFloat}
-use Rattle.precession.specs.Precession.{centuries}
-use Rattle.precession.proofs.known.centuries_at.Statement.{statement}
-use Rattle.precession.proofs.known.centuries_at.Tie as tie
+use Rattle.earth_precession.specs.Precession.{centuries}
+use Rattle.earth_precession.proofs.inner.centuries_at.Statement.{statement}
+use Rattle.earth_precession.proofs.inner.centuries_at.Tie as tie
 
 small : (n : ℕ) → n ≤ 2 ^ 53 → T (inFloat binary64 (pos n))
 unfolding inFloat

@@ -1,7 +1,7 @@
--- `precession::known::cubic` meets its contract, operation by operation. Assumes nothing.
+-- `earth_precession::inner::cubic` meets its contract, operation by operation. Assumes nothing.
 use mathlib.Core.Path.{refl}
-use Rattle.precession.proofs.known.cubic.Statement.{statement}
-use Rattle.precession.proofs.known.cubic.Tie as tie
+use Rattle.earth_precession.proofs.inner.cubic.Statement.{statement}
+use Rattle.earth_precession.proofs.inner.cubic.Tie as tie
 
 returns : tie.Need-returns
 returns c = refl

@@ -1,7 +1,7 @@
--- `precession::known::table_at` meets its contract. Assumes nothing.
-use Rattle.precession.specs.Precession.{precession}
-use Rattle.precession.proofs.known.table_at.Statement.{statement}
-use Rattle.precession.proofs.known.table_at.Tie as tie
+-- `earth_precession::inner::table_at` meets its contract. Assumes nothing.
+use Rattle.earth_precession.specs.Precession.{precession}
+use Rattle.earth_precession.proofs.inner.table_at.Statement.{statement}
+use Rattle.earth_precession.proofs.inner.table_at.Tie as tie
 
 returns : tie.Need-returns
 unfolding precession

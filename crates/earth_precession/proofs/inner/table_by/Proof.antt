@@ -1,9 +1,9 @@
--- `precession::known::table_by` meets its contract: its constants compute to the printed coefficients. Assumes nothing.
+-- `earth_precession::inner::table_by` meets its contract: its constants compute to the printed coefficients. Assumes nothing.
 use mathlib.Core.Path.{refl}
 use lib.Ieee.{ofBits, ofInt, round, neg}
-use Rattle.precession.specs.Precession.{a11, a12, a13, a22, a23, a33, precessionBy}
-use Rattle.precession.proofs.known.table_by.Statement.{statement}
-use Rattle.precession.proofs.known.table_by.Tie as tie
+use Rattle.earth_precession.specs.Precession.{a11, a12, a13, a22, a23, a33, precessionBy}
+use Rattle.earth_precession.proofs.inner.table_by.Statement.{statement}
+use Rattle.earth_precession.proofs.inner.table_by.Tie as tie
 
 returns : tie.Need-returns
 unfolding precessionBy a11 a12 a13 a22 a23 a33 ofBits ofInt round neg

@@ -1,9 +1,9 @@
--- `rotation::known::rate_on` meets its contract: the day is that of UT. Assumes nothing.
+-- `earth_rotation::inner::rate_on` meets its contract: the day is that of UT. Assumes nothing.
 use native.Mathlib.Omega.{arith}
-use Rattle.rotation.specs.Rotation.{rotation}
-use Rattle.rotation.proofs.Accepted.{Accepted, accepted}
-use Rattle.rotation.proofs.known.rate_on.Statement.{statement}
-use Rattle.rotation.proofs.known.rate_on.Tie as tie
+use Rattle.earth_rotation.specs.Rotation.{rotation}
+use Rattle.earth_rotation.proofs.Accepted.{Accepted, accepted}
+use Rattle.earth_rotation.proofs.inner.rate_on.Statement.{statement}
+use Rattle.earth_rotation.proofs.inner.rate_on.Tie as tie
 
 at-start : (c : tie.Start) → Accepted (c .args .rule) (c .args .moment) (c .args .dut) (c .args .parts)
 at-start c = accepted _ _ _ _ (c .pre)

@@ -1,8 +1,8 @@
--- `rotation::known::row_product` meets its contract, column by column. Assumes nothing.
+-- `earth_rotation::inner::row_product` meets its contract, column by column. Assumes nothing.
 use borrow.Author.Needs.{needs}
-use Rattle.rotation.specs.Rotation.{column, rowProduct}
-use Rattle.rotation.proofs.known.row_product.Statement.{statement}
-use Rattle.rotation.proofs.known.row_product.Tie as tie
+use Rattle.earth_rotation.specs.Rotation.{column, rowProduct}
+use Rattle.earth_rotation.proofs.inner.row_product.Statement.{statement}
+use Rattle.earth_rotation.proofs.inner.row_product.Tie as tie
 
 returns : tie.Need-returns
 unfolding rowProduct column

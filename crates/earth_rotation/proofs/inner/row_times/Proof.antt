@@ -1,9 +1,9 @@
--- `rotation::known::row_times` meets its contract, operation by operation. Assumes nothing.
+-- `earth_rotation::inner::row_times` meets its contract, operation by operation. Assumes nothing.
 use mathlib.Core.Path.{refl}
 use borrow.Author.Needs.{needs}
-use Rattle.rotation.specs.Rotation.{rowTimes}
-use Rattle.rotation.proofs.known.row_times.Statement.{statement}
-use Rattle.rotation.proofs.known.row_times.Tie as tie
+use Rattle.earth_rotation.specs.Rotation.{rowTimes}
+use Rattle.earth_rotation.proofs.inner.row_times.Statement.{statement}
+use Rattle.earth_rotation.proofs.inner.row_times.Tie as tie
 
 returns : tie.Need-returns
 unfolding rowTimes

@@ -1,9 +1,9 @@
--- `rotation::known::table_on` meets its contract: the sine takes every hour angle. Assumes nothing.
+-- `earth_rotation::inner::table_on` meets its contract: the sine takes every hour angle. Assumes nothing.
 use native.Mathlib.Omega.{arith}
-use Rattle.rotation.specs.Rotation.{rotation}
-use Rattle.rotation.proofs.Accepted.{Accepted, accepted}
-use Rattle.rotation.proofs.known.table_on.Statement.{statement}
-use Rattle.rotation.proofs.known.table_on.Tie as tie
+use Rattle.earth_rotation.specs.Rotation.{rotation}
+use Rattle.earth_rotation.proofs.Accepted.{Accepted, accepted}
+use Rattle.earth_rotation.proofs.inner.table_on.Statement.{statement}
+use Rattle.earth_rotation.proofs.inner.table_on.Tie as tie
 
 at-start : (c : tie.Start) → Accepted (c .args .rule) (c .args .moment) (c .args .dut) (c .args .parts)
 at-start c = accepted _ _ _ _ (c .pre)

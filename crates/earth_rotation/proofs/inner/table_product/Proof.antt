@@ -1,8 +1,8 @@
--- `rotation::known::table_product` meets its contract, row by row. Assumes nothing.
+-- `earth_rotation::inner::table_product` meets its contract, row by row. Assumes nothing.
 use borrow.Author.Needs.{needs}
-use Rattle.rotation.specs.Rotation.{product}
-use Rattle.rotation.proofs.known.table_product.Statement.{statement}
-use Rattle.rotation.proofs.known.table_product.Tie as tie
+use Rattle.earth_rotation.specs.Rotation.{product}
+use Rattle.earth_rotation.proofs.inner.table_product.Statement.{statement}
+use Rattle.earth_rotation.proofs.inner.table_product.Tie as tie
 
 returns : tie.Need-returns
 unfolding product

@@ -1,8 +1,8 @@
--- `rotation::known::table_times` meets its contract, row by row. Assumes nothing.
+-- `earth_rotation::inner::table_times` meets its contract, row by row. Assumes nothing.
 use borrow.Author.Needs.{needs}
-use Rattle.rotation.specs.Rotation.{times}
-use Rattle.rotation.proofs.known.table_times.Statement.{statement}
-use Rattle.rotation.proofs.known.table_times.Tie as tie
+use Rattle.earth_rotation.specs.Rotation.{times}
+use Rattle.earth_rotation.proofs.inner.table_times.Statement.{statement}
+use Rattle.earth_rotation.proofs.inner.table_times.Tie as tie
 
 returns : tie.Need-returns
 unfolding times

@@ -1,12 +1,12 @@
--- `rotation::known::turning_rate` meets its contract: its constants compute to the document's decimals. Assumes nothing.
+-- `earth_rotation::inner::turning_rate` meets its contract: its constants compute to the document's decimals. Assumes nothing.
 use mathlib.Core.Path.{refl}
 use Prim.Native.Nat.{_≤_, _^_}
 use native.Mathlib.Omega.{arith}
 use lib.Dec.{le→leb}
 use lib.Ieee.{ofBits, ofInt, round, inFloat}
-use Rattle.rotation.specs.Rotation.{rate}
-use Rattle.rotation.proofs.known.turning_rate.Statement.{statement}
-use Rattle.rotation.proofs.known.turning_rate.Tie as tie
+use Rattle.earth_rotation.specs.Rotation.{rate}
+use Rattle.earth_rotation.proofs.inner.turning_rate.Statement.{statement}
+use Rattle.earth_rotation.proofs.inner.turning_rate.Tie as tie
 
 int-to-float-result : tie.Need-int-to-float-result
 unfolding inFloat

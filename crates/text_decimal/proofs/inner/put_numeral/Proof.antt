@@ -1,14 +1,14 @@
--- `numeral::known::put_numeral` meets its contract. Assumes nothing.
+-- `text_decimal::inner::put_numeral` meets its contract. Assumes nothing.
 use Prim.Native.Nat.{ℕ, _+_, _-_, _*_, _/_, _%_, _^_, _<_, _≤_}
 use mathlib.Core.Path.{_≡_, refl, sym, ap, subst, _∙_}
 use native.Mathlib.Omega.{arith}
 use lib.Dec.{leb}
 use lib.Ieee.{binary64, ofBits}
-use Rattle.text.proofs.Writing.{both}
-use Rattle.numeral.proofs.Writing.{sign-next, whole-short, assembled}
+use Rattle.text_write.proofs.Writing.{both}
+use Rattle.text_decimal.proofs.Writing.{sign-next, whole-short, assembled}
 use borrow.Author.Needs.{needs}
-use Rattle.numeral.proofs.known.put_numeral.Statement.{statement}
-use Rattle.numeral.proofs.known.put_numeral.Tie as tie
+use Rattle.text_decimal.proofs.inner.put_numeral.Statement.{statement}
+use Rattle.text_decimal.proofs.inner.put_numeral.Tie as tie
 use Rattle.numeral.proofs.known.put_numeral.Reads as reads
 use Rattle.numeral.proofs.known.put_numeral.Lts as lts
 use Rattle.numeral.proofs.known.put_places.Reads as put-places-reads

@@ -1,11 +1,11 @@
--- `numeral::known::put_places` meets its contract. Assumes nothing.
+-- `text_decimal::inner::put_places` meets its contract. Assumes nothing.
 use Prim.Native.Nat.{ℕ, _+_, _-_, _*_, _/_, _%_, _^_, _<_, _≤_}
 use mathlib.Core.Path.{_≡_, refl, sym, ap, subst, _∙_}
 use native.Mathlib.Omega.{arith}
-use Rattle.text.proofs.Digits.{length-digits, halves}
+use Rattle.text_write.proofs.Digits.{length-digits, halves}
 use borrow.Author.Needs.{needs}
-use Rattle.numeral.proofs.known.put_places.Statement.{statement}
-use Rattle.numeral.proofs.known.put_places.Tie as tie
+use Rattle.text_decimal.proofs.inner.put_places.Statement.{statement}
+use Rattle.text_decimal.proofs.inner.put_places.Tie as tie
 use Rattle.numeral.proofs.known.put_places.Reads as reads
 use Rattle.numeral.proofs.known.put_places.Lts as lts
 use Rattle.numeral.proofs.known.put_three.Reads as put-three-reads

@@ -1,13 +1,13 @@
--- `numeral::known::put_sign` meets its contract. Assumes nothing.
+-- `text_decimal::inner::put_sign` meets its contract. Assumes nothing.
 use Prim.Native.Nat.{ℕ, _+_, _-_, _*_, _/_, _%_, _^_, _<_, _≤_}
 use mathlib.Core.Path.{_≡_, refl, sym, ap, subst, _∙_}
 use native.Mathlib.Omega.{arith}
 use borrow.Author.Tests.{lt-ltb, le-ltb, le-leb, lt-leb}
-use Rattle.text.proofs.Writing.{nothing, byte}
-use Rattle.numeral.specs.Numeral.{signOf}
+use Rattle.text_write.proofs.Writing.{nothing, byte}
+use Rattle.text_decimal.specs.Numeral.{signOf}
 use borrow.Author.Needs.{needs}
-use Rattle.numeral.proofs.known.put_sign.Statement.{statement}
-use Rattle.numeral.proofs.known.put_sign.Tie as tie
+use Rattle.text_decimal.proofs.inner.put_sign.Statement.{statement}
+use Rattle.text_decimal.proofs.inner.put_sign.Tie as tie
 use Rattle.numeral.proofs.known.put_sign.Reads as reads
 use Rattle.numeral.proofs.known.put_sign.Lts as lts
 

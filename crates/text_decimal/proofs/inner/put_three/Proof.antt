@@ -1,13 +1,13 @@
--- `numeral::known::put_three` meets its contract. Assumes nothing.
+-- `text_decimal::inner::put_three` meets its contract. Assumes nothing.
 use Prim.Native.Nat.{ℕ, _+_, _-_, _*_, _/_, _%_, _^_, _<_, _≤_}
 use mathlib.Core.Path.{_≡_, refl, sym, ap, subst, _∙_}
 use native.Mathlib.Omega.{arith}
 use lib.ListN.{length-set}
-use Rattle.text.proofs.Digits.{halves}
-use Rattle.numeral.proofs.Writing.{one-written}
+use Rattle.text_write.proofs.Digits.{halves}
+use Rattle.text_decimal.proofs.Writing.{one-written}
 use borrow.Author.Needs.{needs}
-use Rattle.numeral.proofs.known.put_three.Statement.{statement}
-use Rattle.numeral.proofs.known.put_three.Tie as tie
+use Rattle.text_decimal.proofs.inner.put_three.Statement.{statement}
+use Rattle.text_decimal.proofs.inner.put_three.Tie as tie
 use Rattle.numeral.proofs.known.put_three.Reads as reads
 use Rattle.numeral.proofs.known.put_three.Lts as lts
 use Rattle.numeral.proofs.known.put_two.Reads as put-two-reads

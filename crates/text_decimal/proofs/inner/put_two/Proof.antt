@@ -1,12 +1,12 @@
--- `numeral::known::put_two` meets its contract. Assumes nothing.
+-- `text_decimal::inner::put_two` meets its contract. Assumes nothing.
 use Prim.Native.Nat.{ℕ, _+_, _-_, _*_, _/_, _%_, _^_, _<_, _≤_}
 use mathlib.Core.Path.{_≡_, refl, sym, ap, subst, _∙_}
 use native.Mathlib.Omega.{arith}
 use lib.ListN.{length-set}
-use Rattle.numeral.proofs.Writing.{two-written}
+use Rattle.text_decimal.proofs.Writing.{two-written}
 use borrow.Author.Needs.{needs}
-use Rattle.numeral.proofs.known.put_two.Statement.{statement}
-use Rattle.numeral.proofs.known.put_two.Tie as tie
+use Rattle.text_decimal.proofs.inner.put_two.Statement.{statement}
+use Rattle.text_decimal.proofs.inner.put_two.Tie as tie
 use Rattle.numeral.proofs.known.put_two.Reads as reads
 use Rattle.numeral.proofs.known.put_two.Lts as lts
 

@@ -1,13 +1,13 @@
--- `numeral::known::scaled` meets its contract. Assumes nothing.
+-- `text_decimal::inner::scaled` meets its contract. Assumes nothing.
 use Prim.Native.Nat.{ℕ, _+_, _-_, _*_, _/_, _%_, _^_, _<_, _≤_}
 use mathlib.Core.Path.{_≡_, refl, sym, ap, subst, _∙_}
 use native.Mathlib.Omega.{arith}
 use native.Mathlib.Nat.{add-mul, mul-right-comm, mul-le-mul, mod-lt}
 use lib.Pow.{pow-pos, split, shr-le}
-use Rattle.numeral.proofs.Rounding.{half-none, half-more, half-tie}
+use Rattle.text_decimal.proofs.Rounding.{half-none, half-more, half-tie}
 use borrow.Author.Needs.{needs}
-use Rattle.numeral.proofs.known.scaled.Statement.{statement}
-use Rattle.numeral.proofs.known.scaled.Tie as tie
+use Rattle.text_decimal.proofs.inner.scaled.Statement.{statement}
+use Rattle.text_decimal.proofs.inner.scaled.Tie as tie
 use Rattle.numeral.proofs.known.scaled.Reads as reads
 use Rattle.numeral.proofs.known.scaled.Lts as lts
 

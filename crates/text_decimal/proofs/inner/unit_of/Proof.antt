@@ -1,10 +1,10 @@
--- `numeral::known::unit_of` meets its contract. Assumes nothing.
+-- `text_decimal::inner::unit_of` meets its contract. Assumes nothing.
 use Prim.Native.Nat.{ℕ, _+_, _-_, _*_, _/_, _%_, _^_, _<_, _≤_}
 use mathlib.Core.Path.{_≡_, refl, sym, ap, subst, _∙_}
 use native.Mathlib.Omega.{arith}
 use borrow.Author.Needs.{needs}
-use Rattle.numeral.proofs.known.unit_of.Statement.{statement}
-use Rattle.numeral.proofs.known.unit_of.Tie as tie
+use Rattle.text_decimal.proofs.inner.unit_of.Statement.{statement}
+use Rattle.text_decimal.proofs.inner.unit_of.Tie as tie
 use Rattle.numeral.proofs.known.unit_of.Reads as reads
 use Rattle.numeral.proofs.known.unit_of.Lts as lts
 

@@ -1,11 +1,11 @@
--- `numeral::known::units` meets its contract. Assumes nothing.
+-- `text_decimal::inner::units` meets its contract. Assumes nothing.
 use Prim.Native.Nat.{ℕ, _+_, _-_, _*_, _/_, _%_, _^_, _<_, _≤_}
 use mathlib.Core.Path.{_≡_, refl, sym, ap, subst, _∙_}
 use native.Mathlib.Omega.{arith}
-use Rattle.numeral.proofs.Values.{no-units, some-units, field-most}
+use Rattle.text_decimal.proofs.Values.{no-units, some-units, field-most}
 use borrow.Author.Needs.{needs}
-use Rattle.numeral.proofs.known.units.Statement.{statement}
-use Rattle.numeral.proofs.known.units.Tie as tie
+use Rattle.text_decimal.proofs.inner.units.Statement.{statement}
+use Rattle.text_decimal.proofs.inner.units.Tie as tie
 use Rattle.numeral.proofs.known.units.Reads as reads
 use Rattle.numeral.proofs.known.units.Lts as lts
 use Rattle.numeral.proofs.known.scaled.Reads as scaled-reads

@@ -1,12 +1,12 @@
--- `stamp::known::put_behind` meets its contract. Assumes nothing.
+-- `text_time::inner::put_behind` meets its contract. Assumes nothing.
 use Prim.Native.Nat.{_+_, _/_, _%_}
 use mathlib.Core.Path.{_≡_, refl, sym, ap, _∙_}
 use native.Mathlib.Omega.{arith}
 use lib.ListN.{length-set}
-use Rattle.text.proofs.Writing.{both, byte}
+use Rattle.text_write.proofs.Writing.{both, byte}
 use borrow.Author.Needs.{needs}
-use Rattle.stamp.proofs.known.put_behind.Statement.{statement}
-use Rattle.stamp.proofs.known.put_behind.Tie as tie
+use Rattle.text_time.proofs.inner.put_behind.Statement.{statement}
+use Rattle.text_time.proofs.inner.put_behind.Tie as tie
 use Rattle.stamp.proofs.known.put_behind.Reads as reads
 use Rattle.stamp.proofs.known.put_behind.Lts as lts
 use Rattle.numeral.proofs.known.put_two.Reads as put-two-reads

@@ -1,15 +1,15 @@
--- `stamp::known::put_date` meets its contract. Assumes nothing.
+-- `text_time::inner::put_date` meets its contract. Assumes nothing.
 use Prim.Native.Nat.{_+_, _/_, _%_}
 use mathlib.Core.Path.{_≡_, refl, sym, ap, _∙_}
 use native.Mathlib.Omega.{arith}
 use lib.ListN.{length-set}
 use Rattle.text.proofs.Writing.{both, byte}
-use Rattle.text.proofs.Digits.{halves}
-use Rattle.stamp.specs.Stamp.{dateText}
-use Rattle.stamp.proofs.Parts.{two-next, behind-next, behind}
+use Rattle.text_write.proofs.Digits.{halves}
+use Rattle.text_time.specs.Stamp.{dateText}
+use Rattle.text_time.proofs.Parts.{two-next, behind-next, behind}
 use borrow.Author.Needs.{needs}
-use Rattle.stamp.proofs.known.put_date.Statement.{statement}
-use Rattle.stamp.proofs.known.put_date.Tie as tie
+use Rattle.text_time.proofs.inner.put_date.Statement.{statement}
+use Rattle.text_time.proofs.inner.put_date.Tie as tie
 use Rattle.stamp.proofs.known.put_date.Reads as reads
 use Rattle.stamp.proofs.known.put_date.Lts as lts
 use Rattle.numeral.proofs.known.put_two.Reads as put-two-reads

@@ -1,14 +1,14 @@
--- `stamp::known::put_stamp` meets its contract. Assumes nothing.
+-- `text_time::inner::put_stamp` meets its contract. Assumes nothing.
 use Prim.Native.Nat.{_+_, _/_, _%_}
 use mathlib.Core.Path.{_≡_, refl, sym, ap, _∙_}
 use native.Mathlib.Omega.{arith}
 use lib.ListN.{length-set}
-use Rattle.text.proofs.Writing.{both, byte}
-use Rattle.stamp.specs.Stamp.{stampText}
-use Rattle.stamp.proofs.Parts.{date-next, has-date, no-refusal}
+use Rattle.text_write.proofs.Writing.{both, byte}
+use Rattle.text_time.specs.Stamp.{stampText}
+use Rattle.text_time.proofs.Parts.{date-next, has-date, no-refusal}
 use borrow.Author.Needs.{needs}
-use Rattle.stamp.proofs.known.put_stamp.Statement.{statement}
-use Rattle.stamp.proofs.known.put_stamp.Tie as tie
+use Rattle.text_time.proofs.inner.put_stamp.Statement.{statement}
+use Rattle.text_time.proofs.inner.put_stamp.Tie as tie
 use Rattle.stamp.proofs.known.put_stamp.Reads as reads
 use Rattle.stamp.proofs.known.put_stamp.Lts as lts
 use Rattle.calendar.proofs.Calendar.from_day.Reads as from-day-reads

@@ -1,14 +1,14 @@
--- `stamp::known::put_time` meets its contract. Assumes nothing.
+-- `text_time::inner::put_time` meets its contract. Assumes nothing.
 use Prim.Native.Nat.{_+_, _/_, _%_}
 use mathlib.Core.Path.{_≡_, refl, sym, ap, _∙_}
 use native.Mathlib.Omega.{arith}
 use lib.ListN.{length-set}
-use Rattle.text.proofs.Writing.{both, byte}
-use Rattle.stamp.specs.Stamp.{timeText}
-use Rattle.stamp.proofs.Parts.{two-next, behind-next, behind}
+use Rattle.text_write.proofs.Writing.{both, byte}
+use Rattle.text_time.specs.Stamp.{timeText}
+use Rattle.text_time.proofs.Parts.{two-next, behind-next, behind}
 use borrow.Author.Needs.{needs}
-use Rattle.stamp.proofs.known.put_time.Statement.{statement}
-use Rattle.stamp.proofs.known.put_time.Tie as tie
+use Rattle.text_time.proofs.inner.put_time.Statement.{statement}
+use Rattle.text_time.proofs.inner.put_time.Tie as tie
 use Rattle.stamp.proofs.known.put_time.Reads as reads
 use Rattle.stamp.proofs.known.put_time.Lts as lts
 use Rattle.numeral.proofs.known.put_three.Reads as put-three-reads

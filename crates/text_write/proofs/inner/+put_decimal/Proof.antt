@@ -1,23 +1,23 @@
--- `text::known::put_decimal` meets its contract: the digits of n / 10,000, then the last four. The measure is n. Assumes nothing.
+-- `text_write::inner::put_decimal` meets its contract: the digits of n / 10,000, then the last four. The measure is n. Assumes nothing.
 use Prim.Native.Nat.{ℕ, _+_, _/_, _<_, _≤_}
 use mathlib.Core.List.{List}
 use mathlib.Core.Path.{_≡_, _∙_}
 use native.Mathlib.Omega.{arith}
 use lib.ListN.{length, length-append}
-use Rattle.text.specs.Numerals.{decimalOf}
-use Rattle.text.specs.Written.{Wrote}
-use Rattle.text.proofs.Writing.{both}
-use Rattle.text.proofs.Digits.{length-digits}
-use Rattle.text.proofs.Decimal.{decimal-cut}
+use Rattle.text_write.specs.Numerals.{decimalOf}
+use Rattle.text_write.specs.Written.{Wrote}
+use Rattle.text_write.proofs.Writing.{both}
+use Rattle.text_write.proofs.Digits.{length-digits}
+use Rattle.text_write.proofs.Decimal.{decimal-cut}
 use borrow.Fn.Kinds.{In}
 use borrow.Fn.PlainCycle.{Measures, is, falls, and}
-use Rattle.text.proofs.known.put_decimal.Reads as put-decimal
-use Rattle.text.proofs.known.put_decimal.Kinds as put-decimal-kinds
-use Rattle.text.proofs.known.+put_decimal.Lts-put_decimal as put-decimal-lts
-use Rattle.text.proofs.known.put_first.Reads as put-first-reads
-use Rattle.text.proofs.known.put_four.Reads as put-four-reads
-use Rattle.text.proofs.known.+put_decimal.{statement}
-use Rattle.text.proofs.known.+put_decimal.Tie.{close}
+use Rattle.text_write.proofs.inner.put_decimal.Reads as put-decimal
+use Rattle.text_write.proofs.inner.put_decimal.Kinds as put-decimal-kinds
+use Rattle.text_write.proofs.inner.+put_decimal.Lts-put_decimal as put-decimal-lts
+use Rattle.text_write.proofs.inner.put_first.Reads as put-first-reads
+use Rattle.text_write.proofs.inner.put_four.Reads as put-four-reads
+use Rattle.text_write.proofs.inner.+put_decimal.{statement}
+use Rattle.text_write.proofs.inner.+put_decimal.Tie.{close}
 
 -- there is room for the digits of n / 10,000, and behind them for four more
 cut-length : (n : ℕ) → 10_000 ≤ n → length (decimalOf n) ≡ length (decimalOf (n / 10_000)) + 4

@@ -1,8 +1,8 @@
--- `text::known::digit_byte` meets its contract. Assumes nothing.
-use Rattle.text.proofs.Digits.{letter}
+-- `text_write::inner::digit_byte` meets its contract. Assumes nothing.
+use Rattle.text_write.proofs.Digits.{letter}
 use borrow.Author.Needs.{needs}
-use Rattle.text.proofs.known.digit_byte.Statement.{statement}
-use Rattle.text.proofs.known.digit_byte.Tie as tie
+use Rattle.text_write.proofs.inner.digit_byte.Statement.{statement}
+use Rattle.text_write.proofs.inner.digit_byte.Tie as tie
 
 add-result : tie.Need-add-result
 add-result c = search needs

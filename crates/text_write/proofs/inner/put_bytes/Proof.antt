@@ -1,4 +1,4 @@
--- `text::known::put_bytes` meets its contract: after i turns the first i bytes of the word are written. Assumes nothing.
+-- `text_write::inner::put_bytes` meets its contract: after i turns the first i bytes of the word are written. Assumes nothing.
 use Prim.Native.Nat.{_+_, _-_, _≤_}
 use mathlib.Core.Path.{_≡_, refl}
 use native.Mathlib.Nat.{add-zero}
@@ -6,10 +6,10 @@ use native.Mathlib.Omega.{arith}
 use lib.ListN.{length, take, length-set}
 use lib.Seq.{take-all}
 use denote.Ref.{now}
-use Rattle.text.specs.Written.{Wrote}
-use Rattle.text.proofs.Writing.{nothing, next-byte}
-use Rattle.text.proofs.known.put_bytes.Statement.{statement}
-use Rattle.text.proofs.known.put_bytes.Tie as tie
+use Rattle.text_write.specs.Written.{Wrote}
+use Rattle.text_write.proofs.Writing.{nothing, next-byte}
+use Rattle.text_write.proofs.inner.put_bytes.Statement.{statement}
+use Rattle.text_write.proofs.inner.put_bytes.Tie as tie
 
 abbrev Inv-loop : tie.InvT-loop
 Inv-loop out₀ at word i₀ out i = (i ≤ length word) × (length out ≡ length out₀) × Wrote out₀ at (take i word) out (at + i)

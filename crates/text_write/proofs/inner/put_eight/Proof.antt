@@ -1,11 +1,11 @@
--- `text::known::put_eight` meets its contract: two halves. Assumes nothing.
+-- `text_write::inner::put_eight` meets its contract: two halves. Assumes nothing.
 use Prim.Native.Nat.{_*_, _/_}
 use native.Mathlib.Omega.{arith}
 use native.Mathlib.Nat.{mul-pos}
-use Rattle.text.proofs.Digits.{length-digits, square-fits, square-again, square-again-is, halves}
+use Rattle.text_write.proofs.Digits.{length-digits, square-fits, square-again, square-again-is, halves}
 use borrow.Author.Needs.{needs}
-use Rattle.text.proofs.known.put_eight.Statement.{statement}
-use Rattle.text.proofs.known.put_eight.Tie as tie
+use Rattle.text_write.proofs.inner.put_eight.Statement.{statement}
+use Rattle.text_write.proofs.inner.put_eight.Tie as tie
 
 mul-square : tie.Need-mul-square
 mul-square c = record { fits = omega (arith, square-fits (c .before .args .base) (omega arith)) }

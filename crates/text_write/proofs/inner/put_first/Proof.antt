@@ -1,17 +1,17 @@
--- `text::known::put_first` meets its contract: one to four digits. Assumes nothing.
+-- `text_write::inner::put_first` meets its contract: one to four digits. Assumes nothing.
 use Prim.Native.Nat.{_/_}
 use mathlib.Core.List.{[], _∷_}
-use Rattle.text.specs.Numerals.{glyph}
+use Rattle.text_write.specs.Numerals.{glyph}
 use native.Mathlib.Omega.{arith}
 use mathlib.Core.Path.{ap, _∙_}
 use lib.ListN.{length, length-append, length-set}
 use denote.Ref.{now}
-use Rattle.text.proofs.Writing.{both, byte}
+use Rattle.text_write.proofs.Writing.{both, byte}
 use Rattle.text.proofs.Digits.{length-digits}
-use Rattle.text.proofs.Decimal.{decimal-some, decimal-short, decimal-cut, decimal-exact, decimal-wide}
+use Rattle.text_write.proofs.Decimal.{decimal-some, decimal-short, decimal-cut, decimal-exact, decimal-wide}
 use borrow.Author.Needs.{needs}
-use Rattle.text.proofs.known.put_first.Statement.{statement}
-use Rattle.text.proofs.known.put_first.Tie as tie
+use Rattle.text_write.proofs.inner.put_first.Statement.{statement}
+use Rattle.text_write.proofs.inner.put_first.Tie as tie
 
 digit-byte-requires : tie.Need-digit-byte-requires
 digit-byte-requires c κs = search needs

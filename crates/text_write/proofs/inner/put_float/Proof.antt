@@ -1,8 +1,8 @@
--- `text::known::put_float` meets its contract, by those of what it writes. Assumes nothing.
-use Rattle.text.specs.Numerals.{floatText}
+-- `text_write::inner::put_float` meets its contract, by those of what it writes. Assumes nothing.
+use Rattle.text_write.specs.Numerals.{floatText}
 use borrow.Author.Needs.{needs}
-use Rattle.text.proofs.known.put_float.Statement.{statement}
-use Rattle.text.proofs.known.put_float.Tie as tie
+use Rattle.text_write.proofs.inner.put_float.Statement.{statement}
+use Rattle.text_write.proofs.inner.put_float.Tie as tie
 
 bits-of-requires : tie.Need-bits-of-requires
 bits-of-requires c κs = search needs

@@ -1,11 +1,11 @@
--- `text::known::put_four` meets its contract: two halves. Assumes nothing.
+-- `text_write::inner::put_four` meets its contract: two halves. Assumes nothing.
 use Prim.Native.Nat.{_*_, _/_}
 use native.Mathlib.Omega.{arith}
 use native.Mathlib.Nat.{mul-pos}
-use Rattle.text.proofs.Digits.{length-digits, square-fits, square-is, halves}
+use Rattle.text_write.proofs.Digits.{length-digits, square-fits, square-is, halves}
 use borrow.Author.Needs.{needs}
-use Rattle.text.proofs.known.put_four.Statement.{statement}
-use Rattle.text.proofs.known.put_four.Tie as tie
+use Rattle.text_write.proofs.inner.put_four.Statement.{statement}
+use Rattle.text_write.proofs.inner.put_four.Tie as tie
 
 mul-put-two : tie.Need-mul-put-two
 mul-put-two c = record { fits = omega (arith, square-fits (c .before .before .args .base) (omega arith)) }

@@ -1,11 +1,11 @@
--- `text::known::put_hex16` meets its contract: two halves. Assumes nothing.
+-- `text_write::inner::put_hex16` meets its contract: two halves. Assumes nothing.
 use Prim.Native.Nat.{_/_}
 use native.Mathlib.Omega.{arith}
 use mathlib.Core.Path.{refl}
-use Rattle.text.proofs.Digits.{length-digits, halves}
+use Rattle.text_write.proofs.Digits.{length-digits, halves}
 use borrow.Author.Needs.{needs}
-use Rattle.text.proofs.known.put_hex16.Statement.{statement}
-use Rattle.text.proofs.known.put_hex16.Tie as tie
+use Rattle.text_write.proofs.inner.put_hex16.Statement.{statement}
+use Rattle.text_write.proofs.inner.put_hex16.Tie as tie
 
 put-eight-requires : tie.Need-put-eight-requires
 put-eight-requires c κs = search needs

@@ -1,11 +1,11 @@
--- `text::known::put_two` meets its contract: one digit after the other. Assumes nothing.
+-- `text_write::inner::put_two` meets its contract: one digit after the other. Assumes nothing.
 use native.Mathlib.Omega.{arith}
 use lib.ListN.{length-set}
 use denote.Ref.{now}
-use Rattle.text.proofs.Digits.{digit-fits, two-digits}
+use Rattle.text_write.proofs.Digits.{digit-fits, two-digits}
 use borrow.Author.Needs.{needs}
-use Rattle.text.proofs.known.put_two.Statement.{statement}
-use Rattle.text.proofs.known.put_two.Tie as tie
+use Rattle.text_write.proofs.inner.put_two.Statement.{statement}
+use Rattle.text_write.proofs.inner.put_two.Tie as tie
 
 div-digit-byte : tie.Need-div-digit-byte
 div-digit-byte c = search needs
