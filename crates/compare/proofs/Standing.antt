@@ -6,11 +6,11 @@ use mathlib.Core.Path.{_≡_, refl, sym, subst, _∙_}
 use native.Mathlib.Omega.{arith}
 use lib.ListN.{length, take}
 use lib.Seq.{length-take-le}
-use Rattle.reader.specs.declared.Judge.{Judge}
-use Rattle.reader.specs.Bytes.{atTop, Counted}
-use Rattle.sides.specs.declared.Reading.{Reading}
-use Rattle.sides.specs.Sides.{Shut, goingOn}
-use Rattle.sides.proofs.Readings.{going-on-shut}
+use Rattle.listing_read.specs.declared.Judge.{Judge}
+use Rattle.listing_read.specs.Bytes.{atTop, Counted}
+use Rattle.compare_blocks.specs.declared.Reading.{Reading}
+use Rattle.compare_blocks.specs.Sides.{Shut, goingOn}
+use Rattle.compare_blocks.proofs.Readings.{going-on-shut}
 
 top-counted : Counted atTop
 top-counted = record { lines = omega arith; states = omega arith; start = omega arith; fresh = refl }

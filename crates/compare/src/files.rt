@@ -1,9 +1,9 @@
 // Files read in blocks, from any place: one that cannot be read so, as a pipe, cannot be read twice.
 
-use reader::Verdict;
-use reader::known::judge_block;
-use reader::known::verdict;
-use reader::top;
+use listing_read::Verdict;
+use listing_read::inner::judge_block;
+use listing_read::inner::verdict;
+use listing_read::top;
 ghost use Rattle.io.specs.Counts.{Counts};
 
 // Where no file has a byte.

@@ -11,11 +11,11 @@ mod states;
 
 use files::Judged;
 use lines::Line;
-use parting::Part;
-use parting::next_part;
+use compare_report::Part;
+use compare_report::next_part;
 use reader::Verdict;
-use reporting::known::put_end;
-use reporting::known::put_refusal;
+use compare_text::inner::put_end;
+use compare_text::inner::put_refusal;
 ghost use Prim.Native.Nat.{_≤_};
 ghost use mathlib.Core.Path.{_≡_};
 ghost use lib.ListN.{length};

@@ -2,14 +2,14 @@
 
 use crate::Printed;
 use crate::files::read_at;
-use sides::go_on;
-use sides::known::portion;
-use sides::opening;
+use compare_blocks::go_on;
+use compare_blocks::inner::portion;
+use compare_blocks::opening;
 ghost use Prim.Native.Nat.{_≤_};
 ghost use mathlib.Core.Bool.{false};
 ghost use mathlib.Core.Path.{_≡_};
 ghost use lib.ListN.{length};
-ghost use Rattle.sides.specs.Sides.{Shut};
+ghost use Rattle.compare_blocks.specs.Sides.{Shut};
 
 // A file of which some bytes are read, the last n of them in its block.
 struct Source {

@@ -7,21 +7,21 @@ use native.Mathlib.Omega.{arith}
 use borrow.Author.Tests.{lt-ltb, le-ltb}
 use lib.Dec.{ltb}
 use lib.ListN.{length, take, drop}
-use Rattle.basis.specs.Choice.{if_then_else_}
-use Rattle.text.specs.Written.{Wrote}
-use Rattle.text.proofs.Writing.{inside, later}
-use Rattle.reader.specs.declared.Row.{Row}
-use Rattle.reader.specs.declared.Found.{Found}
-use Rattle.reader.specs.declared.Found.the-variants.{Is, None}
-use Rattle.reader.specs.Form.{foundRows, rowsOf}
-use Rattle.reader.specs.Bytes.{kindsFrom}
-use Rattle.parting.specs.Report.{parted, textOf}
-use Rattle.parting.specs.Turns.{takes, sideOf, differencesAt, left}
-use Rattle.parting.proofs.Turning.{turn-text}
-use Rattle.sides.specs.declared.Reading.{Reading}
-use Rattle.sides.specs.declared.Halt.{Halt}
-use Rattle.sides.specs.Sides.{coming, Rests, Shut, waiting, Fills, waitsFor, stops, haltOf, leaving, portionOf, Reported}
-use Rattle.sides.proofs.Readings.{ends, left-is, over-kept, shut-kept}
+use Rattle.base.specs.Choice.{if_then_else_}
+use Rattle.text_write.specs.Written.{Wrote}
+use Rattle.text_write.proofs.Writing.{inside, later}
+use Rattle.listing_read.specs.declared.Row.{Row}
+use Rattle.listing_read.specs.declared.Found.{Found}
+use Rattle.listing_read.specs.declared.Found.the-variants.{Is, None}
+use Rattle.listing_read.specs.Form.{foundRows, rowsOf}
+use Rattle.listing_read.specs.Bytes.{kindsFrom}
+use Rattle.compare_report.specs.Report.{parted, textOf}
+use Rattle.compare_report.specs.Turns.{takes, sideOf, differencesAt, left}
+use Rattle.compare_report.proofs.Turning.{turn-text}
+use Rattle.compare_blocks.specs.declared.Reading.{Reading}
+use Rattle.compare_blocks.specs.declared.Halt.{Halt}
+use Rattle.compare_blocks.specs.Sides.{coming, Rests, Shut, waiting, Fills, waitsFor, stops, haltOf, leaving, portionOf, Reported}
+use Rattle.compare_blocks.proofs.Readings.{ends, left-is, over-kept, shut-kept}
 
 -- ---- what the report waits for
 

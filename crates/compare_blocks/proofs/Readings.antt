@@ -7,18 +7,18 @@ use native.Mathlib.Omega.{arith}
 use borrow.Author.Tests.{ltb-false}
 use lib.Dec.{ltb}
 use lib.ListN.{length, drop, drop-of-length-le}
-use Rattle.basis.specs.Choice.{if_then_else_}
+use Rattle.base.specs.Choice.{if_then_else_}
 use Rattle.reader.specs.declared.Row.{Row}
-use Rattle.reader.specs.declared.Found.{Found}
-use Rattle.reader.specs.declared.Found.the-variants.{Is, None}
+use Rattle.listing_read.specs.declared.Found.{Found}
+use Rattle.listing_read.specs.declared.Found.the-variants.{Is, None}
 use Rattle.reader.specs.declared.Scan.{Scan}
-use Rattle.reader.specs.declared.Scan.the-variants.{Start}
-use Rattle.reader.specs.declared.Next.{Next}
+use Rattle.listing_read.specs.declared.Scan.the-variants.{Start}
+use Rattle.listing_read.specs.declared.Next.{Next}
 use Rattle.reader.specs.Form.{linesOf, foundRows, rowsOf}
 use Rattle.reader.specs.Bytes.{begun, kindsFrom, Finds}
-use Rattle.parting.specs.Turns.{Ended, left}
-use Rattle.sides.specs.declared.Reading.{Reading}
-use Rattle.sides.specs.Sides.{coming, Rests, Shut, isNone, waiting, Fills, leaving, onward, goingOn}
+use Rattle.compare_report.specs.Turns.{Ended, left}
+use Rattle.compare_blocks.specs.declared.Reading.{Reading}
+use Rattle.compare_blocks.specs.Sides.{coming, Rests, Shut, isNone, waiting, Fills, leaving, onward, goingOn}
 
 -- a reading waits where its text goes on and its next state is not known
 abbrev waits : Bool → Found → Bool

@@ -4,20 +4,20 @@ use mathlib.Core.Bool.{Bool, true, false}
 use mathlib.Core.List.{List, [], _++_}
 use mathlib.Core.Path.{_≡_}
 use lib.ListN.{length, take, drop}
-use Rattle.basis.specs.Choice.{if_then_else_, _<?_}
-use Rattle.reader.specs.declared.Row.{Row}
-use Rattle.reader.specs.declared.Found.{Found}
-use Rattle.reader.specs.declared.Found.the-variants.{Is, None}
+use Rattle.base.specs.Choice.{if_then_else_, _<?_}
+use Rattle.listing_read.specs.declared.Row.{Row}
+use Rattle.listing_read.specs.declared.Found.{Found}
+use Rattle.listing_read.specs.declared.Found.the-variants.{Is, None}
 use Rattle.reader.specs.declared.Scan.{Scan}
-use Rattle.reader.specs.declared.Scan.the-variants.{Start}
-use Rattle.reader.specs.Form.{rowOf, foundRows, rowsOf}
-use Rattle.reader.specs.Bytes.{told, kindsFrom}
-use Rattle.parting.specs.declared.Side.{Side}
-use Rattle.parting.specs.Report.{parted, textOf}
-use Rattle.parting.specs.Turns.{sideOf}
-use Rattle.sides.specs.declared.Reading.{Reading}
-use Rattle.sides.specs.declared.Halt.{Halt}
-use Rattle.sides.specs.declared.Portion.{Portion}
+use Rattle.listing_read.specs.declared.Scan.the-variants.{Start}
+use Rattle.listing_read.specs.Form.{rowOf, foundRows, rowsOf}
+use Rattle.listing_read.specs.Bytes.{told, kindsFrom}
+use Rattle.compare_report.specs.declared.Side.{Side}
+use Rattle.compare_report.specs.Report.{parted, textOf}
+use Rattle.compare_report.specs.Turns.{sideOf}
+use Rattle.compare_blocks.specs.declared.Reading.{Reading}
+use Rattle.compare_blocks.specs.declared.Halt.{Halt}
+use Rattle.compare_blocks.specs.declared.Portion.{Portion}
 
 -- the states to come: the next one, and those in the rest of the block and in the rest of the text behind it
 abbrev pub coming : Reading → List ℕ → List ℕ → List Row

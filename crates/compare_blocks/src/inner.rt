@@ -3,14 +3,14 @@
 use crate::Halt;
 use crate::Portion;
 use crate::Reading;
-use parting::side_of;
-use reader::Found;
-use reader::next_row;
+use compare_report::side_of;
+use listing_read::Found;
+use listing_read::next_row;
 use reporting::known::put_turn;
 ghost use mathlib.Core.Bool.{true};
 ghost use mathlib.Core.Path.{_≡_};
 ghost use lib.ListN.{length};
-ghost use Rattle.sides.specs.Sides.{isNone, waiting, Fills, waitsFor, stops, haltOf, leaving, Shut, Reported, portionOf};
+ghost use Rattle.compare_blocks.specs.Sides.{isNone, waiting, Fills, waitsFor, stops, haltOf, leaving, Shut, Reported, portionOf};
 
 // Room for what is reported of one moment.
 const LONGEST_TURN: usize = 300;

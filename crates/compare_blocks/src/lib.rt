@@ -1,12 +1,12 @@
 // Two listings read side by side, a block of each: what is reported of their states, in portions that fit a lent buffer.
 
-pub mod known;
+pub mod inner;
 
-use reader::Found;
-use reader::Scan;
-use reader::last_row;
+use listing_read::Found;
+use listing_read::Scan;
+use listing_read::last_row;
 ghost use mathlib.Core.Path.{_≡_};
-ghost use Rattle.sides.specs.Sides.{opened, onward, goingOn};
+ghost use Rattle.compare_blocks.specs.Sides.{opened, onward, goingOn};
 
 // Where the reading of a listing stands: the next state, if it is known; how far its line is read; the place in its block; and
 // whether the text is over: then no state comes behind the next.

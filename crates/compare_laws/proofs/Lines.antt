@@ -10,22 +10,22 @@ use lib.Dec.{T, ltb}
 use lib.Ieee.{Float, nan, inf, fin, binary64, fits, ofBits, toBits}
 use lib.Ieee.Bits.{ofBits-toBits, toBits-lt}
 use lib.Ieee.Scale.{finite}
-use Rattle.basis.specs.Limits.{endOfTime}
+use Rattle.base.specs.Limits.{endOfTime}
 use Rattle.state.specs.State.{position, velocity}
 use Rattle.state.specs.declared.Vector.{Vector}
 use Rattle.state.specs.declared.State.{State}
 use Rattle.fields.specs.Patterns.{bitsOf}
-use Rattle.text.specs.Numerals.{glyph, hex16, decimalOf, floatText}
-use Rattle.text.specs.Numerals as text
-use Rattle.text.proofs.Decimal.{by-size}
+use Rattle.text_write.specs.Numerals.{glyph, hex16, decimalOf, floatText}
+use Rattle.text_write.specs.Numerals as text
+use Rattle.text_write.proofs.Decimal.{by-size}
 use Rattle.book.proofs.FiniteBits.{finite-bits}
 use Rattle.listing.specs.Lines.{stripWord, arrivedWord, refusedWord, spaced, vectorText}
-use Rattle.reader.specs.declared.Row.{Row}
-use Rattle.reader.specs.declared.Line.{Line}
-use Rattle.reader.specs.declared.Line.the-variants as line
+use Rattle.listing_read.specs.declared.Row.{Row}
+use Rattle.listing_read.specs.declared.Line.{Line}
+use Rattle.listing_read.specs.declared.Line.the-variants as line
 use Rattle.reader.specs.Line.{hexValue, nothing, word, number, digits, headerLine, arrivedLine, refusedLine, appended, finiteBits, component, pushed, components, blank, momentFrom, kindOf}
-use Rattle.compared.proofs.Texts.{Plain, plain-none, plain-on, plain-append}
-use Rattle.compared.proofs.Numbers.{number-read, moment-kind, decimal-plain}
+use Rattle.compare_laws.proofs.Texts.{Plain, plain-none, plain-on, plain-append}
+use Rattle.compare_laws.proofs.Numbers.{number-read, moment-kind, decimal-plain}
 
 -- ---- header, outcome and lone refusal
 

@@ -6,12 +6,12 @@ use mathlib.Core.Path.{_≡_, refl, sym, ap, subst, _∙_}
 use native.Mathlib.Omega.{arith}
 use borrow.Author.Tests.{lt-ltb, le-ltb, le-leb, ne-eqb}
 use lib.Dec.{ltb}
-use Rattle.basis.specs.Limits.{endOfTime}
-use Rattle.text.specs.Numerals.{glyph, decimalOf}
-use Rattle.text.proofs.Decimal.{by-size, decimal-short, decimal-long}
-use Rattle.reader.specs.declared.Line.{Line}
-use Rattle.reader.specs.Line.{isDecimal, number, digits, momentFrom, stateLine, kindOf}
-use Rattle.compared.proofs.Texts.{Plain, plain-none, plain-on}
+use Rattle.base.specs.Limits.{endOfTime}
+use Rattle.text_write.specs.Numerals.{glyph, decimalOf}
+use Rattle.text_write.proofs.Decimal.{by-size, decimal-short, decimal-long}
+use Rattle.listing_read.specs.declared.Line.{Line}
+use Rattle.listing_read.specs.Line.{isDecimal, number, digits, momentFrom, stateLine, kindOf}
+use Rattle.compare_laws.proofs.Texts.{Plain, plain-none, plain-on}
 
 glyph-small : (d : ℕ) → d < 10 → glyph d ≡ 48 + d
 glyph-small d h = rw (lt-ltb d 10 h)

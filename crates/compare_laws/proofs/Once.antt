@@ -7,21 +7,21 @@ use mathlib.Core.Path.{_≡_, refl, sym, ap, ap₂, _∙_}
 use native.Mathlib.Omega.{arith}
 use borrow.Author.Tests.{lt-ltb, le-ltb, ltb-true, ltb-false, eq-eqb, ne-eqb, eqb-true, eqb-false}
 use lib.Dec.{ltb, eqb}
-use Rattle.basis.specs.Choice.{if_then_else_}
-use Rattle.reader.specs.declared.Row.{Row}
+use Rattle.base.specs.Choice.{if_then_else_}
+use Rattle.listing_read.specs.declared.Row.{Row}
 use Rattle.reader.specs.declared.Found.{Found}
 use Rattle.reader.specs.declared.Found.the-variants.{Is, None}
-use Rattle.reader.specs.declared.Line.{Line}
-use Rattle.reader.specs.declared.Line.the-variants as line
+use Rattle.listing_read.specs.declared.Line.{Line}
+use Rattle.listing_read.specs.declared.Line.the-variants as line
 use Rattle.reader.specs.declared.Place.{Place}
 use Rattle.reader.specs.declared.Place.the-variants.{Top, First, After, Done, Off}
-use Rattle.reader.specs.Form.{kindsOf, refusedFrom, formRefusal, rowsOf, rowsIn}
-use Rattle.parting.specs.declared.Component.{Component}
-use Rattle.parting.specs.declared.Component.the-variants.{X, Y, Z, VX, VY, VZ}
-use Rattle.parting.specs.Report.{Difference, only, differs, component, atOne, parted}
-use Rattle.steps.specs.Steps.{steps}
-use Rattle.parting.specs.Turns.{differencesAt}
-use Rattle.compared.specs.Laws.{Rising, stateOf, momentOf, reportedAt, InOrder}
+use Rattle.listing_read.specs.Form.{kindsOf, refusedFrom, formRefusal, rowsOf, rowsIn}
+use Rattle.compare_report.specs.declared.Component.{Component}
+use Rattle.compare_report.specs.declared.Component.the-variants.{X, Y, Z, VX, VY, VZ}
+use Rattle.compare_report.specs.Report.{Difference, only, differs, component, atOne, parted}
+use Rattle.compare_steps.specs.Steps.{steps}
+use Rattle.compare_report.specs.Turns.{differencesAt}
+use Rattle.compare_laws.specs.Laws.{Rising, stateOf, momentOf, reportedAt, InOrder}
 
 -- ---- cases
 

@@ -1,12 +1,12 @@
 -- Any two results that the promise of a call allows are equal. Assumes nothing.
 use mathlib.Core.Path.{refl}
-use Rattle.basis.proofs.OneAnswer.{OneAnswer, one-answer}
+use Rattle.base.proofs.OneAnswer.{OneAnswer, one-answer}
 use Rattle.reader.specs.Form.{placed}
-use Rattle.steps.specs.Steps.{steps}
-use Rattle.parting.specs.Turns.{sideOf}
-use Rattle.reader.proofs.place_after as place-after
-use Rattle.steps.proofs.steps_between as steps-between
-use Rattle.parting.proofs.side_of as side-of
+use Rattle.compare_steps.specs.Steps.{steps}
+use Rattle.compare_report.specs.Turns.{sideOf}
+use Rattle.listing_read.proofs.place_after as place-after
+use Rattle.compare_steps.proofs.steps_between as steps-between
+use Rattle.compare_report.proofs.side_of as side-of
 
 pub place-after-answers-once : OneAnswer place-after.ended (λ M. place-after.clauses)
 place-after-answers-once = one-answer (λ κs inputs. placed (inputs .0) (inputs .1 .0)) (λ M 𝓤 H A mem run κs inputs g r after. refl)

@@ -12,8 +12,8 @@ use lib.Ieee.{Float, binary64, fits, ofBits}
 use lib.Ieee.Bits.{ofBits-fits}
 use lib.Ieee.Fits.{add-fits}
 use lib.Ieee.Scale.{finite}
-use Rattle.basis.specs.Choice.{if_then_else_}
-use Rattle.basis.specs.Limits.{endOfTime}
+use Rattle.base.specs.Choice.{if_then_else_}
+use Rattle.base.specs.Limits.{endOfTime}
 use Rattle.state.specs.State.{position, velocity, acceleration, injectionAt, carrying, bare, finiteVector, finiteState}
 use Rattle.state.specs.declared.Vector.{Vector}
 use Rattle.state.specs.declared.State.{State}
@@ -22,30 +22,30 @@ use Rattle.state.specs.declared.Setting.{Setting}
 use Rattle.gravity.specs.Acceleration.{accelerationAt}
 use Rattle.gravity.specs.declared.AccelerationAnswer.{AccelerationAnswer}
 use Rattle.gravity.specs.declared.AccelerationAnswer.the-variants.{Is, Refused}
-use Rattle.injection.specs.Injection.{keptBy, launched}
-use Rattle.injection.proofs.Launched.{launched-bare}
-use Rattle.start.specs.Start.{startRefusal}
-use Rattle.start.proofs.Passed.{passed}
+use Rattle.gravity_stored.specs.Injection.{keptBy, launched}
+use Rattle.gravity_stored.proofs.Launched.{launched-bare}
+use Rattle.run_checks.specs.Start.{startRefusal}
+use Rattle.run_checks.proofs.Passed.{passed}
 use Rattle.motion.specs.Step.{Moved, On, Off, andThen, arrive, along, weighed, stepH, half, sixth, velocity2, velocity3, velocity4, lastly, stage2, stage3, stage4, movedBy, keeping, step}
-use Rattle.motion.proofs.OneStep.{done}
-use Rattle.motion.proofs.Start.{mayWalk}
+use Rattle.run.proofs.OneStep.{done}
+use Rattle.run.proofs.Start.{mayWalk}
 use Rattle.listing.specs.Lines.{stripWord, arrivedWord, refusedWord, headerLine, stateLine, arrivedLine, refusedLine, loneRefusal}
-use Rattle.orders.specs.Order.{orderLength, orderOf, readOrder}
-use Rattle.listing.specs.Strip.{stepsTo, orderText, stripText}
-use Rattle.listing.specs.Course.{afterStep, courseText}
-use Rattle.orders.specs.declared.Form.{Form}
-use Rattle.orders.specs.declared.Order.{Order}
-use Rattle.listing.proofs.Courses.{starts}
-use Rattle.listing.proofs.Whole.{order-course}
-use Rattle.text.specs.Numerals.{decimalOf}
-use Rattle.reader.specs.declared.Line.{Line}
-use Rattle.reader.specs.declared.Line.the-variants as line
+use Rattle.strip_order.specs.Order.{orderLength, orderOf, readOrder}
+use Rattle.listing_write.specs.Strip.{stepsTo, orderText, stripText}
+use Rattle.listing_write.specs.Course.{afterStep, courseText}
+use Rattle.strip_order.specs.declared.Form.{Form}
+use Rattle.strip_order.specs.declared.Order.{Order}
+use Rattle.listing_write.proofs.Courses.{starts}
+use Rattle.listing_write.proofs.Whole.{order-course}
+use Rattle.text_write.specs.Numerals.{decimalOf}
+use Rattle.listing_read.specs.declared.Line.{Line}
+use Rattle.listing_read.specs.declared.Line.the-variants as line
 use Rattle.reader.specs.declared.Place.{Place}
 use Rattle.reader.specs.declared.Place.the-variants.{Top, First, After, Done, Off}
-use Rattle.reader.specs.Line.{kindOf}
-use Rattle.reader.specs.Form.{linesOf, kindsOf, refusedFrom, formRefusal}
-use Rattle.compared.proofs.Texts.{Plain, plain-append, feed-lines}
-use Rattle.compared.proofs.Numbers.{decimal-plain}
+use Rattle.listing_read.specs.Line.{kindOf}
+use Rattle.listing_read.specs.Form.{linesOf, kindsOf, refusedFrom, formRefusal}
+use Rattle.compare_laws.proofs.Texts.{Plain, plain-append, feed-lines}
+use Rattle.compare_laws.proofs.Numbers.{decimal-plain}
 use Rattle.compared.proofs.Lines.{Fine, FineVector, FineState, rowFor, stateText, header-kind, arrived-kind, lone-kind, refused-kind, state-line-kind, space-plain, state-plain, strip-plain, arrived-plain, refused-plain, numbered-plain}
 
 -- ---- floats of a state that a step leads to

@@ -9,16 +9,16 @@ use borrow.Author.Tests.{lt-ltb, le-ltb, ltb-true, ltb-false, ne-eqb, eqb-true, 
 use lib.Dec.{ltb, eqb}
 use lib.ListN.{length, take, drop, length-append}
 use lib.Seq.{drop-append-seam}
-use Rattle.basis.specs.Choice.{if_then_else_}
-use Rattle.reader.specs.declared.Judge.{Judge}
-use Rattle.reader.specs.declared.Place.the-variants.{Top}
-use Rattle.reader.specs.declared.Scan.the-variants.{Start}
+use Rattle.base.specs.Choice.{if_then_else_}
+use Rattle.listing_read.specs.declared.Judge.{Judge}
+use Rattle.listing_read.specs.declared.Place.the-variants.{Top}
+use Rattle.listing_read.specs.declared.Scan.the-variants.{Start}
 use Rattle.reader.specs.declared.Line.{Line}
 use Rattle.reader.specs.Form.{inFirst, linesOf, refusedFrom, formRefusal, rowsOf, rowsIn}
-use Rattle.reader.specs.Bytes.{kindsFrom, lastStart, refusalWith, countWith, outcomeWith, atTop, Goes, verdictOf}
-use Rattle.reader.proofs.Lines.{kinds-start}
-use Rattle.parting.specs.Report.{firstOf, lastOf, outcomeOf, untilFeed, same}
-use Rattle.compared.specs.Laws.{verdictOn}
+use Rattle.listing_read.specs.Bytes.{kindsFrom, lastStart, refusalWith, countWith, outcomeWith, atTop, Goes, verdictOf}
+use Rattle.listing_read.proofs.Lines.{kinds-start}
+use Rattle.compare_report.specs.Report.{firstOf, lastOf, outcomeOf, untilFeed, same}
+use Rattle.compare_laws.specs.Laws.{verdictOn}
 
 -- ---- judged: what `verdict` answers after all blocks of a text
 

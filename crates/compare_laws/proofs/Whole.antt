@@ -8,22 +8,22 @@ use native.Mathlib.Omega.{arith}
 use borrow.Author.Tests.{lt-ltb, le-ltb}
 use lib.Dec.{ltb}
 use lib.ListN.{length, drop, drop-of-length-le}
-use Rattle.basis.specs.Choice.{if_then_else_}
-use Rattle.reader.specs.declared.Row.{Row}
-use Rattle.reader.specs.declared.Found.{Found}
-use Rattle.reader.specs.declared.Found.the-variants.{Is, None}
-use Rattle.reader.specs.declared.Scan.{Scan}
-use Rattle.reader.specs.declared.Scan.the-variants.{Start, Letters, Digits, Moment, Component, Behind, Bad}
-use Rattle.reader.specs.Form.{linesOf, rowOf, foundRows, rowsOf, rowsIn, formRefusal}
-use Rattle.reader.specs.Bytes.{told, kindsFrom}
-use Rattle.reader.specs.Line.{kindOf}
-use Rattle.reader.proofs.Lines.{kinds-start}
-use Rattle.parting.specs.declared.Part.the-variants.{Header, States, Outcome, End}
-use Rattle.parting.specs.Turns.{takes, sideOf}
-use Rattle.parting.specs.Report.{parted, textOf, statesText, partText, firstRefusal, refusalText, report}
-use Rattle.sides.specs.declared.Reading.{Reading}
-use Rattle.sides.specs.Sides.{coming, Rests, Shut, waiting, waitsFor, haltOf, opened, onward}
-use Rattle.sides.proofs.Readings.{ends}
+use Rattle.base.specs.Choice.{if_then_else_}
+use Rattle.listing_read.specs.declared.Row.{Row}
+use Rattle.listing_read.specs.declared.Found.{Found}
+use Rattle.listing_read.specs.declared.Found.the-variants.{Is, None}
+use Rattle.listing_read.specs.declared.Scan.{Scan}
+use Rattle.listing_read.specs.declared.Scan.the-variants.{Start, Letters, Digits, Moment, Component, Behind, Bad}
+use Rattle.listing_read.specs.Form.{linesOf, rowOf, foundRows, rowsOf, rowsIn, formRefusal}
+use Rattle.listing_read.specs.Bytes.{told, kindsFrom}
+use Rattle.listing_read.specs.Line.{kindOf}
+use Rattle.listing_read.proofs.Lines.{kinds-start}
+use Rattle.compare_report.specs.declared.Part.the-variants.{Header, States, Outcome, End}
+use Rattle.compare_report.specs.Turns.{takes, sideOf}
+use Rattle.compare_report.specs.Report.{parted, textOf, statesText, partText, firstRefusal, refusalText, report}
+use Rattle.compare_blocks.specs.declared.Reading.{Reading}
+use Rattle.compare_blocks.specs.Sides.{coming, Rests, Shut, waiting, waitsFor, haltOf, opened, onward}
+use Rattle.compare_blocks.proofs.Readings.{ends}
 
 -- before the first block all states of the text are to come
 pub opened-all : (text : List ℕ) → coming opened [] text ≡ rowsIn text

@@ -2,15 +2,15 @@
 use Prim.Native.Nat.{ℕ, _+_, _≤_}
 use mathlib.Core.List.{List, [], _∷_}
 use lib.ListN.{length}
-use Rattle.basis.specs.Choice.{if_then_else_, _=?_}
-use Rattle.reader.specs.declared.Row.{Row}
-use Rattle.reader.specs.declared.Found.{Found}
-use Rattle.reader.specs.declared.Found.the-variants.{Is, None}
-use Rattle.reader.specs.declared.Verdict.{Verdict}
-use Rattle.reader.specs.Form.{formRefusal, rowsIn}
-use Rattle.reader.specs.Bytes.{lastStart}
+use Rattle.base.specs.Choice.{if_then_else_, _=?_}
+use Rattle.listing_read.specs.declared.Row.{Row}
+use Rattle.listing_read.specs.declared.Found.{Found}
+use Rattle.listing_read.specs.declared.Found.the-variants.{Is, None}
+use Rattle.listing_read.specs.declared.Verdict.{Verdict}
+use Rattle.listing_read.specs.Form.{formRefusal, rowsIn}
+use Rattle.listing_read.specs.Bytes.{lastStart}
 use Rattle.parting.specs.declared.Component.{Component}
-use Rattle.parting.specs.Report.{Difference, only, differs}
+use Rattle.compare_report.specs.Report.{Difference, only, differs}
 
 -- the verdict on a text: the line refused, the number of its states, and where its last line starts
 abbrev pub verdictOn : List ℕ → Verdict

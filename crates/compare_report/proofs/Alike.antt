@@ -9,8 +9,8 @@ use borrow.Author.Tests.{eq-eqb, ne-eqb}
 use lib.Dec.{eqb}
 use lib.ListN.{length, getD, drop, drop-of-length-le}
 use lib.Seq.{drop-cons}
-use Rattle.basis.specs.Choice.{if_then_else_}
-use Rattle.parting.specs.Report.{untilFeed, same}
+use Rattle.base.specs.Choice.{if_then_else_}
+use Rattle.compare_report.specs.Report.{untilFeed, same}
 
 module _ (b : List ℕ) (i : ℕ) where
   pub feed-end : length b ≤ i → length (untilFeed (drop i b)) ≡ 0

@@ -5,14 +5,14 @@ use mathlib.Core.Path.{_≡_, refl, sym, ap, _∙_}
 use native.Mathlib.Omega.{arith}
 use borrow.Author.Tests.{eq-eqb, ne-eqb}
 use lib.ListN.{length}
-use Rattle.text.specs.Written.{Wrote}
-use Rattle.text.proofs.Writing.{nothing, both}
-use Rattle.reader.specs.declared.Row.{Row}
-use Rattle.parting.specs.declared.Component.{Component}
-use Rattle.parting.specs.declared.Component.the-variants.{X, Y, Z, VX, VY, VZ}
-use Rattle.steps.specs.Steps.{steps}
+use Rattle.text_write.specs.Written.{Wrote}
+use Rattle.text_write.proofs.Writing.{nothing, both}
+use Rattle.listing_read.specs.declared.Row.{Row}
+use Rattle.compare_report.specs.declared.Component.{Component}
+use Rattle.compare_report.specs.declared.Component.the-variants.{X, Y, Z, VX, VY, VZ}
+use Rattle.compare_steps.specs.Steps.{steps}
 use Rattle.parting.specs.Report.{Difference, component, atOne, onlyWord, twoNumbers, diffLine, lineOf, textOf}
-use Rattle.parting.specs.Turns.{Put, onlyText}
+use Rattle.compare_report.specs.Turns.{Put, onlyText}
 
 pub none : (out : List ℕ) (at room : ℕ) → Put out at [] out at room
 none out at room = record { wrote = nothing out at; short = omega arith }

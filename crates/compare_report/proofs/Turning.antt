@@ -5,13 +5,13 @@ use mathlib.Core.List.{List, [], _∷_, _++_}
 use mathlib.Core.Path.{_≡_, refl, ap, _∙_}
 use lib.Dec.{ltb}
 use Rattle.basis.specs.Choice.{if_then_else_}
-use Rattle.reader.specs.declared.Row.{Row}
-use Rattle.reader.specs.declared.Found.{Found}
-use Rattle.reader.specs.declared.Found.the-variants.{Is, None}
-use Rattle.reader.specs.Form.{foundRows}
+use Rattle.listing_read.specs.declared.Row.{Row}
+use Rattle.listing_read.specs.declared.Found.{Found}
+use Rattle.listing_read.specs.declared.Found.the-variants.{Is, None}
+use Rattle.listing_read.specs.Form.{foundRows}
 use Rattle.parting.specs.Report.{Difference, parted, textOf}
-use Rattle.parting.specs.Turns.{sideOf, differencesAt, left, Ended}
-use Rattle.parting.proofs.Puts.{text-append}
+use Rattle.compare_report.specs.Turns.{sideOf, differencesAt, left, Ended}
+use Rattle.compare_report.proofs.Puts.{text-append}
 
 module _ (r s : Row) (ra rb : List Row) where
   two : (x y : Bool) → ltb (r .moment) (s .moment) ≡ x → ltb (s .moment) (r .moment) ≡ y

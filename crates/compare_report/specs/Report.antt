@@ -4,15 +4,15 @@ use mathlib.Core.Bool.{Bool, true, false, _||_}
 use mathlib.Core.List.{List, [], _∷_, _++_}
 use mathlib.Core.Path.{_≡_}
 use lib.ListN.{length}
-use Rattle.basis.specs.Choice.{if_then_else_, _<?_, _=?_}
-use Rattle.text.specs.Numerals.{decimalOf}
-use Rattle.reader.specs.declared.Row.{Row}
-use Rattle.reader.specs.Form.{linesOf, formRefusal, rowsIn}
-use Rattle.parting.specs.declared.Component.{Component}
-use Rattle.parting.specs.declared.Component.the-variants.{X, Y, Z, VX, VY, VZ}
-use Rattle.parting.specs.declared.Part.{Part}
-use Rattle.parting.specs.declared.Part.the-variants.{Header, States, Outcome, End, Over}
-use Rattle.steps.specs.Steps.{steps}
+use Rattle.base.specs.Choice.{if_then_else_, _<?_, _=?_}
+use Rattle.text_write.specs.Numerals.{decimalOf}
+use Rattle.listing_read.specs.declared.Row.{Row}
+use Rattle.listing_read.specs.Form.{linesOf, formRefusal, rowsIn}
+use Rattle.compare_report.specs.declared.Component.{Component}
+use Rattle.compare_report.specs.declared.Component.the-variants.{X, Y, Z, VX, VY, VZ}
+use Rattle.compare_report.specs.declared.Part.{Part}
+use Rattle.compare_report.specs.declared.Part.the-variants.{Header, States, Outcome, End, Over}
+use Rattle.compare_steps.specs.Steps.{steps}
 
 -- one difference: a moment found in one listing only, or a component whose bits differ, with its float steps
 pub data Difference : Type 0 where

@@ -3,14 +3,14 @@ use Prim.Native.Nat.{ℕ, _+_, _≤_}
 use mathlib.Core.Bool.{Bool, true, false}
 use mathlib.Core.List.{List, [], _∷_, _++_}
 use mathlib.Core.Path.{_≡_}
-use Rattle.basis.specs.Choice.{if_then_else_, _<?_}
-use Rattle.text.specs.Written.{Wrote}
-use Rattle.reader.specs.declared.Row.{Row}
-use Rattle.reader.specs.declared.Found.{Found}
-use Rattle.reader.specs.declared.Found.the-variants.{Is, None}
-use Rattle.reader.specs.Form.{foundRows}
-use Rattle.parting.specs.declared.Side.{Side}
-use Rattle.parting.specs.Report.{Difference, only, atOne, textOf}
+use Rattle.base.specs.Choice.{if_then_else_, _<?_}
+use Rattle.text_write.specs.Written.{Wrote}
+use Rattle.listing_read.specs.declared.Row.{Row}
+use Rattle.listing_read.specs.declared.Found.{Found}
+use Rattle.listing_read.specs.declared.Found.the-variants.{Is, None}
+use Rattle.listing_read.specs.Form.{foundRows}
+use Rattle.compare_report.specs.declared.Side.{Side}
+use Rattle.compare_report.specs.Report.{Difference, only, atOne, textOf}
 
 -- a text is written that takes no more than some room
 pub record Put (before : List ℕ) (at : ℕ) (text after : List ℕ) (r room : ℕ) : Type 0 where

@@ -2,11 +2,11 @@
 
 pub mod same;
 
-use reader::Found;
-use reader::Row;
+use listing_read::Found;
+use listing_read::Row;
 ghost use mathlib.Core.Path.{_≡_};
 ghost use Rattle.parting.specs.Report.{Follows};
-ghost use Rattle.parting.specs.Turns.{takes, sideOf};
+ghost use Rattle.compare_report.specs.Turns.{takes, sideOf};
 
 pub enum Component {
     X,

@@ -2,7 +2,7 @@
 
 ghost use mathlib.Core.Path.{_≡_};
 ghost use lib.ListN.{length};
-ghost use Rattle.parting.specs.Report.{untilFeed, same};
+ghost use Rattle.compare_report.specs.Report.{untilFeed, same};
 
 // How many bytes stand before the first line feed, or at all.
 pub fn line_length(block: &[u8]) -> usize

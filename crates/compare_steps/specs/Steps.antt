@@ -1,6 +1,6 @@
 -- Document 02, R-1: "the count of float steps from one to the other (the two zeros are one step apart; counting runs through them)".
 use Prim.Native.Nat.{ℕ, _+_, _-_}
-use Rattle.basis.specs.Choice.{if_then_else_, _<?_}
+use Rattle.base.specs.Choice.{if_then_else_, _<?_}
 
 -- where a float stands among all of them, from the lowest up: where its sign is set the more bits the lower, -0.0 just below +0.0
 unfoldable pub place : ℕ → ℕ

@@ -1,7 +1,7 @@
 // Float steps: how many floats lie from one to another.
 
 ghost use mathlib.Core.Path.{_≡_};
-ghost use Rattle.steps.specs.Steps.{place, steps};
+ghost use Rattle.compare_steps.specs.Steps.{place, steps};
 
 fn place_of(bits: u64) -> u64
     ensures { λ r. ⌜ r ≡ place bits ⌝ }

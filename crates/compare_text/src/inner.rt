@@ -1,15 +1,15 @@
 // The lines of the report, for a buffer with room for them.
 
-use parting::Component;
-use reader::Found;
-use reader::Row;
+use compare_report::Component;
+use listing_read::Found;
+use listing_read::Row;
 use steps::steps_between;
-use text::known::put_bytes;
-use text::known::put_decimal;
+use text_write::inner::put_bytes;
+use text_write::inner::put_decimal;
 ghost use Prim.Native.Nat.{_+_, _≤_};
 ghost use lib.ListN.{length};
-ghost use Rattle.parting.specs.Report.{component, atOne, numbered, twoNumbers, name, diffLine, textOf, endText, firstRefusal, refusalText};
-ghost use Rattle.parting.specs.Turns.{Put, onlyText, differencesAt};
+ghost use Rattle.compare_report.specs.Report.{component, atOne, numbered, twoNumbers, name, diffLine, textOf, endText, firstRefusal, refusalText};
+ghost use Rattle.compare_report.specs.Turns.{Put, onlyText, differencesAt};
 
 fn put_numbered(out: &mut [u8], at: usize, word: &[u8], n: u64) -> usize
     requires { ⌜ at + length (now word) + 20 ≤ length (now out) ⌝ }

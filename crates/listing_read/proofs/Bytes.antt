@@ -9,14 +9,14 @@ use borrow.Author.Tests.{lt-ltb, le-ltb, le-leb, lt-leb, leb-true, eq-eqb, ne-eq
 use lib.Dec.{leb, ltb}
 use lib.ListN.{length, getD, drop, drop-of-length-le}
 use lib.Seq.{drop-cons}
-use Rattle.basis.specs.Limits.{endOfTime}
-use Rattle.reader.specs.declared.Row.{Row}
-use Rattle.reader.specs.declared.Line.{Line}
-use Rattle.reader.specs.declared.Line.the-variants as line
-use Rattle.reader.specs.declared.Word.{Word}
-use Rattle.reader.specs.declared.Word.the-variants.{Strip, Arrived, Refused, Steps}
-use Rattle.reader.specs.declared.Scan.{Scan}
-use Rattle.reader.specs.declared.Scan.the-variants.{Start, Letters, Digits, Moment, Component, Behind, Bad}
+use Rattle.base.specs.Limits.{endOfTime}
+use Rattle.listing_read.specs.declared.Row.{Row}
+use Rattle.listing_read.specs.declared.Line.{Line}
+use Rattle.listing_read.specs.declared.Line.the-variants as line
+use Rattle.listing_read.specs.declared.Word.{Word}
+use Rattle.listing_read.specs.declared.Word.the-variants.{Strip, Arrived, Refused, Steps}
+use Rattle.listing_read.specs.declared.Scan.{Scan}
+use Rattle.listing_read.specs.declared.Scan.the-variants.{Start, Letters, Digits, Moment, Component, Behind, Bad}
 use Rattle.reader.specs.Line.{isDecimal, hexValue, word, digits, number, headerLine, arrivedLine, refusedLine, appended, finiteBits, component, pushed, components, blank, momentFrom, stateLine, kindOf}
 use Rattle.reader.specs.Bytes.{lettersOf, endsAs, afterNumber, settled, told, begun, Spaced, Takes}
 

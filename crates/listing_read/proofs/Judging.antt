@@ -7,17 +7,17 @@ use native.Mathlib.Nat.{add-zero, add-assoc}
 use native.Mathlib.Omega.{arith}
 use borrow.Author.Tests.{lt-ltb, le-ltb, ne-eqb}
 use lib.ListN.{length, length-append}
-use Rattle.basis.specs.Choice.{if_then_else_}
-use Rattle.reader.specs.declared.Line.{Line}
-use Rattle.reader.specs.declared.Line.the-variants as line
-use Rattle.reader.specs.declared.Place.{Place}
-use Rattle.reader.specs.declared.Place.the-variants.{Top, First, After, Done, Off}
-use Rattle.reader.specs.declared.Scan.{Scan}
-use Rattle.reader.specs.declared.Scan.the-variants.{Start}
-use Rattle.reader.specs.declared.Judge.{Judge}
-use Rattle.reader.specs.Form.{linesOf, placed, isOff, missing, refusedFrom, rowsOf}
-use Rattle.reader.specs.Bytes.{told, begun, Takes, kindsFrom, lastStart, refusalWith, countWith, outcomeWith, lineAfter, rowsAfter, lineEnded, Counted, Goes, closed, verdictOf}
-use Rattle.reader.proofs.Lines.{kinds-feed, kinds-byte}
+use Rattle.base.specs.Choice.{if_then_else_}
+use Rattle.listing_read.specs.declared.Line.{Line}
+use Rattle.listing_read.specs.declared.Line.the-variants as line
+use Rattle.listing_read.specs.declared.Place.{Place}
+use Rattle.listing_read.specs.declared.Place.the-variants.{Top, First, After, Done, Off}
+use Rattle.listing_read.specs.declared.Scan.{Scan}
+use Rattle.listing_read.specs.declared.Scan.the-variants.{Start}
+use Rattle.listing_read.specs.declared.Judge.{Judge}
+use Rattle.listing_read.specs.Form.{linesOf, placed, isOff, missing, refusedFrom, rowsOf}
+use Rattle.listing_read.specs.Bytes.{told, begun, Takes, kindsFrom, lastStart, refusalWith, countWith, outcomeWith, lineAfter, rowsAfter, lineEnded, Counted, Goes, closed, verdictOf}
+use Rattle.listing_read.proofs.Lines.{kinds-feed, kinds-byte}
 
 -- ---- one line more
 

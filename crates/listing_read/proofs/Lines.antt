@@ -6,13 +6,13 @@ use native.Mathlib.Numerals.{add-one}
 use borrow.Author.Tests.{ne-eqb}
 use lib.ListN.{length, getD, drop}
 use lib.Seq.{drop-cons}
-use Rattle.reader.specs.declared.Row.{Row}
-use Rattle.reader.specs.declared.Line.{Line}
+use Rattle.listing_read.specs.declared.Row.{Row}
+use Rattle.listing_read.specs.declared.Line.{Line}
 use Rattle.reader.specs.declared.Line.the-variants as line
-use Rattle.reader.specs.declared.Scan.{Scan}
-use Rattle.reader.specs.declared.Scan.the-variants.{Start}
-use Rattle.reader.specs.declared.Found.{Found}
-use Rattle.reader.specs.Line.{kindOf}
+use Rattle.listing_read.specs.declared.Scan.{Scan}
+use Rattle.listing_read.specs.declared.Scan.the-variants.{Start}
+use Rattle.listing_read.specs.declared.Found.{Found}
+use Rattle.listing_read.specs.Line.{kindOf}
 use Rattle.reader.specs.Form.{inFirst, linesOf, kindsOf, rowOf, foundRows, rowsOf}
 use Rattle.reader.specs.Bytes.{told, begun, Takes, kindsAfter, kindsFrom, rowHere, Passes}
 

@@ -4,23 +4,23 @@ use mathlib.Core.Bool.{Bool, true, false}
 use mathlib.Core.List.{List, [], _∷_, _++_, map}
 use mathlib.Core.Path.{_≡_}
 use lib.ListN.{length, drop}
-use Rattle.basis.specs.Choice.{if_then_else_, _<?_, _=?_}
+use Rattle.base.specs.Choice.{if_then_else_, _<?_, _=?_}
 use Rattle.listing.specs.Lines.{stripWord, arrivedWord, refusedWord}
-use Rattle.reader.specs.declared.Row.{Row}
-use Rattle.reader.specs.declared.Line.{Line}
-use Rattle.reader.specs.declared.Line.the-variants as line
-use Rattle.reader.specs.declared.Word.{Word}
-use Rattle.reader.specs.declared.Word.the-variants.{Strip, Arrived, Refused, Steps}
-use Rattle.reader.specs.declared.Scan.{Scan}
-use Rattle.reader.specs.declared.Scan.the-variants.{Start, Letters, Digits, Moment, Component, Behind, Bad}
-use Rattle.reader.specs.declared.Place.{Place}
-use Rattle.reader.specs.declared.Place.the-variants.{Top}
-use Rattle.reader.specs.declared.Judge.{Judge}
-use Rattle.reader.specs.declared.Verdict.{Verdict}
-use Rattle.reader.specs.declared.Found.{Found}
-use Rattle.reader.specs.declared.Found.the-variants.{Is, None}
-use Rattle.reader.specs.declared.Next.{Next}
-use Rattle.reader.specs.Form.{linesOf, rowOf, foundRows, placed, isOff, missing, refusedFrom, rowsOf}
+use Rattle.listing_read.specs.declared.Row.{Row}
+use Rattle.listing_read.specs.declared.Line.{Line}
+use Rattle.listing_read.specs.declared.Line.the-variants as line
+use Rattle.listing_read.specs.declared.Word.{Word}
+use Rattle.listing_read.specs.declared.Word.the-variants.{Strip, Arrived, Refused, Steps}
+use Rattle.listing_read.specs.declared.Scan.{Scan}
+use Rattle.listing_read.specs.declared.Scan.the-variants.{Start, Letters, Digits, Moment, Component, Behind, Bad}
+use Rattle.listing_read.specs.declared.Place.{Place}
+use Rattle.listing_read.specs.declared.Place.the-variants.{Top}
+use Rattle.listing_read.specs.declared.Judge.{Judge}
+use Rattle.listing_read.specs.declared.Verdict.{Verdict}
+use Rattle.listing_read.specs.declared.Found.{Found}
+use Rattle.listing_read.specs.declared.Found.the-variants.{Is, None}
+use Rattle.listing_read.specs.declared.Next.{Next}
+use Rattle.listing_read.specs.Form.{linesOf, rowOf, foundRows, placed, isOff, missing, refusedFrom, rowsOf}
 use Rattle.reader.specs.Line.{word, nothing, digits, number, finiteBits, component, pushed, components, momentFrom, kindOf}
 
 abbrev pub lettersOf : Word → List ℕ

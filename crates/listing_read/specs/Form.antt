@@ -3,15 +3,15 @@
 use Prim.Native.Nat.{ℕ, _+_}
 use mathlib.Core.Bool.{Bool, true, false}
 use mathlib.Core.List.{List, [], _∷_, _++_, map}
-use Rattle.basis.specs.Choice.{if_then_else_, _<?_, _=?_}
-use Rattle.reader.specs.declared.Row.{Row}
-use Rattle.reader.specs.declared.Line.{Line}
-use Rattle.reader.specs.declared.Line.the-variants as line
-use Rattle.reader.specs.declared.Found.{Found}
-use Rattle.reader.specs.declared.Found.the-variants.{Is, None}
-use Rattle.reader.specs.declared.Place.{Place}
-use Rattle.reader.specs.declared.Place.the-variants.{Top, First, After, Done, Off}
-use Rattle.reader.specs.Line.{kindOf}
+use Rattle.base.specs.Choice.{if_then_else_, _<?_, _=?_}
+use Rattle.listing_read.specs.declared.Row.{Row}
+use Rattle.listing_read.specs.declared.Line.{Line}
+use Rattle.listing_read.specs.declared.Line.the-variants as line
+use Rattle.listing_read.specs.declared.Found.{Found}
+use Rattle.listing_read.specs.declared.Found.the-variants.{Is, None}
+use Rattle.listing_read.specs.declared.Place.{Place}
+use Rattle.listing_read.specs.declared.Place.the-variants.{Top, First, After, Done, Off}
+use Rattle.listing_read.specs.Line.{kindOf}
 
 -- the lines of a text: each ends at a line feed, which the last may lack
 abbrev pub inFirst : ℕ → List (List ℕ) → List (List ℕ)

@@ -4,11 +4,11 @@ use Prim.Native.Nat.{ℕ, zero, suc, _+_, _-_, _*_, _%_}
 use mathlib.Core.Bool.{Bool, true, false, _&&_}
 use mathlib.Core.List.{List, [], _∷_}
 use Rattle.basis.specs.Choice.{if_then_else_, _<?_, _≤?_, _=?_}
-use Rattle.basis.specs.Limits.{isMoment}
+use Rattle.base.specs.Limits.{isMoment}
 use Rattle.listing.specs.Lines.{stripWord, arrivedWord, refusedWord}
-use Rattle.reader.specs.declared.Row.{Row}
-use Rattle.reader.specs.declared.Line.{Line}
-use Rattle.reader.specs.declared.Line.the-variants.{Header, State, Outcome, Lone, Bad}
+use Rattle.listing_read.specs.declared.Row.{Row}
+use Rattle.listing_read.specs.declared.Line.{Line}
+use Rattle.listing_read.specs.declared.Line.the-variants.{Header, State, Outcome, Lone, Bad}
 
 abbrev pub between : ℕ → ℕ → ℕ → Bool
 between low b high = (low ≤? b) && (b ≤? high)

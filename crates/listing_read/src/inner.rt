@@ -13,8 +13,8 @@ ghost use mathlib.Core.Path.{_≡_};
 ghost use mathlib.Core.List.{[], _∷_};
 ghost use Prim.Native.Nat.{_+_, _<_};
 ghost use lib.ListN.{length};
-ghost use Rattle.reader.specs.Form.{isOff, missing};
-ghost use Rattle.reader.specs.Bytes.{lineAfter, rowsAfter, lineEnded, Counted, Goes, closed, verdictOf};
+ghost use Rattle.listing_read.specs.Form.{isOff, missing};
+ghost use Rattle.listing_read.specs.Bytes.{lineAfter, rowsAfter, lineEnded, Counted, Goes, closed, verdictOf};
 
 pub fn is_off(place: Place) -> bool
     ensures { λ r. ⌜ r ≡ isOff place ⌝ }

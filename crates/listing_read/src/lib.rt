@@ -1,13 +1,13 @@
 // The reader of listings. A line is never kept: what is known of it is a value that each byte takes on, so that a line of any
 // length costs no memory.
 
-pub mod known;
+pub mod inner;
 mod letters;
 pub mod scanning;
 
 ghost use mathlib.Core.Path.{_≡_};
 ghost use mathlib.Core.List.{[]};
-ghost use Rattle.reader.specs.Form.{rowOf, later, afterTop, afterHeader, afterState, placed};
+ghost use Rattle.listing_read.specs.Form.{rowOf, later, afterTop, afterHeader, afterState, placed};
 ghost use Rattle.reader.specs.Bytes.{atTop, told, rowHere, Passes, Finds};
 use scanning::line_end;
 use scanning::take_byte;

@@ -10,7 +10,7 @@ use crate::letters::letter;
 use crate::letters::letters_in;
 ghost use mathlib.Core.Path.{_≡_};
 ghost use mathlib.Core.List.{[]};
-ghost use Rattle.reader.specs.Line.{finiteBits, pushed, blank};
+ghost use Rattle.listing_read.specs.Line.{finiteBits, pushed, blank};
 ghost use Rattle.reader.specs.Bytes.{told, begun, Spaced, Takes, endsAs};
 
 // A moment of this or more cannot take one digit more: a tenth of the end of time.

@@ -11,22 +11,22 @@ use Rattle.state.specs.State.{centreAllowed}
 use Rattle.state.specs.declared.State.{State}
 use Rattle.state.specs.declared.Setting.{Setting}
 use Rattle.gravity.specs.declared.Guesses.{Guesses}
-use Rattle.motion.specs.Step.{Moved, On, Off, step}
-use Rattle.start.specs.Start.{withinSteps}
-use Rattle.motion.specs.Kept.{kept, entriesAfter, MayStep, MayWalk}
-use Rattle.motion.specs.declared.Outcome.{Outcome}
-use Rattle.motion.specs.declared.Outcome.the-variants.{Arrived, Going, Refused}
-use Rattle.arrival.specs.declared.Stepped.the-variants as stepped
-use Rattle.start.proofs.Allowed.{away}
-use Rattle.motion.proofs.OneStep.{done}
-use Rattle.motion.proofs.Walked.{handedOn, handedOff}
-use Rattle.text.specs.Written.{Wrote}
-use Rattle.text.proofs.Writing.{later}
-use Rattle.listing.specs.Lines.{stateLine, outcomeLine}
-use Rattle.listing.specs.Strip.{stepsTo}
-use Rattle.listing.specs.Course.{courseText, remains, OnCourse, longestLine, Advanced, portionOf, startOf}
-use Rattle.listing.specs.declared.Course.{Course}
-use Rattle.listing.proofs.Lengths.{line-fits}
+use Rattle.run.specs.Step.{Moved, On, Off, step}
+use Rattle.run_checks.specs.Start.{withinSteps}
+use Rattle.run.specs.Kept.{kept, entriesAfter, MayStep, MayWalk}
+use Rattle.run.specs.declared.Outcome.{Outcome}
+use Rattle.run.specs.declared.Outcome.the-variants.{Arrived, Going, Refused}
+use Rattle.step_end.specs.declared.Stepped.the-variants as stepped
+use Rattle.run_checks.proofs.Allowed.{away}
+use Rattle.run.proofs.OneStep.{done}
+use Rattle.run.proofs.Walked.{handedOn, handedOff}
+use Rattle.text_write.specs.Written.{Wrote}
+use Rattle.text_write.proofs.Writing.{later}
+use Rattle.listing_write.specs.Lines.{stateLine, outcomeLine}
+use Rattle.listing_write.specs.Strip.{stepsTo}
+use Rattle.listing_write.specs.Course.{courseText, remains, OnCourse, longestLine, Advanced, portionOf, startOf}
+use Rattle.listing_write.specs.declared.Course.{Course}
+use Rattle.listing_write.proofs.Lengths.{line-fits}
 
 -- ---- the text at a place of a run
 

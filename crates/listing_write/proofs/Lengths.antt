@@ -8,10 +8,10 @@ use Rattle.state.specs.State.{position, velocity}
 use Rattle.state.specs.declared.Vector.{Vector}
 use Rattle.state.specs.declared.State.{State}
 use Rattle.text.specs.Numerals.{decimalOf, floatText}
-use Rattle.text.proofs.Decimal.{decimal-fits}
-use Rattle.text.proofs.Digits.{float-fits}
+use Rattle.text_write.proofs.Decimal.{decimal-fits}
+use Rattle.text_write.proofs.Digits.{float-fits}
 use Rattle.listing.specs.Lines.{spaced, vectorText, lineFeed, stripWord, headerLine, stateLine}
-use Rattle.listing.specs.Course.{longestLine}
+use Rattle.listing_write.specs.Course.{longestLine}
 
 pub spaced-fits : (x : Float) → length (spaced x) ≤ 17
 spaced-fits x = omega (arith, float-fits x)

@@ -3,7 +3,7 @@ use Prim.Native.Nat.{ℕ}
 use mathlib.Core.List.{List, [], _∷_}
 use mathlib.Core.Path.{_≡_, refl, _∙_}
 use lib.Ieee.{binary64, neg, add, sub, mul, div, ofBits, ofInt, ofFields, odd, toBits, size, lt, eq}
-use Rattle.basis.specs.Floats.{zero64}
+use Rattle.base.specs.Floats.{zero64}
 use Rattle.root.specs.Root.{rootOf}
 use Rattle.book.specs.Bytes.{u16At, u32At, u64At}
 use Rattle.book.specs.Passes.{passes}
@@ -11,17 +11,17 @@ use Rattle.state.specs.State.{carrying, sameVector, n, settingAllowed, coeffici
 use Rattle.state.specs.declared.State.{State}
 use Rattle.state.specs.declared.Injection.{Injection}
 use Rattle.state.specs.declared.Setting.{Setting}
-use Rattle.pull.specs.Pull.{g, sound, r3}
+use Rattle.gravity_pull.specs.Pull.{g, sound, r3}
 use Rattle.gravity.specs.Acceleration.{accelerationAt}
-use Rattle.sight.specs.Sky.{sky}
+use Rattle.gravity_bodies.specs.Sky.{sky}
 use Rattle.injection.specs.Injection.{kept, injectionRefusal, injectionAnswer, launched, orderRefusal}
 use Rattle.start.specs.Start.{startRefusal}
-use Rattle.motion.specs.Run.{runTo}
-use Rattle.text.specs.Numerals.{digits, shortest, decimalOf, floatText}
-use Rattle.listing.specs.Lines.{headerLine, vectorText, stateLine, arrivedLine}
-use Rattle.orders.specs.Order.{readOrder}
-use Rattle.orders.specs.declared.Form.the-variants.{Plain}
-use Rattle.listing.specs.Strip.{statesAfter, stateLines, orderText, stripText}
+use Rattle.run.specs.Run.{runTo}
+use Rattle.text_write.specs.Numerals.{digits, shortest, decimalOf, floatText}
+use Rattle.listing_write.specs.Lines.{headerLine, vectorText, stateLine, arrivedLine}
+use Rattle.strip_order.specs.Order.{readOrder}
+use Rattle.strip_order.specs.declared.Form.the-variants.{Plain}
+use Rattle.listing_write.specs.Strip.{statesAfter, stateLines, orderText, stripText}
 
 -- "Earth 8, others 0, moment 0, position (2, 0, 0), velocity (0, 4, 0), h 1000, DUT 0, target 0 and the book 08 00 00 00 00 00 00 00"
 pub given : List ℕ

@@ -15,26 +15,26 @@ use lib.Seq.{take-all, length-take-le, drop-append-add, drop-at}
 use Rattle.basis.specs.Choice.{if_then_else_}
 use Rattle.state.specs.declared.State.{State}
 use Rattle.book.specs.Passes.{longestBook, passes}
-use Rattle.motion.specs.Step.{Moved, On, Off, step}
-use Rattle.motion.specs.Walk.{walk}
-use Rattle.injection.specs.Injection.{launched}
+use Rattle.run.specs.Step.{Moved, On, Off, step}
+use Rattle.run.specs.Walk.{walk}
+use Rattle.gravity_stored.specs.Injection.{launched}
 use Rattle.start.specs.Start.{startRefusal}
-use Rattle.motion.specs.Run.{Reached, counted, runTo}
-use Rattle.start.proofs.Allowed.{away}
-use Rattle.motion.proofs.OneStep.{done}
-use Rattle.motion.proofs.Walks.{walkFirst}
-use Rattle.motion.proofs.Runs.{runArrived, runRefused, runOn}
-use Rattle.motion.proofs.Start.{mayWalk}
-use Rattle.listing.specs.Lines.{headerLine, stateLine, outcomeLine, loneRefusal}
-use Rattle.orders.specs.Order.{orderLength, orderOf, readOrder}
-use Rattle.listing.specs.Strip.{andThen, statesAfter, stateLines, runText, stepsTo, orderText, stripText}
-use Rattle.listing.specs.Course.{courseText}
-use Rattle.orders.specs.declared.Form.{Form}
-use Rattle.orders.specs.declared.Form.the-variants.{Plain, Whole}
-use Rattle.orders.specs.declared.Order.{Order}
-use Rattle.orders.proofs.Old as orders
-use Rattle.orders.proofs.Old.{zeros}
-use Rattle.listing.proofs.Courses.{text-goes-on}
+use Rattle.run.specs.Run.{Reached, counted, runTo}
+use Rattle.run_checks.proofs.Allowed.{away}
+use Rattle.run.proofs.OneStep.{done}
+use Rattle.run.proofs.Walks.{walkFirst}
+use Rattle.run.proofs.Runs.{runArrived, runRefused, runOn}
+use Rattle.run.proofs.Start.{mayWalk}
+use Rattle.listing_write.specs.Lines.{headerLine, stateLine, outcomeLine, loneRefusal}
+use Rattle.strip_order.specs.Order.{orderLength, orderOf, readOrder}
+use Rattle.listing_write.specs.Strip.{andThen, statesAfter, stateLines, runText, stepsTo, orderText, stripText}
+use Rattle.listing_write.specs.Course.{courseText}
+use Rattle.strip_order.specs.declared.Form.{Form}
+use Rattle.strip_order.specs.declared.Form.the-variants.{Plain, Whole}
+use Rattle.strip_order.specs.declared.Order.{Order}
+use Rattle.strip_order.proofs.Old as orders
+use Rattle.strip_order.proofs.Old.{zeros}
+use Rattle.listing_write.proofs.Courses.{text-goes-on}
 
 -- ---- the states listed are those of the plain walk, in order
 

@@ -4,19 +4,19 @@ use mathlib.Core.Bool.{true}
 use mathlib.Core.List.{List, _++_}
 use mathlib.Core.Path.{_≡_}
 use lib.ListN.{length, take, drop}
-use Rattle.basis.specs.Limits.{endOfTime}
+use Rattle.base.specs.Limits.{endOfTime}
 use Rattle.state.specs.State.{centreAllowed}
 use Rattle.state.specs.declared.State.{State}
 use Rattle.state.specs.declared.Setting.{Setting}
 use Rattle.book.specs.Passes.{passes}
 use Rattle.gravity.specs.declared.Guesses.{Guesses}
-use Rattle.motion.specs.Step.{Moved, On, Off, step}
-use Rattle.motion.specs.declared.Outcome.{Outcome}
-use Rattle.motion.specs.declared.Outcome.the-variants.{Arrived, Going, Refused}
-use Rattle.listing.specs.Lines.{stateLine, outcomeLine}
-use Rattle.listing.specs.Strip.{stepsTo}
-use Rattle.listing.specs.declared.Course.{Course}
-use Rattle.listing.specs.declared.Portion.{Portion}
+use Rattle.run.specs.Step.{Moved, On, Off, step}
+use Rattle.run.specs.declared.Outcome.{Outcome}
+use Rattle.run.specs.declared.Outcome.the-variants.{Arrived, Going, Refused}
+use Rattle.listing_write.specs.Lines.{stateLine, outcomeLine}
+use Rattle.listing_write.specs.Strip.{stepsTo}
+use Rattle.listing_write.specs.declared.Course.{Course}
+use Rattle.listing_write.specs.declared.Portion.{Portion}
 
 -- what follows the line of a state, `left` steps from the target and with `done` steps done
 abbrev pub afterStep : (State → List ℕ) → ℕ → Moved → List ℕ

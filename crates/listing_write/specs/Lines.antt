@@ -5,9 +5,9 @@ use lib.Ieee.{Float}
 use Rattle.state.specs.State.{position, velocity}
 use Rattle.state.specs.declared.Vector.{Vector}
 use Rattle.state.specs.declared.State.{State}
-use Rattle.motion.specs.declared.Outcome.{Outcome}
-use Rattle.motion.specs.declared.Outcome.the-variants.{Arrived, Going, Refused}
-use Rattle.text.specs.Numerals.{decimalOf, floatText}
+use Rattle.run.specs.declared.Outcome.{Outcome}
+use Rattle.run.specs.declared.Outcome.the-variants.{Arrived, Going, Refused}
+use Rattle.text_write.specs.Numerals.{decimalOf, floatText}
 
 abbrev pub lineFeed : List ℕ
 lineFeed = 10 ∷ []

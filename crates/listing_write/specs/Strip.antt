@@ -2,18 +2,18 @@
 use Prim.Native.Nat.{ℕ, zero, suc, _-_, _/_}
 use mathlib.Core.List.{List, [], _∷_, _++_}
 use lib.ListN.{drop}
-use Rattle.basis.specs.Choice.{if_then_else_, _=?_}
+use Rattle.base.specs.Choice.{if_then_else_, _=?_}
 use Rattle.state.specs.declared.State.{State}
-use Rattle.motion.specs.Step.{Moved, On, Off, step}
-use Rattle.injection.specs.Injection.{launched}
-use Rattle.start.specs.Start.{startRefusal}
+use Rattle.run.specs.Step.{Moved, On, Off, step}
+use Rattle.gravity_stored.specs.Injection.{launched}
+use Rattle.run_checks.specs.Start.{startRefusal}
 use Rattle.motion.specs.Run.{Reached, runTo}
-use Rattle.listing.specs.Lines.{headerLine, stateLine, outcomeLine, loneRefusal}
-use Rattle.orders.specs.Order.{orderLength, readOrder}
-use Rattle.orders.specs.declared.Form.{Form}
-use Rattle.orders.specs.declared.Order.{Order}
-use Rattle.orders.specs.declared.OrderAnswer.{OrderAnswer}
-use Rattle.orders.specs.declared.OrderAnswer.the-variants as answer
+use Rattle.listing_write.specs.Lines.{headerLine, stateLine, outcomeLine, loneRefusal}
+use Rattle.strip_order.specs.Order.{orderLength, readOrder}
+use Rattle.strip_order.specs.declared.Form.{Form}
+use Rattle.strip_order.specs.declared.Order.{Order}
+use Rattle.strip_order.specs.declared.OrderAnswer.{OrderAnswer}
+use Rattle.strip_order.specs.declared.OrderAnswer.the-variants as answer
 
 -- the states that up to n steps f reach after s, in order: a step refused ends them
 abbrev pub andThen : (State → List State) → Moved → List State

@@ -5,16 +5,16 @@ use crate::Portion;
 use crate::lines::LONGEST_LINE;
 use crate::lines::put_state;
 use gravity::Guesses;
-use motion::Outcome;
-use motion::Stepped;
-use motion::known::step_under;
+use run::Outcome;
+use run::Stepped;
+use run::inner::step_under;
 use state::Setting;
 use state::State;
 ghost use mathlib.Core.Bool.{true};
 ghost use mathlib.Core.Path.{_≡_};
 ghost use Prim.Native.Nat.{_≤_};
-ghost use Rattle.start.specs.Start.{withinSteps};
-ghost use Rattle.listing.specs.Course.{OnCourse, Advanced, startOf, portionOf};
+ghost use Rattle.run_checks.specs.Start.{withinSteps};
+ghost use Rattle.listing_write.specs.Course.{OnCourse, Advanced, startOf, portionOf};
 
 // The place from which a run of steps of h starts.
 pub fn start(state: State, h: u32, target: u64) -> Course
@@ -65,7 +65,7 @@ pub fn portion(book: &[u8], setting: Setting, h: u32, from: Course, out: &mut [u
     requires { ⌜ OnCourse (now book) setting h from ⌝ }
     ensures { λ r. ⌜ Advanced (now (book .entry)) setting h from (now (out .entry)) (now (out .exit)) r ⌝ }
 {
-    let calm = book::known::book_calm(book);
+    let calm = book::inner::book_calm(book);
     let mut now = from.state;
     let mut entries = from.entries;
     let mut left = from.left;

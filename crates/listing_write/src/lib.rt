@@ -1,10 +1,10 @@
 // The listing that the programs strip and strip144 print: its lines, and the lines of a run in portions.
 
-pub mod known;
+pub mod inner;
 pub mod lines;
 
 use gravity::Guesses;
-use motion::Outcome;
+use run::Outcome;
 use state::State;
 
 // A place of a run: the state, the entries in which to look for the bodies first, the steps left to the target and the steps done.

@@ -1,16 +1,16 @@
 // The lines of a listing, each written at a place of a lent buffer; the answer is the place after it. These are inner
 // functions: the caller knows that the room is there.
 
-use motion::Outcome;
+use run::Outcome;
 use state::State;
 use state::Vector;
-use text::known::put_bytes;
-use text::known::put_decimal;
-use text::known::put_float;
+use text_write::inner::put_bytes;
+use text_write::inner::put_decimal;
+use text_write::inner::put_float;
 ghost use Prim.Native.Nat.{_+_, _≤_};
 ghost use lib.ListN.{length};
-ghost use Rattle.text.specs.Written.{Wrote};
-ghost use Rattle.listing.specs.Lines.{numbered, spaced, vectorText, headerLine, stateLine, arrivedLine, refusedLine, outcomeLine, loneRefusal};
+ghost use Rattle.text_write.specs.Written.{Wrote};
+ghost use Rattle.listing_write.specs.Lines.{numbered, spaced, vectorText, headerLine, stateLine, arrivedLine, refusedLine, outcomeLine, loneRefusal};
 
 pub const LONGEST_LINE: usize = 123;
 

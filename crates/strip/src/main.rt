@@ -1,5 +1,5 @@
 // The program strip: the listing of document 01's order of 120 bytes and a book.
 
 fn main() {
-    stripping::strip(orders::Form::Plain);
+    strip_lines::strip(strip_order::Form::Plain);
 }

@@ -9,17 +9,17 @@ mod telling;
 
 use libc::STDIN_FILENO;
 use libc::STDOUT_FILENO;
-use listing::Course;
-use listing::known::portion;
-use listing::known::start;
-use listing::lines::put_header;
-use listing::lines::put_lone_refusal;
-use listing::lines::put_outcome;
-use listing::lines::put_state;
-use motion::Outcome;
-use orders::Form;
-use orders::Order;
-use orders::OrderAnswer;
+use listing_write::Course;
+use listing_write::inner::portion;
+use listing_write::inner::start;
+use listing_write::lines::put_header;
+use listing_write::lines::put_lone_refusal;
+use listing_write::lines::put_outcome;
+use listing_write::lines::put_state;
+use run::Outcome;
+use strip_order::Form;
+use strip_order::Order;
+use strip_order::OrderAnswer;
 use state::Setting;
 use state::State;
 use telling::tell_unread;
@@ -28,11 +28,11 @@ use telling::tell_use;
 ghost use mathlib.Core.Path.{_≡_};
 ghost use Prim.Native.Nat.{_≤_};
 ghost use lib.ListN.{length};
-ghost use Rattle.start.specs.Start.{startRefusal};
-ghost use Rattle.listing.specs.Course.{OnCourse};
+ghost use Rattle.run_checks.specs.Start.{startRefusal};
+ghost use Rattle.listing_write.specs.Course.{OnCourse};
 
 // The longest order, the longest book, and one byte more: enough to see that a book is too long.
-const LONGEST_INPUT: usize = orders::LONGEST_ORDER + book::LONGEST_BOOK + 1;
+const LONGEST_INPUT: usize = strip_order::LONGEST_ORDER + book::LONGEST_BOOK + 1;
 
 // Whether all of the text was written; if not, standard error says why.
 fn print(form: Form, part: &[u8]) -> bool {
@@ -90,8 +90,8 @@ fn print_listing(form: Form, book: &[u8], setting: Setting, from: State, h: u32,
 
 fn print_order(form: Form, book: &[u8], order: Order) {
     let setting = order.setting;
-    let from = injection::launch(book, setting, order.injection);
-    let refusal = start::start_refusal(book, setting, from, order.h, order.target);
+    let from = gravity_stored::launch(book, setting, order.injection);
+    let refusal = run_checks::start_refusal(book, setting, from, order.h, order.target);
     if refusal == 0 {
         print_listing(form, book, setting, from, order.h, order.target);
     } else {
@@ -100,10 +100,10 @@ fn print_order(form: Form, book: &[u8], order: Order) {
 }
 
 fn print_strip(form: Form, input: &[u8]) {
-    let answer = orders::read_order(form, input);
+    let answer = strip_order::read_order(form, input);
     match answer {
         OrderAnswer::Is(order) => {
-            let from = orders::order_length(form);
+            let from = strip_order::order_length(form);
             print_order(form, &input[from..], order);
         }
         OrderAnswer::Refused(refusal) => {

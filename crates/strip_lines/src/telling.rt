@@ -1,7 +1,7 @@
 // What each of the two programs tells on standard error, by its own name.
 
 use libc::STDERR_FILENO;
-use orders::Form;
+use strip_order::Form;
 
 pub fn tell_use(form: Form) {
     match form {

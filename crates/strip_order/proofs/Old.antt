@@ -8,9 +8,9 @@ use borrow.Author.Tests.{le-ltb}
 use lib.ListN.{length, getD, drop, length-append, List·getD-append}
 use lib.Seq.{getD-append-add}
 use Rattle.book.specs.Bytes.{u16At, u32At, u64At}
-use Rattle.orders.specs.Order.{orderOf, readOrder}
-use Rattle.orders.specs.declared.Order.{Order}
-use Rattle.orders.specs.declared.Form.the-variants.{Plain, Whole}
+use Rattle.strip_order.specs.Order.{orderOf, readOrder}
+use Rattle.strip_order.specs.declared.Order.{Order}
+use Rattle.strip_order.specs.declared.Form.the-variants.{Plain, Whole}
 
 -- J, A and K of zero, and what follows
 abbrev pub zeros : List ℕ → List ℕ

@@ -7,12 +7,12 @@ use native.Mathlib.Omega.{arith}
 use borrow.Author.Tests.{ltb-false}
 use lib.Dec.{ltb}
 use lib.ListN.{length}
-use Rattle.basis.specs.Choice.{if_then_else_}
-use Rattle.orders.specs.Order.{orderLength, orderOf, readOrder}
-use Rattle.orders.specs.declared.Form.{Form}
-use Rattle.orders.specs.declared.Form.the-variants.{Plain, Whole}
-use Rattle.orders.specs.declared.Order.{Order}
-use Rattle.orders.specs.declared.OrderAnswer.the-variants as answer
+use Rattle.base.specs.Choice.{if_then_else_}
+use Rattle.strip_order.specs.Order.{orderLength, orderOf, readOrder}
+use Rattle.strip_order.specs.declared.Form.{Form}
+use Rattle.strip_order.specs.declared.Form.the-variants.{Plain, Whole}
+use Rattle.strip_order.specs.declared.Order.{Order}
+use Rattle.strip_order.specs.declared.OrderAnswer.the-variants as answer
 
 -- it is all there
 pub order-there : (form : Form) (b : List ℕ) (o : Order) → readOrder form b ≡ answer.Is o → orderLength form ≤ length b

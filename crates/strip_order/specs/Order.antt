@@ -4,17 +4,17 @@
 use Prim.Native.Nat.{ℕ}
 use mathlib.Core.List.{List}
 use lib.ListN.{length}
-use Rattle.basis.specs.Choice.{if_then_else_, _<?_}
-use Rattle.basis.specs.Floats.{zero64}
+use Rattle.base.specs.Choice.{if_then_else_, _<?_}
+use Rattle.base.specs.Floats.{zero64}
 use Rattle.state.specs.declared.Injection.{Injection}
 use Rattle.state.specs.declared.Setting.{Setting}
 use Rattle.book.specs.Bytes.{u32At, u64At, floatAt}
-use Rattle.orders.specs.declared.Form.{Form}
-use Rattle.orders.specs.declared.Form.the-variants.{Plain, Whole}
-use Rattle.orders.specs.declared.Terms.{Terms}
-use Rattle.orders.specs.declared.Order.{Order}
-use Rattle.orders.specs.declared.OrderAnswer.{OrderAnswer}
-use Rattle.orders.specs.declared.OrderAnswer.the-variants.{Is, Refused}
+use Rattle.strip_order.specs.declared.Form.{Form}
+use Rattle.strip_order.specs.declared.Form.the-variants.{Plain, Whole}
+use Rattle.strip_order.specs.declared.Terms.{Terms}
+use Rattle.strip_order.specs.declared.Order.{Order}
+use Rattle.strip_order.specs.declared.OrderAnswer.{OrderAnswer}
+use Rattle.strip_order.specs.declared.OrderAnswer.the-variants.{Is, Refused}
 
 abbrev pub orderLength : Form → ℕ
 orderLength Plain = 120

@@ -10,5 +10,5 @@ pub fn float_at(order: &[u8], at: usize) -> f64
     requires { ⌜ at + 8 ≤ length (now order) ⌝ }
     ensures { λ r. ⌜ r ≡ floatAt (now (order .entry)) at ⌝ }
 {
-    fields::float_of_bits(u64_at(order, at))
+    text_read::float_of_bits(u64_at(order, at))
 }

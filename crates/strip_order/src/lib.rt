@@ -10,7 +10,7 @@ use state::Setting;
 ghost use mathlib.Core.Path.{_≡_};
 ghost use Prim.Native.Nat.{_≤_};
 ghost use lib.ListN.{length};
-ghost use Rattle.orders.specs.Order.{orderLength, termsOf, settingOf, injectionOf, orderOf, readOrder};
+ghost use Rattle.strip_order.specs.Order.{orderLength, termsOf, settingOf, injectionOf, orderOf, readOrder};
 
 // Which order an input begins with: `Plain` has 120 bytes, `Whole` 144.
 pub enum Form {

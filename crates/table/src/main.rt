@@ -8,14 +8,14 @@
 use libc::STDERR_FILENO;
 use libc::STDIN_FILENO;
 use libc::STDOUT_FILENO;
-use tabling::Standing;
-use tabling::known::finish;
-use tabling::known::portion;
-use tabling::known::put_refusal;
-use tabling::opening;
+use table_blocks::Standing;
+use table_blocks::inner::finish;
+use table_blocks::inner::portion;
+use table_blocks::inner::put_refusal;
+use table_blocks::opening;
 ghost use Prim.Native.Nat.{_≤_};
 ghost use lib.ListN.{length};
-ghost use Rattle.tabling.specs.Steps.{Stands};
+ghost use Rattle.table_blocks.specs.Steps.{Stands};
 
 // Where the reading stands, and whether all rows so far were written.
 struct Printed {

@@ -9,31 +9,31 @@ use borrow.Author.Tests.{eq-eqb, ne-eqb, ltb-true, ltb-false}
 use lib.Dec.{ltb}
 use lib.ListN.{length, take, drop, getD}
 use lib.Seq.{drop-cons}
-use Rattle.basis.specs.Choice.{if_then_else_}
-use Rattle.basis.specs.Limits.{endOfTime}
-use Rattle.text.specs.Written.{Wrote}
-use Rattle.text.proofs.Writing.{nothing, both, inside}
-use Rattle.reader.specs.declared.Row.{Row}
-use Rattle.reader.specs.declared.Line.{Line}
-use Rattle.reader.specs.declared.Line.the-variants as line
-use Rattle.reader.specs.declared.Found.{Found}
-use Rattle.reader.specs.declared.Found.the-variants.{Is, None}
-use Rattle.reader.specs.declared.Place.{Place}
-use Rattle.reader.specs.declared.Place.the-variants.{Top, First, After, Done, Off}
-use Rattle.reader.specs.declared.Scan.{Scan}
-use Rattle.reader.specs.declared.Scan.the-variants.{Start}
-use Rattle.reader.specs.Form.{linesOf, rowOf, placed, isOff}
-use Rattle.reader.specs.Bytes.{told, begun, Takes, kindsFrom}
-use Rattle.reader.proofs.Lines.{kinds-feed, kinds-byte}
+use Rattle.base.specs.Choice.{if_then_else_}
+use Rattle.base.specs.Limits.{endOfTime}
+use Rattle.text_write.specs.Written.{Wrote}
+use Rattle.text_write.proofs.Writing.{nothing, both, inside}
+use Rattle.listing_read.specs.declared.Row.{Row}
+use Rattle.listing_read.specs.declared.Line.{Line}
+use Rattle.listing_read.specs.declared.Line.the-variants as line
+use Rattle.listing_read.specs.declared.Found.{Found}
+use Rattle.listing_read.specs.declared.Found.the-variants.{Is, None}
+use Rattle.listing_read.specs.declared.Place.{Place}
+use Rattle.listing_read.specs.declared.Place.the-variants.{Top, First, After, Done, Off}
+use Rattle.listing_read.specs.declared.Scan.{Scan}
+use Rattle.listing_read.specs.declared.Scan.the-variants.{Start}
+use Rattle.listing_read.specs.Form.{linesOf, rowOf, placed, isOff}
+use Rattle.listing_read.specs.Bytes.{told, begun, Takes, kindsFrom}
+use Rattle.listing_read.proofs.Lines.{kinds-feed, kinds-byte}
 use Rattle.rows.specs.Text.{rowText, hasLarge}
-use Rattle.rows.proofs.Sizes.{row-short}
-use Rattle.tabling.specs.declared.Standing.{Standing}
-use Rattle.tabling.specs.declared.Standing.the-variants.{Going, Refused}
-use Rattle.tabling.specs.declared.Step.{Step}
+use Rattle.table_rows.proofs.Sizes.{row-short}
+use Rattle.table_blocks.specs.declared.Standing.{Standing}
+use Rattle.table_blocks.specs.declared.Standing.the-variants.{Going, Refused}
+use Rattle.table_blocks.specs.declared.Step.{Step}
 use Rattle.tabling.specs.declared.Portion.{Portion}
-use Rattle.tabling.specs.declared.End.{End}
-use Rattle.tabling.specs.Table.{Table, refusedBy, behind, stateRefusal, foundRefusal, refusalAt, foundText, atEnd, tableFrom}
-use Rattle.tabling.specs.Steps.{tableWith, Held, Stands, Fresh, Steps, Feeds, Tabled, Ends}
+use Rattle.table_blocks.specs.declared.End.{End}
+use Rattle.table_blocks.specs.Table.{Table, refusedBy, behind, stateRefusal, foundRefusal, refusalAt, foundText, atEnd, tableFrom}
+use Rattle.table_blocks.specs.Steps.{tableWith, Held, Stands, Fresh, Steps, Feeds, Tabled, Ends}
 
 pub behind-behind : (t u : List ℕ) (x : Table) → behind t (behind u x) ≡ behind (t ++ u) x
 behind-behind t u x = ap (λ (z : List ℕ). record { rows = z; number = x .number; line = x .line }) (sym (append-assoc t u (x .rows)))

@@ -4,18 +4,18 @@ use mathlib.Core.Bool.{Bool, true, false}
 use mathlib.Core.List.{List, [], _∷_, _++_}
 use mathlib.Core.Path.{_≡_}
 use lib.ListN.{length, take, drop}
-use Rattle.basis.specs.Limits.{endOfTime}
-use Rattle.text.specs.Written.{Wrote}
-use Rattle.reader.specs.declared.Place.{Place}
-use Rattle.reader.specs.declared.Place.the-variants.{Top, First, After, Done, Off}
-use Rattle.reader.specs.declared.Scan.the-variants.{Start}
-use Rattle.reader.specs.Bytes.{begun, kindsFrom}
-use Rattle.tabling.specs.declared.Standing.{Standing}
-use Rattle.tabling.specs.declared.Standing.the-variants.{Going, Refused}
-use Rattle.tabling.specs.declared.Step.{Step}
-use Rattle.tabling.specs.declared.Portion.{Portion}
-use Rattle.tabling.specs.declared.End.{End}
-use Rattle.tabling.specs.Table.{Table, refusedBy, behind, tableFrom}
+use Rattle.base.specs.Limits.{endOfTime}
+use Rattle.text_write.specs.Written.{Wrote}
+use Rattle.listing_read.specs.declared.Place.{Place}
+use Rattle.listing_read.specs.declared.Place.the-variants.{Top, First, After, Done, Off}
+use Rattle.listing_read.specs.declared.Scan.the-variants.{Start}
+use Rattle.listing_read.specs.Bytes.{begun, kindsFrom}
+use Rattle.table_blocks.specs.declared.Standing.{Standing}
+use Rattle.table_blocks.specs.declared.Standing.the-variants.{Going, Refused}
+use Rattle.table_blocks.specs.declared.Step.{Step}
+use Rattle.table_blocks.specs.declared.Portion.{Portion}
+use Rattle.table_blocks.specs.declared.End.{End}
+use Rattle.table_blocks.specs.Table.{Table, refusedBy, behind, tableFrom}
 
 -- what the rest of the text still gives
 unfoldable pub tableWith : Standing → List ℕ → Table

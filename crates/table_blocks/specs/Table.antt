@@ -3,17 +3,17 @@
 use Prim.Native.Nat.{ℕ, _+_}
 use mathlib.Core.Bool.{Bool, true, false}
 use mathlib.Core.List.{List, [], _∷_, _++_}
-use Rattle.basis.specs.Choice.{if_then_else_, _=?_}
-use Rattle.basis.specs.Limits.{isMoment}
-use Rattle.text.specs.Numerals.{decimalOf}
-use Rattle.reader.specs.declared.Row.{Row}
-use Rattle.reader.specs.declared.Line.{Line}
-use Rattle.reader.specs.declared.Found.{Found}
-use Rattle.reader.specs.declared.Found.the-variants.{Is, None}
-use Rattle.reader.specs.declared.Place.{Place}
-use Rattle.reader.specs.declared.Place.the-variants.{Top, First, After, Done, Off}
-use Rattle.reader.specs.Form.{kindsOf, rowOf, placed, isOff}
-use Rattle.rows.specs.Text.{heading, rowText, hasLarge}
+use Rattle.base.specs.Choice.{if_then_else_, _=?_}
+use Rattle.base.specs.Limits.{isMoment}
+use Rattle.text_write.specs.Numerals.{decimalOf}
+use Rattle.listing_read.specs.declared.Row.{Row}
+use Rattle.listing_read.specs.declared.Line.{Line}
+use Rattle.listing_read.specs.declared.Found.{Found}
+use Rattle.listing_read.specs.declared.Found.the-variants.{Is, None}
+use Rattle.listing_read.specs.declared.Place.{Place}
+use Rattle.listing_read.specs.declared.Place.the-variants.{Top, First, After, Done, Off}
+use Rattle.listing_read.specs.Form.{kindsOf, rowOf, placed, isOff}
+use Rattle.table_rows.specs.Text.{heading, rowText, hasLarge}
 
 -- rows, and the refusal behind them: its number and its line, or 0 and 0
 pub record Table : Type 0 where

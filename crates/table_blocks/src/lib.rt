@@ -1,16 +1,16 @@
 // The table of a listing, made byte by byte: the first line that is refused decides, and the rows before it are written.
 
-pub mod known;
+pub mod inner;
 
-use reader::Found;
-use reader::Place;
-use reader::Row;
-use reader::Scan;
-use reader::known::is_off;
-use rows::has_large;
+use listing_read::Found;
+use listing_read::Place;
+use listing_read::Row;
+use listing_read::Scan;
+use listing_read::inner::is_off;
+use table_rows::has_large;
 ghost use mathlib.Core.Path.{_≡_};
-ghost use Rattle.tabling.specs.Table.{stateRefusal, foundRefusal, refusalAt};
-ghost use Rattle.tabling.specs.Steps.{opened};
+ghost use Rattle.table_blocks.specs.Table.{stateRefusal, foundRefusal, refusalAt};
+ghost use Rattle.table_blocks.specs.Steps.{opened};
 
 // Where the reading of a listing stands: at a place, with a scan of a line of that number; or refused, by a number and a line.
 pub enum Standing {
@@ -48,7 +48,7 @@ pub fn opening() -> Standing
 fn state_refusal(row: Row) -> u64
     ensures { λ r. ⌜ r ≡ stateRefusal row ⌝ }
 {
-    if row.moment < basis::END_OF_TIME {
+    if row.moment < base::END_OF_TIME {
         if has_large(row) {
             return 17;
         }

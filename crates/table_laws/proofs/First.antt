@@ -7,21 +7,21 @@ use mathlib.Core.Path.{_≡_, refl, sym, ap, ap₂, _∙_}
 use native.Mathlib.Omega.{arith}
 use borrow.Author.Tests.{eq-eqb, ne-eqb, lt-ltb, le-ltb, eqb-true, eqb-false}
 use lib.Dec.{ltb, eqb}
-use Rattle.basis.specs.Choice.{if_then_else_}
-use Rattle.basis.specs.Limits.{endOfTime}
-use Rattle.reader.specs.declared.Row.{Row}
-use Rattle.reader.specs.declared.Line.{Line}
-use Rattle.reader.specs.declared.Line.the-variants as line
-use Rattle.reader.specs.declared.Found.{Found}
-use Rattle.reader.specs.declared.Found.the-variants.{Is, None}
-use Rattle.reader.specs.declared.Place.{Place}
-use Rattle.reader.specs.declared.Place.the-variants.{Top, First, After, Done, Off}
-use Rattle.reader.specs.Form.{kindsOf, rowOf, foundRows, placed, isOff, refusedFrom, formRefusal, rowsOf, rowsIn}
+use Rattle.base.specs.Choice.{if_then_else_}
+use Rattle.base.specs.Limits.{endOfTime}
+use Rattle.listing_read.specs.declared.Row.{Row}
+use Rattle.listing_read.specs.declared.Line.{Line}
+use Rattle.listing_read.specs.declared.Line.the-variants as line
+use Rattle.listing_read.specs.declared.Found.{Found}
+use Rattle.listing_read.specs.declared.Found.the-variants.{Is, None}
+use Rattle.listing_read.specs.declared.Place.{Place}
+use Rattle.listing_read.specs.declared.Place.the-variants.{Top, First, After, Done, Off}
+use Rattle.listing_read.specs.Form.{kindsOf, rowOf, foundRows, placed, isOff, refusedFrom, formRefusal, rowsOf, rowsIn}
 use Rattle.rows.specs.Text.{heading, rowText, hasLarge}
 use Rattle.tabling.specs.Table.{Table, over, refusedBy, behind, foundRefusal, refusalAt, foundText, atEnd, tableFrom, tableOf, refusalText, written, told}
-use Rattle.tabling.proofs.Reading.{line-told, line-refused}
+use Rattle.table_blocks.proofs.Reading.{line-told, line-refused}
 use Rattle.tabled.specs.Laws.{rowsText, foundLarge, largeFrom, comesFirst, decided, refusalOf, linesBefore, firstLarge, refusalIn}
-use Rattle.tabled.proofs.Ranges.{InRange, AllInRange, all-in-range}
+use Rattle.table_laws.proofs.Ranges.{InRange, AllInRange, all-in-range}
 
 -- ---- a line more
 

@@ -1,13 +1,13 @@
 -- Any two results that the promise of a call allows are equal. Assumes nothing.
 use mathlib.Core.Path.{refl}
 use lib.Ieee.{binary64, ofBits}
-use Rattle.basis.proofs.OneAnswer.{OneAnswer, one-answer}
-use Rattle.numeral.specs.Numeral.{isLarge}
-use Rattle.rows.specs.Text.{hasLarge}
-use Rattle.tabling.specs.Table.{refusalAt}
-use Rattle.numeral.proofs.is_large as is-large
-use Rattle.rows.proofs.has_large as has-large
-use Rattle.tabling.proofs.refusal_at as refusal-at
+use Rattle.base.proofs.OneAnswer.{OneAnswer, one-answer}
+use Rattle.text_decimal.specs.Numeral.{isLarge}
+use Rattle.table_rows.specs.Text.{hasLarge}
+use Rattle.table_blocks.specs.Table.{refusalAt}
+use Rattle.text_decimal.proofs.is_large as is-large
+use Rattle.table_rows.proofs.has_large as has-large
+use Rattle.table_blocks.proofs.refusal_at as refusal-at
 
 pub is-large-answers-once : OneAnswer is-large.ended (λ M. is-large.clauses)
 is-large-answers-once = one-answer (λ κs inputs. isLarge (ofBits binary64 (inputs .0))) (λ M 𝓤 H A mem run κs inputs g r after. refl)

@@ -6,14 +6,14 @@ use mathlib.Core.Path.{_≡_, refl, sym, ap, _∙_}
 use native.Mathlib.Omega.{arith}
 use borrow.Author.Tests.{ltb-true, leb-true}
 use lib.Dec.{ltb, leb, eqb}
-use Rattle.basis.specs.Choice.{if_then_else_}
-use Rattle.basis.specs.Limits.{endOfTime, isMoment}
+use Rattle.base.specs.Choice.{if_then_else_}
+use Rattle.base.specs.Limits.{endOfTime, isMoment}
 use Rattle.listing.specs.Lines.{stripWord, arrivedWord, refusedWord}
-use Rattle.reader.specs.declared.Row.{Row}
-use Rattle.reader.specs.declared.Line.{Line}
-use Rattle.reader.specs.declared.Line.the-variants as line
+use Rattle.listing_read.specs.declared.Row.{Row}
+use Rattle.listing_read.specs.declared.Line.{Line}
+use Rattle.listing_read.specs.declared.Line.the-variants as line
 use Rattle.reader.specs.Line.{isDecimal, hexValue, word, nothing, digits, number, headerLine, arrivedLine, refusedLine, appended, finiteBits, component, pushed, components, blank, momentFrom, stateLine, kindOf}
-use Rattle.reader.specs.Form.{linesOf, kindsOf}
+use Rattle.listing_read.specs.Form.{linesOf, kindsOf}
 
 abbrev pub InRange : Line → Type 0
 InRange (line.State r) = r .moment < endOfTime

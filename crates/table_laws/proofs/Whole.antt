@@ -3,15 +3,15 @@ use Prim.Native.Nat.{ℕ, _≤_}
 use mathlib.Core.List.{List, [], _∷_, _++_, append-assoc, append-nil}
 use mathlib.Core.Path.{_≡_, refl, sym, ap, _∙_}
 use lib.ListN.{length, take, drop, drop-of-length-le}
-use Rattle.reader.proofs.Lines.{kinds-start}
-use Rattle.reader.specs.declared.Place.the-variants.{Top}
-use Rattle.rows.specs.Text.{heading}
-use Rattle.tabling.specs.declared.Standing.{Standing}
-use Rattle.tabling.specs.declared.Standing.the-variants.{Going, Refused}
-use Rattle.tabling.specs.Table.{Table, behind, refusedBy, tableFrom, tableOf, refusalText, written, told}
-use Rattle.tabling.specs.Steps.{tableWith, opened}
-use Rattle.tabling.proofs.Reading.{behind-behind}
-use Rattle.tabled.specs.Laws.{Part, Block, bytesOf, partsText, blocksText, standingAfter, standingBehind, Portions, Blocks, MayStop, Printing, output, errors}
+use Rattle.listing_read.proofs.Lines.{kinds-start}
+use Rattle.listing_read.specs.declared.Place.the-variants.{Top}
+use Rattle.table_rows.specs.Text.{heading}
+use Rattle.table_blocks.specs.declared.Standing.{Standing}
+use Rattle.table_blocks.specs.declared.Standing.the-variants.{Going, Refused}
+use Rattle.table_blocks.specs.Table.{Table, behind, refusedBy, tableFrom, tableOf, refusalText, written, told}
+use Rattle.table_blocks.specs.Steps.{tableWith, opened}
+use Rattle.table_blocks.proofs.Reading.{behind-behind}
+use Rattle.table_laws.specs.Laws.{Part, Block, bytesOf, partsText, blocksText, standingAfter, standingBehind, Portions, Blocks, MayStop, Printing, output, errors}
 
 -- the heading, before any line is judged, and the table of all of the text behind it
 pub opened-all : (text : List ℕ) → tableOf text ≡ behind heading (tableWith opened text)

@@ -4,20 +4,20 @@ use mathlib.Core.Bool.{Bool, true, false}
 use mathlib.Core.List.{List, [], _∷_, _++_}
 use mathlib.Core.Path.{_≡_}
 use lib.ListN.{length, take}
-use Rattle.basis.specs.Choice.{if_then_else_, _<?_, _=?_}
-use Rattle.reader.specs.declared.Row.{Row}
-use Rattle.reader.specs.declared.Line.{Line}
-use Rattle.reader.specs.declared.Found.{Found}
-use Rattle.reader.specs.declared.Found.the-variants.{Is, None}
-use Rattle.reader.specs.Form.{kindsOf, rowOf, formRefusal}
-use Rattle.text.specs.Written.{Wrote}
-use Rattle.rows.specs.Text.{heading, rowText, hasLarge}
-use Rattle.tabling.specs.declared.Standing.{Standing}
-use Rattle.tabling.specs.declared.Standing.the-variants.{Going, Refused}
-use Rattle.tabling.specs.declared.Portion.{Portion}
-use Rattle.tabling.specs.declared.End.{End}
-use Rattle.tabling.specs.Table.{Table, over, refusedBy, refusalText}
-use Rattle.tabling.specs.Steps.{Tabled, Ends, opened}
+use Rattle.base.specs.Choice.{if_then_else_, _<?_, _=?_}
+use Rattle.listing_read.specs.declared.Row.{Row}
+use Rattle.listing_read.specs.declared.Line.{Line}
+use Rattle.listing_read.specs.declared.Found.{Found}
+use Rattle.listing_read.specs.declared.Found.the-variants.{Is, None}
+use Rattle.listing_read.specs.Form.{kindsOf, rowOf, formRefusal}
+use Rattle.text_write.specs.Written.{Wrote}
+use Rattle.table_rows.specs.Text.{heading, rowText, hasLarge}
+use Rattle.table_blocks.specs.declared.Standing.{Standing}
+use Rattle.table_blocks.specs.declared.Standing.the-variants.{Going, Refused}
+use Rattle.table_blocks.specs.declared.Portion.{Portion}
+use Rattle.table_blocks.specs.declared.End.{End}
+use Rattle.table_blocks.specs.Table.{Table, over, refusedBy, refusalText}
+use Rattle.table_blocks.specs.Steps.{Tabled, Ends, opened}
 
 -- a portion: the lent buffer before it and after it, and what the call answered
 pub record Part : Type 0 where

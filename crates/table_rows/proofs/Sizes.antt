@@ -6,15 +6,15 @@ use mathlib.Core.Path.{_≡_, refl, sym, ap, subst, _∙_}
 use native.Mathlib.Omega.{arith}
 use lib.ListN.{length, length-append}
 use lib.Ieee.{binary64, ofBits}
-use Rattle.basis.specs.Choice.{if_then_else_}
-use Rattle.text.specs.Written.{Wrote}
-use Rattle.reader.specs.declared.Row.{Row}
-use Rattle.numeral.specs.declared.Places.{Places}
-use Rattle.numeral.specs.declared.Places.the-variants.{Three, Six}
-use Rattle.numeral.proofs.Writing.{numeral-short}
-use Rattle.stamp.specs.Stamp.{stampText}
-use Rattle.stamp.proofs.Parts.{stamp-length}
-use Rattle.rows.specs.Text.{field, fields, rowText, large, anyLarge, hasLarge}
+use Rattle.base.specs.Choice.{if_then_else_}
+use Rattle.text_write.specs.Written.{Wrote}
+use Rattle.listing_read.specs.declared.Row.{Row}
+use Rattle.text_decimal.specs.declared.Places.{Places}
+use Rattle.text_decimal.specs.declared.Places.the-variants.{Three, Six}
+use Rattle.text_decimal.proofs.Writing.{numeral-short}
+use Rattle.text_time.specs.Stamp.{stampText}
+use Rattle.text_time.proofs.Parts.{stamp-length}
+use Rattle.table_rows.specs.Text.{field, fields, rowText, large, anyLarge, hasLarge}
 
 both-false : (p q : Bool) → (if p then true else q) ≡ false → (p ≡ false) × (q ≡ false)
 both-false true q e = absurd (true≢false e)

@@ -3,12 +3,12 @@ use Prim.Native.Nat.{ℕ}
 use mathlib.Core.Bool.{Bool, true}
 use mathlib.Core.List.{List, [], _∷_, _++_}
 use lib.Ieee.{binary64, ofBits}
-use Rattle.basis.specs.Choice.{if_then_else_}
-use Rattle.reader.specs.declared.Row.{Row}
-use Rattle.numeral.specs.declared.Places.{Places}
-use Rattle.numeral.specs.declared.Places.the-variants.{Three, Six}
-use Rattle.numeral.specs.Numeral.{numeral, isLarge}
-use Rattle.stamp.specs.Stamp.{stampText}
+use Rattle.base.specs.Choice.{if_then_else_}
+use Rattle.listing_read.specs.declared.Row.{Row}
+use Rattle.text_decimal.specs.declared.Places.{Places}
+use Rattle.text_decimal.specs.declared.Places.the-variants.{Three, Six}
+use Rattle.text_decimal.specs.Numeral.{numeral, isLarge}
+use Rattle.text_time.specs.Stamp.{stampText}
 
 -- a comma, and the end of a row: RFC 4180's CRLF
 abbrev pub comma : List ℕ

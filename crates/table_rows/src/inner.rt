@@ -1,16 +1,16 @@
 // Rows for a buffer with room for them. The writers put a text at a place of the buffer and answer the place after it.
 
-use numeral::Places;
-use numeral::known::put_numeral;
+use text_decimal::Places;
+use text_decimal::inner::put_numeral;
 use reader::Row;
-use stamp::known::put_stamp;
-use text::known::put_bytes;
+use text_time::inner::put_stamp;
+use text_write::inner::put_bytes;
 ghost use mathlib.Core.Path.{_≡_};
 ghost use mathlib.Core.Bool.{false};
 ghost use Prim.Native.Nat.{_+_, _≤_, _<_};
 ghost use lib.ListN.{length};
-ghost use Rattle.basis.specs.Limits.{endOfTime};
-ghost use Rattle.text.specs.Written.{Wrote};
+ghost use Rattle.base.specs.Limits.{endOfTime};
+ghost use Rattle.text_write.specs.Written.{Wrote};
 ghost use Rattle.rows.specs.Text.{field, fields, rowText, large, anyLarge, hasLarge};
 
 // 22 bytes at most.

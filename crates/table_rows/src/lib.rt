@@ -1,11 +1,11 @@
 // A state of a listing as a row of the table.
 
-pub mod known;
+pub mod inner;
 
-use numeral::is_large;
+use text_decimal::is_large;
 use reader::Row;
 ghost use mathlib.Core.Path.{_≡_};
-ghost use Rattle.rows.specs.Text.{anyLarge, hasLarge};
+ghost use Rattle.table_rows.specs.Text.{anyLarge, hasLarge};
 
 fn any_large(a: u64, b: u64, c: u64) -> bool
     ensures { λ r. ⌜ r ≡ anyLarge a b c ⌝ }

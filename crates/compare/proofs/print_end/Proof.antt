@@ -2,7 +2,7 @@
 use mathlib.Core.Path.{sym}
 use native.Mathlib.Omega.{arith}
 use lib.Seq.{length-take-le}
-use Rattle.text.proofs.Writing.{inside}
+use Rattle.text_write.proofs.Writing.{inside}
 use borrow.Author.Needs.{needs}
 use Rattle.compare.proofs.print_end.Statement.{statement}
 use Rattle.compare.proofs.print_end.Tie as tie

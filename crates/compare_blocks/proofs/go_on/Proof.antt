@@ -1,7 +1,7 @@
--- `sides::go_on` meets its contract. Assumes nothing.
+-- `compare_blocks::go_on` meets its contract. Assumes nothing.
 use borrow.Author.Needs.{needs}
-use Rattle.sides.proofs.go_on.Statement.{statement}
-use Rattle.sides.proofs.go_on.Tie as tie
+use Rattle.compare_blocks.proofs.go_on.Statement.{statement}
+use Rattle.compare_blocks.proofs.go_on.Tie as tie
 
 next-block-requires : tie.Need-next-block-requires
 next-block-requires c κs = search needs

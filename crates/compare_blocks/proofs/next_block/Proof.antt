@@ -1,9 +1,9 @@
--- `sides::next_block` meets its contract. Assumes nothing.
+-- `compare_blocks::next_block` meets its contract. Assumes nothing.
 use borrow.Author.Tests.{lt-ltb, le-ltb}
-use Rattle.sides.specs.Sides.{onward}
+use Rattle.compare_blocks.specs.Sides.{onward}
 use borrow.Author.Needs.{needs}
-use Rattle.sides.proofs.next_block.Statement.{statement}
-use Rattle.sides.proofs.next_block.Tie as tie
+use Rattle.compare_blocks.proofs.next_block.Statement.{statement}
+use Rattle.compare_blocks.proofs.next_block.Tie as tie
 
 returns : tie.Need-returns
 unfolding onward

@@ -2,8 +2,8 @@
 use mathlib.Core.List.{append-nil}
 use mathlib.Core.Path.{refl, sym}
 use borrow.Author.Needs.{needs}
-use Rattle.parting.proofs.next_part.Statement.{statement}
-use Rattle.parting.proofs.next_part.Tie as tie
+use Rattle.compare_report.proofs.next_part.Statement.{statement}
+use Rattle.compare_report.proofs.next_part.Tie as tie
 
 enum-told : tie.Need-enum-told
 enum-told c = search needs

@@ -1,7 +1,7 @@
--- `parting::side_of` meets its contract. Assumes nothing.
+-- `compare_report::side_of` meets its contract. Assumes nothing.
 use borrow.Author.Needs.{needs}
-use Rattle.parting.proofs.side_of.Statement.{statement}
-use Rattle.parting.proofs.side_of.Tie as tie
+use Rattle.compare_report.proofs.side_of.Statement.{statement}
+use Rattle.compare_report.proofs.side_of.Tie as tie
 
 enum-known-first : tie.Need-enum-known-first
 enum-known-first c = search needs

@@ -1,8 +1,8 @@
--- `parting::side_of_rows` meets its contract. Assumes nothing.
+-- `compare_report::side_of_rows` meets its contract. Assumes nothing.
 use borrow.Author.Tests.{lt-ltb, le-ltb}
 use borrow.Author.Needs.{needs}
-use Rattle.parting.proofs.side_of_rows.Statement.{statement}
-use Rattle.parting.proofs.side_of_rows.Tie as tie
+use Rattle.compare_report.proofs.side_of_rows.Statement.{statement}
+use Rattle.compare_report.proofs.side_of_rows.Tie as tie
 
 next-of-requires : tie.Need-next-of-requires
 next-of-requires c κs = search needs

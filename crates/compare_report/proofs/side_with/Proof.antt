@@ -1,7 +1,7 @@
--- `parting::side_with` meets its contract. Assumes nothing.
+-- `compare_report::side_with` meets its contract. Assumes nothing.
 use borrow.Author.Needs.{needs}
-use Rattle.parting.proofs.side_with.Statement.{statement}
-use Rattle.parting.proofs.side_with.Tie as tie
+use Rattle.compare_report.proofs.side_with.Statement.{statement}
+use Rattle.compare_report.proofs.side_with.Tie as tie
 
 enum-known-second : tie.Need-enum-known-second
 enum-known-second c = search needs

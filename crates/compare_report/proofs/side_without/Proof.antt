@@ -1,7 +1,7 @@
--- `parting::side_without` meets its contract. Assumes nothing.
+-- `compare_report::side_without` meets its contract. Assumes nothing.
 use borrow.Author.Needs.{needs}
-use Rattle.parting.proofs.side_without.Statement.{statement}
-use Rattle.parting.proofs.side_without.Tie as tie
+use Rattle.compare_report.proofs.side_without.Statement.{statement}
+use Rattle.compare_report.proofs.side_without.Tie as tie
 
 enum-told : tie.Need-enum-told
 enum-told c = search needs

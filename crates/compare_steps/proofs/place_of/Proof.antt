@@ -1,9 +1,9 @@
--- `steps::place_of` meets its contract. Assumes nothing.
+-- `compare_steps::place_of` meets its contract. Assumes nothing.
 use borrow.Author.Tests.{lt-ltb, le-ltb}
-use Rattle.steps.specs.Steps.{place}
+use Rattle.compare_steps.specs.Steps.{place}
 use borrow.Author.Needs.{needs}
-use Rattle.steps.proofs.place_of.Statement.{statement}
-use Rattle.steps.proofs.place_of.Tie as tie
+use Rattle.compare_steps.proofs.place_of.Statement.{statement}
+use Rattle.compare_steps.proofs.place_of.Tie as tie
 
 add-result : tie.Need-add-result
 add-result c = search needs

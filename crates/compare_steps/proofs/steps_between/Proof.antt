@@ -1,9 +1,9 @@
--- `steps::steps_between` meets its contract. Assumes nothing.
+-- `compare_steps::steps_between` meets its contract. Assumes nothing.
 use borrow.Author.Tests.{lt-ltb, le-ltb}
-use Rattle.steps.specs.Steps.{steps}
+use Rattle.compare_steps.specs.Steps.{steps}
 use borrow.Author.Needs.{needs}
-use Rattle.steps.proofs.steps_between.Statement.{statement}
-use Rattle.steps.proofs.steps_between.Tie as tie
+use Rattle.compare_steps.proofs.steps_between.Statement.{statement}
+use Rattle.compare_steps.proofs.steps_between.Tie as tie
 
 place-of-requires : tie.Need-place-of-requires
 place-of-requires c κs = search needs

@@ -1,8 +1,8 @@
--- `reader::after_byte` meets its contract. Assumes nothing.
+-- `listing_read::after_byte` meets its contract. Assumes nothing.
 use Rattle.reader.proofs.Lines.{passes-feed, passes-byte}
 use borrow.Author.Needs.{needs}
-use Rattle.reader.proofs.after_byte.Statement.{statement}
-use Rattle.reader.proofs.after_byte.Tie as tie
+use Rattle.listing_read.proofs.after_byte.Statement.{statement}
+use Rattle.listing_read.proofs.after_byte.Tie as tie
 
 returns : tie.Need-returns
 returns c = passes-feed _ _ (c .if1 .taken)

@@ -1,9 +1,9 @@
--- `reader::after_header` meets its contract: the state is the one that the line holds. Assumes nothing.
+-- `listing_read::after_header` meets its contract: the state is the one that the line holds. Assumes nothing.
 use mathlib.Core.Path.{ap, sym, _∙_}
-use Rattle.reader.specs.Form.{headed}
+use Rattle.listing_read.specs.Form.{headed}
 use borrow.Author.Needs.{needs}
-use Rattle.reader.proofs.after_header.Statement.{statement}
-use Rattle.reader.proofs.after_header.Tie as tie
+use Rattle.listing_read.proofs.after_header.Statement.{statement}
+use Rattle.listing_read.proofs.after_header.Tie as tie
 
 row-of-requires : tie.Need-row-of-requires
 row-of-requires c κs = search needs

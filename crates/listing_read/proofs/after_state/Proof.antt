@@ -1,7 +1,7 @@
--- `reader::after_state` meets its contract. Assumes nothing.
+-- `listing_read::after_state` meets its contract. Assumes nothing.
 use borrow.Author.Needs.{needs}
-use Rattle.reader.proofs.after_state.Statement.{statement}
-use Rattle.reader.proofs.after_state.Tie as tie
+use Rattle.listing_read.proofs.after_state.Statement.{statement}
+use Rattle.listing_read.proofs.after_state.Tie as tie
 
 enum-known-line : tie.Need-enum-known-line
 enum-known-line c = search needs

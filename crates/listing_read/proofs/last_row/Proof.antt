@@ -1,9 +1,9 @@
--- `reader::last_row` meets its contract. Assumes nothing.
+-- `listing_read::last_row` meets its contract. Assumes nothing.
 use mathlib.Core.Path.{ap, _∙_}
-use Rattle.reader.specs.Form.{rowOf}
+use Rattle.listing_read.specs.Form.{rowOf}
 use borrow.Author.Needs.{needs}
-use Rattle.reader.proofs.last_row.Statement.{statement}
-use Rattle.reader.proofs.last_row.Tie as tie
+use Rattle.listing_read.proofs.last_row.Statement.{statement}
+use Rattle.listing_read.proofs.last_row.Tie as tie
 
 line-end-requires : tie.Need-line-end-requires
 line-end-requires c κs = search needs

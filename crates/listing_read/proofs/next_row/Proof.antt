@@ -9,8 +9,8 @@ use Rattle.reader.specs.Form.{rowsOf}
 use Rattle.reader.specs.Bytes.{kindsFrom}
 use Rattle.reader.proofs.Lines.{finds-on}
 use borrow.Author.Needs.{needs}
-use Rattle.reader.proofs.next_row.Statement.{statement}
-use Rattle.reader.proofs.next_row.Tie as tie
+use Rattle.listing_read.proofs.next_row.Statement.{statement}
+use Rattle.listing_read.proofs.next_row.Tie as tie
 
 abbrev Inv-loop : tie.InvT-loop
 Inv-loop block at s₀ i₀ s i = (rest : List ℕ) → rowsOf (kindsFrom s₀ (drop i₀ block ++ rest)) ≡ rowsOf (kindsFrom s (drop i block ++ rest))

@@ -1,7 +1,7 @@
--- `reader::place_later` meets its contract. Assumes nothing.
+-- `listing_read::place_later` meets its contract. Assumes nothing.
 use borrow.Author.Tests.{lt-ltb, le-ltb}
-use Rattle.reader.proofs.place_later.Statement.{statement}
-use Rattle.reader.proofs.place_later.Tie as tie
+use Rattle.listing_read.proofs.place_later.Statement.{statement}
+use Rattle.listing_read.proofs.place_later.Tie as tie
 
 returns : tie.Need-returns
 returns c = rw (lt-ltb _ _ (c .if1 .taken))

@@ -1,8 +1,8 @@
--- `reader::row_here` meets its contract. Assumes nothing.
+-- `listing_read::row_here` meets its contract. Assumes nothing.
 use borrow.Author.Tests.{eq-eqb, ne-eqb}
 use borrow.Author.Needs.{needs}
-use Rattle.reader.proofs.row_here.Statement.{statement}
-use Rattle.reader.proofs.row_here.Tie as tie
+use Rattle.listing_read.proofs.row_here.Statement.{statement}
+use Rattle.listing_read.proofs.row_here.Tie as tie
 
 last-row-requires : tie.Need-last-row-requires
 last-row-requires c κs = search needs

@@ -1,7 +1,7 @@
--- `reader::row_of` meets its contract. Assumes nothing.
+-- `listing_read::row_of` meets its contract. Assumes nothing.
 use borrow.Author.Needs.{needs}
-use Rattle.reader.proofs.row_of.Statement.{statement}
-use Rattle.reader.proofs.row_of.Tie as tie
+use Rattle.listing_read.proofs.row_of.Statement.{statement}
+use Rattle.listing_read.proofs.row_of.Tie as tie
 
 enum-known-line : tie.Need-enum-known-line
 enum-known-line c = search needs

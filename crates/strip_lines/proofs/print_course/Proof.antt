@@ -1,12 +1,12 @@
--- `stripping::print_course` meets its contract: a portion that leaves the run going is nearer to the target. The measure is the number of
+-- `strip_lines::print_course` meets its contract: a portion that leaves the run going is nearer to the target. The measure is the number of
 -- steps left. Assumes nothing.
 use mathlib.Core.Path.{_≡_, refl, sym, _∙_}
 use native.Mathlib.Omega.{arith}
 use lib.ListN.{length}
 use lib.Seq.{length-take-le}
-use Rattle.listing.specs.Course.{OnCourse}
-use Rattle.stripping.proofs.print_course.Statement.{statement}
-use Rattle.stripping.proofs.print_course.Tie as tie
+use Rattle.listing_write.specs.Course.{OnCourse}
+use Rattle.strip_lines.proofs.print_course.Statement.{statement}
+use Rattle.strip_lines.proofs.print_course.Tie as tie
 
 abbrev Inv-loop : tie.InvT-loop
 Inv-loop form book setting h out₀ course₀ out course = (length out ≡ length out₀) × OnCourse book setting h course

@@ -1,15 +1,15 @@
--- `stripping::print_listing` meets its contract: the buffer holds two lines, and a run that passed starts on course. Assumes nothing.
+-- `strip_lines::print_listing` meets its contract: the buffer holds two lines, and a run that passed starts on course. Assumes nothing.
 use mathlib.Core.Path.{sym}
 use native.Mathlib.Omega.{arith}
 use lib.Seq.{length-take-le}
 use denote.Ref.{now}
-use Rattle.text.proofs.Writing.{inside}
-use Rattle.motion.proofs.Start.{mayWalk}
-use Rattle.listing.proofs.Lengths.{header-fits}
-use Rattle.listing.proofs.Courses.{starts}
+use Rattle.text_write.proofs.Writing.{inside}
+use Rattle.run.proofs.Start.{mayWalk}
+use Rattle.listing_write.proofs.Lengths.{header-fits}
+use Rattle.listing_write.proofs.Courses.{starts}
 use borrow.Author.Needs.{needs}
-use Rattle.stripping.proofs.print_listing.Statement.{statement}
-use Rattle.stripping.proofs.print_listing.Tie as tie
+use Rattle.strip_lines.proofs.print_listing.Statement.{statement}
+use Rattle.strip_lines.proofs.print_listing.Tie as tie
 
 large-buffer-requires : tie.Need-large-buffer-requires
 large-buffer-requires c κs = search needs

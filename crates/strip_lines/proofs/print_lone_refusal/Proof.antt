@@ -1,11 +1,11 @@
--- `stripping::print_lone_refusal` meets its contract: what was written lies inside the line. Assumes nothing.
+-- `strip_lines::print_lone_refusal` meets its contract: what was written lies inside the line. Assumes nothing.
 use mathlib.Core.Path.{sym}
 use native.Mathlib.Omega.{arith}
 use lib.Seq.{length-take-le}
-use Rattle.text.proofs.Writing.{inside}
+use Rattle.text_write.proofs.Writing.{inside}
 use borrow.Author.Needs.{needs}
-use Rattle.stripping.proofs.print_lone_refusal.Statement.{statement}
-use Rattle.stripping.proofs.print_lone_refusal.Tie as tie
+use Rattle.strip_lines.proofs.print_lone_refusal.Statement.{statement}
+use Rattle.strip_lines.proofs.print_lone_refusal.Tie as tie
 
 slice-aggregate-put-lone-refusal : tie.Need-slice-aggregate-put-lone-refusal
 slice-aggregate-put-lone-refusal c = search needs

@@ -1,11 +1,11 @@
--- `stripping::print_outcome` meets its contract: what was written lies inside the line. Assumes nothing.
+-- `strip_lines::print_outcome` meets its contract: what was written lies inside the line. Assumes nothing.
 use mathlib.Core.Path.{sym}
 use native.Mathlib.Omega.{arith}
 use lib.Seq.{length-take-le}
-use Rattle.text.proofs.Writing.{inside}
+use Rattle.text_write.proofs.Writing.{inside}
 use borrow.Author.Needs.{needs}
-use Rattle.stripping.proofs.print_outcome.Statement.{statement}
-use Rattle.stripping.proofs.print_outcome.Tie as tie
+use Rattle.strip_lines.proofs.print_outcome.Statement.{statement}
+use Rattle.strip_lines.proofs.print_outcome.Tie as tie
 
 slice-aggregate-put-outcome : tie.Need-slice-aggregate-put-outcome
 slice-aggregate-put-outcome c = search needs

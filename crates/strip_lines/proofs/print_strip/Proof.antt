@@ -1,9 +1,9 @@
--- `stripping::print_strip` meets its contract: an order that was read is followed by the book. Assumes nothing.
+-- `strip_lines::print_strip` meets its contract: an order that was read is followed by the book. Assumes nothing.
 use mathlib.Core.Path.{sym, _∙_}
-use Rattle.orders.proofs.Reading.{order-there}
+use Rattle.strip_order.proofs.Reading.{order-there}
 use borrow.Author.Needs.{needs}
-use Rattle.stripping.proofs.print_strip.Statement.{statement}
-use Rattle.stripping.proofs.print_strip.Tie as tie
+use Rattle.strip_lines.proofs.print_strip.Statement.{statement}
+use Rattle.strip_lines.proofs.print_strip.Tie as tie
 
 read-order-requires : tie.Need-read-order-requires
 read-order-requires c κs = search needs

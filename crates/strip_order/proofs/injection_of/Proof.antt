@@ -1,7 +1,7 @@
--- `orders::injection_of` meets its contract, field by field. Assumes nothing.
+-- `strip_order::injection_of` meets its contract, field by field. Assumes nothing.
 use borrow.Author.Needs.{needs}
-use Rattle.orders.proofs.injection_of.Statement.{statement}
-use Rattle.orders.proofs.injection_of.Tie as tie
+use Rattle.strip_order.proofs.injection_of.Statement.{statement}
+use Rattle.strip_order.proofs.injection_of.Tie as tie
 
 u64-at-requires : tie.Need-u64-at-requires
 u64-at-requires c κs = search needs

@@ -1,8 +1,8 @@
--- `orders::order_length` meets its contract. Assumes nothing.
+-- `strip_order::order_length` meets its contract. Assumes nothing.
 use mathlib.Core.Path.{refl}
 use borrow.Author.Needs.{needs}
-use Rattle.orders.proofs.order_length.Statement.{statement}
-use Rattle.orders.proofs.order_length.Tie as tie
+use Rattle.strip_order.proofs.order_length.Statement.{statement}
+use Rattle.strip_order.proofs.order_length.Tie as tie
 
 enum-told : tie.Need-enum-told
 enum-told c = search needs

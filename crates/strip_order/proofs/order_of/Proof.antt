@@ -1,8 +1,8 @@
--- `orders::order_of` meets its contract, field by field: either order has document 01's 120 bytes. Assumes nothing.
+-- `strip_order::order_of` meets its contract, field by field: either order has document 01's 120 bytes. Assumes nothing.
 use native.Mathlib.Omega.{arith}
-use Rattle.orders.proofs.Reading.{plain-there}
-use Rattle.orders.proofs.order_of.Statement.{statement}
-use Rattle.orders.proofs.order_of.Tie as tie
+use Rattle.strip_order.proofs.Reading.{plain-there}
+use Rattle.strip_order.proofs.order_of.Statement.{statement}
+use Rattle.strip_order.proofs.order_of.Tie as tie
 
 terms-of-requires : tie.Need-terms-of-requires
 terms-of-requires c κs = c .before .pre

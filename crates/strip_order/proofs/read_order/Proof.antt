@@ -1,12 +1,12 @@
--- `orders::read_order` meets its contract. Assumes nothing.
+-- `strip_order::read_order` meets its contract. Assumes nothing.
 use mathlib.Core.Path.{sym, subst}
 use Prim.Native.Nat.{ℕ, _<_, _≤_}
 use lib.ListN.{length}
 use denote.Ref.{now}
 use borrow.Author.Tests.{lt-ltb, le-ltb}
 use Rattle.orders.specs.Order.{orderLength, readOrder}
-use Rattle.orders.proofs.read_order.Statement.{statement}
-use Rattle.orders.proofs.read_order.Tie as tie
+use Rattle.strip_order.proofs.read_order.Statement.{statement}
+use Rattle.strip_order.proofs.read_order.Tie as tie
 
 order-length-requires : tie.Need-order-length-requires
 order-length-requires c κs = tt

@@ -1,7 +1,7 @@
--- `orders::setting_of` meets its contract, field by field. Assumes nothing.
+-- `strip_order::setting_of` meets its contract, field by field. Assumes nothing.
 use borrow.Author.Needs.{needs}
-use Rattle.orders.proofs.setting_of.Statement.{statement}
-use Rattle.orders.proofs.setting_of.Tie as tie
+use Rattle.strip_order.proofs.setting_of.Statement.{statement}
+use Rattle.strip_order.proofs.setting_of.Tie as tie
 
 float-at-requires : tie.Need-float-at-requires
 float-at-requires c κs = search needs

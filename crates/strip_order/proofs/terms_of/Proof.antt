@@ -1,10 +1,10 @@
--- `orders::terms_of` meets its contract: a whole order has 144 bytes. Assumes nothing.
+-- `strip_order::terms_of` meets its contract: a whole order has 144 bytes. Assumes nothing.
 use mathlib.Core.Path.{refl}
 use native.Mathlib.Omega.{arith}
 use borrow.Author.Needs.{needs}
-use Rattle.orders.proofs.Reading.{whole-there}
-use Rattle.orders.proofs.terms_of.Statement.{statement}
-use Rattle.orders.proofs.terms_of.Tie as tie
+use Rattle.strip_order.proofs.Reading.{whole-there}
+use Rattle.strip_order.proofs.terms_of.Statement.{statement}
+use Rattle.strip_order.proofs.terms_of.Tie as tie
 
 enum-told : tie.Need-enum-told
 enum-told c = search needs

@@ -4,7 +4,7 @@ use mathlib.Core.Path.{_≡_, refl, sym, _∙_}
 use native.Mathlib.Omega.{arith}
 use lib.ListN.{length}
 use lib.Seq.{length-take-le}
-use Rattle.tabling.specs.Steps.{Stands}
+use Rattle.table_blocks.specs.Steps.{Stands}
 use Rattle.table.proofs.print_block.Statement.{statement}
 use Rattle.table.proofs.print_block.Tie as tie
 use Rattle.table.proofs.print_block.Reads as reads

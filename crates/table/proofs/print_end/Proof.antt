@@ -4,7 +4,7 @@ use mathlib.Core.Path.{_≡_, refl, sym, _∙_}
 use native.Mathlib.Omega.{arith}
 use lib.ListN.{length}
 use lib.Seq.{length-take-le}
-use Rattle.text.proofs.Writing.{inside}
+use Rattle.text_write.proofs.Writing.{inside}
 use borrow.Author.Needs.{needs}
 use Rattle.table.proofs.print_end.Statement.{statement}
 use Rattle.table.proofs.print_end.Tie as tie

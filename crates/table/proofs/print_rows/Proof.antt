@@ -4,8 +4,8 @@ use Prim.Native.Nat.{_≤_}
 use native.Mathlib.Omega.{arith}
 use borrow.Author.Needs.{needs}
 use lib.ListN.{length}
-use Rattle.tabling.specs.Steps.{Stands}
-use Rattle.tabling.proofs.Reading.{going-stands}
+use Rattle.table_blocks.specs.Steps.{Stands}
+use Rattle.table_blocks.proofs.Reading.{going-stands}
 use Rattle.table.proofs.print_rows.Statement.{statement}
 use Rattle.table.proofs.print_rows.Tie as tie
 use Rattle.table.proofs.print_rows.Reads as reads

@@ -1,7 +1,7 @@
--- `tabling::found_refusal` meets its contract. Assumes nothing.
+-- `table_blocks::found_refusal` meets its contract. Assumes nothing.
 use borrow.Author.Needs.{needs}
-use Rattle.tabling.proofs.found_refusal.Statement.{statement}
-use Rattle.tabling.proofs.found_refusal.Tie as tie
+use Rattle.table_blocks.proofs.found_refusal.Statement.{statement}
+use Rattle.table_blocks.proofs.found_refusal.Tie as tie
 use Rattle.tabling.proofs.found_refusal.Reads as reads
 use Rattle.tabling.proofs.found_refusal.Lts as lts
 use Rattle.tabling.proofs.state_refusal.Reads as state-refusal-reads

@@ -1,8 +1,8 @@
--- `tabling::state_refusal` meets its contract. Assumes nothing.
+-- `table_blocks::state_refusal` meets its contract. Assumes nothing.
 use borrow.Author.Tests.{lt-ltb, le-ltb}
 use borrow.Author.Needs.{needs}
-use Rattle.tabling.proofs.state_refusal.Statement.{statement}
-use Rattle.tabling.proofs.state_refusal.Tie as tie
+use Rattle.table_blocks.proofs.state_refusal.Statement.{statement}
+use Rattle.table_blocks.proofs.state_refusal.Tie as tie
 use Rattle.tabling.proofs.state_refusal.Reads as reads
 use Rattle.tabling.proofs.state_refusal.Lts as lts
 use Rattle.rows.proofs.has_large.Reads as has-large-reads

@@ -1,7 +1,7 @@
--- `rows::any_large` meets its contract. Assumes nothing.
+-- `table_rows::any_large` meets its contract. Assumes nothing.
 use borrow.Author.Needs.{needs}
-use Rattle.rows.proofs.any_large.Statement.{statement}
-use Rattle.rows.proofs.any_large.Tie as tie
+use Rattle.table_rows.proofs.any_large.Statement.{statement}
+use Rattle.table_rows.proofs.any_large.Tie as tie
 use Rattle.rows.proofs.any_large.Reads as reads
 use Rattle.rows.proofs.any_large.Lts as lts
 use Rattle.numeral.proofs.is_large.Reads as is-large-reads

@@ -1,8 +1,8 @@
--- `rows::has_large` meets its contract. Assumes nothing.
-use Rattle.rows.specs.Text.{hasLarge}
+-- `table_rows::has_large` meets its contract. Assumes nothing.
+use Rattle.table_rows.specs.Text.{hasLarge}
 use borrow.Author.Needs.{needs}
-use Rattle.rows.proofs.has_large.Statement.{statement}
-use Rattle.rows.proofs.has_large.Tie as tie
+use Rattle.table_rows.proofs.has_large.Statement.{statement}
+use Rattle.table_rows.proofs.has_large.Tie as tie
 use Rattle.rows.proofs.has_large.Reads as reads
 use Rattle.rows.proofs.has_large.Lts as lts
 use Rattle.rows.proofs.any_large.Reads as any-large-reads

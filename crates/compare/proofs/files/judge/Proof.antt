@@ -3,7 +3,7 @@ use Prim.Native.Nat.{ℕ, _+_, _-_, _<_, _≤_}
 use mathlib.Core.Path.{_≡_, refl, sym, _∙_}
 use native.Mathlib.Omega.{arith}
 use lib.ListN.{length}
-use Rattle.reader.specs.Bytes.{Counted}
+use Rattle.listing_read.specs.Bytes.{Counted}
 use Rattle.compare.proofs.Standing.{counted}
 use Rattle.compare.proofs.files.judge.Statement.{statement}
 use Rattle.compare.proofs.files.judge.Tie as tie

@@ -4,7 +4,7 @@ use mathlib.Core.Path.{_≡_, refl, sym, _∙_}
 use native.Mathlib.Omega.{arith}
 use lib.ListN.{length}
 use lib.Seq.{length-take-le}
-use Rattle.sides.proofs.Readings.{shut-open}
+use Rattle.compare_blocks.proofs.Readings.{shut-open}
 use Rattle.compare.proofs.Standing.{Blocks, part-shut, next-shut}
 use Rattle.compare.proofs.states.print_states.Statement.{statement}
 use Rattle.compare.proofs.states.print_states.Tie as tie

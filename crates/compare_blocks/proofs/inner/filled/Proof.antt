@@ -1,9 +1,9 @@
--- `sides::known::filled` meets its contract. Assumes nothing.
+-- `compare_blocks::inner::filled` meets its contract. Assumes nothing.
 use mathlib.Core.Path.{sym, _∙_}
-use Rattle.sides.proofs.Readings.{stays}
+use Rattle.compare_blocks.proofs.Readings.{stays}
 use borrow.Author.Needs.{needs}
-use Rattle.sides.proofs.known.filled.Statement.{statement}
-use Rattle.sides.proofs.known.filled.Tie as tie
+use Rattle.compare_blocks.proofs.inner.filled.Statement.{statement}
+use Rattle.compare_blocks.proofs.inner.filled.Tie as tie
 
 waits-requires : tie.Need-waits-requires
 waits-requires c κs = search needs

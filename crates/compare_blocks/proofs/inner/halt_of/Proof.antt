@@ -1,7 +1,7 @@
--- `sides::known::halt_of` meets its contract. Assumes nothing.
+-- `compare_blocks::inner::halt_of` meets its contract. Assumes nothing.
 use borrow.Author.Needs.{needs}
-use Rattle.sides.proofs.known.halt_of.Statement.{statement}
-use Rattle.sides.proofs.known.halt_of.Tie as tie
+use Rattle.compare_blocks.proofs.inner.halt_of.Statement.{statement}
+use Rattle.compare_blocks.proofs.inner.halt_of.Tie as tie
 
 waits-requires : tie.Need-waits-requires
 waits-requires c κs = search needs

@@ -1,7 +1,7 @@
--- `sides::known::leave` meets its contract. Assumes nothing.
+-- `compare_blocks::inner::leave` meets its contract. Assumes nothing.
 use borrow.Author.Needs.{needs}
-use Rattle.sides.proofs.known.leave.Statement.{statement}
-use Rattle.sides.proofs.known.leave.Tie as tie
+use Rattle.compare_blocks.proofs.inner.leave.Statement.{statement}
+use Rattle.compare_blocks.proofs.inner.leave.Tie as tie
 
 returns : tie.Need-returns
 returns c = rw (c .if1 .taken)

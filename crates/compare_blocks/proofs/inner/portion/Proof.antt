@@ -1,12 +1,12 @@
--- `sides::known::portion` meets its contract: at the loop's test the bytes written and the report on the states to come make up the whole
+-- `compare_blocks::inner::portion` meets its contract: at the loop's test the bytes written and the report on the states to come make up the whole
 -- (`Beside`). The measure is the number of states to come in both blocks. Assumes nothing.
 use mathlib.Core.Path.{_≡_, refl, sym, ap, _∙_}
 use native.Mathlib.Omega.{arith}
 use lib.ListN.{length}
-use Rattle.sides.specs.Sides.{stops}
-use Rattle.sides.proofs.Portions.{Beside, begins, fills, turns, stands, is-full, ahead, fewer-ahead}
-use Rattle.sides.proofs.known.portion.Statement.{statement}
-use Rattle.sides.proofs.known.portion.Tie as tie
+use Rattle.compare_blocks.specs.Sides.{stops}
+use Rattle.compare_blocks.proofs.Portions.{Beside, begins, fills, turns, stands, is-full, ahead, fewer-ahead}
+use Rattle.compare_blocks.proofs.inner.portion.Statement.{statement}
+use Rattle.compare_blocks.proofs.inner.portion.Tie as tie
 
 abbrev Inv-loop : tie.InvT-loop
 Inv-loop a b out₀ first₀ second₀ at₀ out first second at = (length out ≡ length out₀) × Beside a b first₀ second₀ out₀ first second out at

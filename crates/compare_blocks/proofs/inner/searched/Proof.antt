@@ -1,9 +1,9 @@
--- `sides::known::searched` meets its contract. Assumes nothing.
+-- `compare_blocks::inner::searched` meets its contract. Assumes nothing.
 use mathlib.Core.Path.{refl}
-use Rattle.sides.proofs.Readings.{looks}
+use Rattle.compare_blocks.proofs.Readings.{looks}
 use borrow.Author.Needs.{needs}
-use Rattle.sides.proofs.known.searched.Statement.{statement}
-use Rattle.sides.proofs.known.searched.Tie as tie
+use Rattle.compare_blocks.proofs.inner.searched.Statement.{statement}
+use Rattle.compare_blocks.proofs.inner.searched.Tie as tie
 
 next-row-requires : tie.Need-next-row-requires
 next-row-requires c κs = search needs

@@ -1,14 +1,14 @@
--- `parting::same::line_length` meets its contract: before i there is no line feed. Assumes nothing.
+-- `compare_report::same::line_length` meets its contract: before i there is no line feed. Assumes nothing.
 use Prim.Native.Nat.{_+_, _-_, _≤_}
 use mathlib.Core.Path.{_≡_, refl}
 use native.Mathlib.Omega.{arith}
 use lib.ListN.{length, drop}
 use denote.Ref.{now}
-use Rattle.parting.specs.Report.{untilFeed}
-use Rattle.parting.proofs.Alike.{feed-end, feed-here, feed-on}
+use Rattle.compare_report.specs.Report.{untilFeed}
+use Rattle.compare_report.proofs.Alike.{feed-end, feed-here, feed-on}
 use borrow.Author.Needs.{needs}
-use Rattle.parting.proofs.same.line_length.Statement.{statement}
-use Rattle.parting.proofs.same.line_length.Tie as tie
+use Rattle.compare_report.proofs.same.line_length.Statement.{statement}
+use Rattle.compare_report.proofs.same.line_length.Tie as tie
 
 abbrev Inv-loop : tie.InvT-loop
 Inv-loop block i₀ i = (i ≤ length block) × (i + length (untilFeed (drop i block)) ≡ length (untilFeed block))

@@ -1,14 +1,14 @@
--- `parting::same::same_bytes` meets its contract: the first i bytes are the same. Assumes nothing.
+-- `compare_report::same::same_bytes` meets its contract: the first i bytes are the same. Assumes nothing.
 use Prim.Native.Nat.{_-_, _≤_}
 use mathlib.Core.Path.{_≡_, refl, sym, _∙_}
 use native.Mathlib.Omega.{arith}
 use lib.ListN.{length, drop}
 use denote.Ref.{now}
-use Rattle.parting.specs.Report.{same}
-use Rattle.parting.proofs.Alike.{lengths-differ, same-end, same-on, same-not}
+use Rattle.compare_report.specs.Report.{same}
+use Rattle.compare_report.proofs.Alike.{lengths-differ, same-end, same-on, same-not}
 use borrow.Author.Needs.{needs}
-use Rattle.parting.proofs.same.same_bytes.Statement.{statement}
-use Rattle.parting.proofs.same.same_bytes.Tie as tie
+use Rattle.compare_report.proofs.same.same_bytes.Statement.{statement}
+use Rattle.compare_report.proofs.same.same_bytes.Tie as tie
 
 abbrev Inv-loop : tie.InvT-loop
 Inv-loop a b i₀ i = (i ≤ length a) × (same (drop i a) (drop i b) ≡ same a b)

@@ -1,8 +1,8 @@
--- `reporting::known::put_component` meets its contract. Assumes nothing.
-use Rattle.parting.proofs.Puts.{bits-same, bits-differ}
+-- `compare_text::inner::put_component` meets its contract. Assumes nothing.
+use Rattle.compare_report.proofs.Puts.{bits-same, bits-differ}
 use borrow.Author.Needs.{needs}
-use Rattle.reporting.proofs.known.put_component.Statement.{statement}
-use Rattle.reporting.proofs.known.put_component.Tie as tie
+use Rattle.compare_text.proofs.inner.put_component.Statement.{statement}
+use Rattle.compare_text.proofs.inner.put_component.Tie as tie
 
 returns : tie.Need-returns
 returns c = bits-same _ _ _ _ _ _ (c .if1 .taken)

@@ -1,10 +1,10 @@
--- `reporting::known::put_diff` meets its contract: three texts, one after the other. Assumes nothing.
+-- `compare_text::inner::put_diff` meets its contract: three texts, one after the other. Assumes nothing.
 use native.Mathlib.Omega.{arith}
-use Rattle.parting.specs.Report.{diffLine}
-use Rattle.parting.proofs.Puts.{joined, ended}
+use Rattle.compare_report.specs.Report.{diffLine}
+use Rattle.compare_report.proofs.Puts.{joined, ended}
 use borrow.Author.Needs.{needs}
-use Rattle.reporting.proofs.known.put_diff.Statement.{statement}
-use Rattle.reporting.proofs.known.put_diff.Tie as tie
+use Rattle.compare_text.proofs.inner.put_diff.Statement.{statement}
+use Rattle.compare_text.proofs.inner.put_diff.Tie as tie
 
 slice-aggregate-put-numbered : tie.Need-slice-aggregate-put-numbered
 slice-aggregate-put-numbered c = search needs

@@ -1,10 +1,10 @@
--- `reporting::known::put_end` meets its contract. Assumes nothing.
+-- `compare_text::inner::put_end` meets its contract. Assumes nothing.
 use native.Mathlib.Omega.{arith}
-use Rattle.parting.specs.Report.{sameLine}
+use Rattle.compare_report.specs.Report.{sameLine}
 use Rattle.parting.proofs.Puts.{none, wider, ended}
 use borrow.Author.Needs.{needs}
-use Rattle.reporting.proofs.known.put_end.Statement.{statement}
-use Rattle.reporting.proofs.known.put_end.Tie as tie
+use Rattle.compare_text.proofs.inner.put_end.Statement.{statement}
+use Rattle.compare_text.proofs.inner.put_end.Tie as tie
 
 returns : tie.Need-returns
 returns c = rw (c .if1 .taken) (none _ _ 300)

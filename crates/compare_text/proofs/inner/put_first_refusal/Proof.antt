@@ -1,11 +1,11 @@
--- `reporting::known::put_first_refusal` meets its contract: the first listing first. Assumes nothing.
+-- `compare_text::inner::put_first_refusal` meets its contract: the first listing first. Assumes nothing.
 use native.Mathlib.Omega.{arith}
 use borrow.Author.Tests.{lt-ltb, le-ltb}
-use Rattle.parting.specs.Report.{firstRefusal}
-use Rattle.parting.proofs.Puts.{none, wider}
+use Rattle.compare_report.specs.Report.{firstRefusal}
+use Rattle.compare_report.proofs.Puts.{none, wider}
 use borrow.Author.Needs.{needs}
-use Rattle.reporting.proofs.known.put_first_refusal.Statement.{statement}
-use Rattle.reporting.proofs.known.put_first_refusal.Tie as tie
+use Rattle.compare_text.proofs.inner.put_first_refusal.Statement.{statement}
+use Rattle.compare_text.proofs.inner.put_first_refusal.Tie as tie
 
 slice-aggregate-put-two : tie.Need-slice-aggregate-put-two
 slice-aggregate-put-two c = search needs

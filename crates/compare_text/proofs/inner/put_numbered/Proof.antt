@@ -1,10 +1,10 @@
--- `reporting::known::put_numbered` meets its contract: two texts, one after the other. Assumes nothing.
+-- `compare_text::inner::put_numbered` meets its contract: two texts, one after the other. Assumes nothing.
 use native.Mathlib.Omega.{arith}
-use Rattle.text.proofs.Writing.{both}
-use Rattle.text.proofs.Decimal.{decimal-fits}
+use Rattle.text_write.proofs.Writing.{both}
+use Rattle.text_write.proofs.Decimal.{decimal-fits}
 use borrow.Author.Needs.{needs}
-use Rattle.reporting.proofs.known.put_numbered.Statement.{statement}
-use Rattle.reporting.proofs.known.put_numbered.Tie as tie
+use Rattle.compare_text.proofs.inner.put_numbered.Statement.{statement}
+use Rattle.compare_text.proofs.inner.put_numbered.Tie as tie
 
 put-bytes-requires : tie.Need-put-bytes-requires
 put-bytes-requires c κs = search needs

@@ -1,9 +1,9 @@
--- `reporting::known::put_one` meets its contract: six texts, one after the other. Assumes nothing.
+-- `compare_text::inner::put_one` meets its contract: six texts, one after the other. Assumes nothing.
 use native.Mathlib.Omega.{arith}
-use Rattle.parting.proofs.Puts.{joined, one-text}
+use Rattle.compare_report.proofs.Puts.{joined, one-text}
 use borrow.Author.Needs.{needs}
-use Rattle.reporting.proofs.known.put_one.Statement.{statement}
-use Rattle.reporting.proofs.known.put_one.Tie as tie
+use Rattle.compare_text.proofs.inner.put_one.Statement.{statement}
+use Rattle.compare_text.proofs.inner.put_one.Tie as tie
 
 put-component-requires : tie.Need-put-component-requires
 put-component-requires c κs = search needs

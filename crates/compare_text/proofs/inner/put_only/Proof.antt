@@ -1,9 +1,9 @@
--- `reporting::known::put_only` meets its contract. Assumes nothing.
+-- `compare_text::inner::put_only` meets its contract. Assumes nothing.
 use native.Mathlib.Omega.{arith}
-use Rattle.parting.proofs.Puts.{wider, only-text}
+use Rattle.compare_report.proofs.Puts.{wider, only-text}
 use borrow.Author.Needs.{needs}
-use Rattle.reporting.proofs.known.put_only.Statement.{statement}
-use Rattle.reporting.proofs.known.put_only.Tie as tie
+use Rattle.compare_text.proofs.inner.put_only.Statement.{statement}
+use Rattle.compare_text.proofs.inner.put_only.Tie as tie
 
 slice-aggregate-put-two : tie.Need-slice-aggregate-put-two
 slice-aggregate-put-two c = search needs

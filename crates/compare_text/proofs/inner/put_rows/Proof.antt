@@ -1,8 +1,8 @@
 -- `reporting::known::put_rows` meets its contract, as the moments stand. Assumes nothing.
 use borrow.Author.Tests.{lt-ltb, le-ltb}
 use borrow.Author.Needs.{needs}
-use Rattle.reporting.proofs.known.put_rows.Statement.{statement}
-use Rattle.reporting.proofs.known.put_rows.Tie as tie
+use Rattle.compare_text.proofs.inner.put_rows.Statement.{statement}
+use Rattle.compare_text.proofs.inner.put_rows.Tie as tie
 
 put-only-requires : tie.Need-put-only-requires
 put-only-requires c κs = search needs

@@ -1,9 +1,9 @@
--- `reporting::known::put_steps` meets its contract, name by name. Assumes nothing.
+-- `compare_text::inner::put_steps` meets its contract, name by name. Assumes nothing.
 use native.Mathlib.Omega.{arith}
-use Rattle.parting.proofs.Puts.{wider}
+use Rattle.compare_report.proofs.Puts.{wider}
 use borrow.Author.Needs.{needs}
-use Rattle.reporting.proofs.known.put_steps.Statement.{statement}
-use Rattle.reporting.proofs.known.put_steps.Tie as tie
+use Rattle.compare_text.proofs.inner.put_steps.Statement.{statement}
+use Rattle.compare_text.proofs.inner.put_steps.Tie as tie
 
 enum-told : tie.Need-enum-told
 enum-told c = search needs

@@ -1,7 +1,7 @@
--- `reporting::known::put_turn` meets its contract. Assumes nothing.
+-- `compare_text::inner::put_turn` meets its contract. Assumes nothing.
 use borrow.Author.Needs.{needs}
-use Rattle.reporting.proofs.known.put_turn.Statement.{statement}
-use Rattle.reporting.proofs.known.put_turn.Tie as tie
+use Rattle.compare_text.proofs.inner.put_turn.Statement.{statement}
+use Rattle.compare_text.proofs.inner.put_turn.Tie as tie
 
 enum-known-first : tie.Need-enum-known-first
 enum-known-first c = search needs

@@ -1,13 +1,13 @@
--- `reporting::known::put_two` meets its contract: three texts, one after the other. Assumes nothing.
+-- `compare_text::inner::put_two` meets its contract: three texts, one after the other. Assumes nothing.
 use Prim.Native.Nat.{_+_}
 use native.Mathlib.Omega.{arith}
 use lib.ListN.{length}
 use denote.Ref.{now}
-use Rattle.parting.specs.Report.{twoNumbers}
-use Rattle.parting.proofs.Puts.{joined, ended}
+use Rattle.compare_report.specs.Report.{twoNumbers}
+use Rattle.compare_report.proofs.Puts.{joined, ended}
 use borrow.Author.Needs.{needs}
-use Rattle.reporting.proofs.known.put_two.Statement.{statement}
-use Rattle.reporting.proofs.known.put_two.Tie as tie
+use Rattle.compare_text.proofs.inner.put_two.Statement.{statement}
+use Rattle.compare_text.proofs.inner.put_two.Tie as tie
 
 put-numbered-requires : tie.Need-put-numbered-requires
 put-numbered-requires c κs = search needs

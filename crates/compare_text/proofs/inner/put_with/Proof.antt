@@ -1,7 +1,7 @@
--- `reporting::known::put_with` meets its contract. Assumes nothing.
+-- `compare_text::inner::put_with` meets its contract. Assumes nothing.
 use borrow.Author.Needs.{needs}
-use Rattle.reporting.proofs.known.put_with.Statement.{statement}
-use Rattle.reporting.proofs.known.put_with.Tie as tie
+use Rattle.compare_text.proofs.inner.put_with.Statement.{statement}
+use Rattle.compare_text.proofs.inner.put_with.Tie as tie
 
 enum-known-second : tie.Need-enum-known-second
 enum-known-second c = search needs

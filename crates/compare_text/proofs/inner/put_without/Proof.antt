@@ -1,9 +1,9 @@
--- `reporting::known::put_without` meets its contract. Assumes nothing.
-use Rattle.parting.specs.Report.{textOf}
-use Rattle.parting.proofs.Puts.{none}
+-- `compare_text::inner::put_without` meets its contract. Assumes nothing.
+use Rattle.compare_report.specs.Report.{textOf}
+use Rattle.compare_report.proofs.Puts.{none}
 use borrow.Author.Needs.{needs}
-use Rattle.reporting.proofs.known.put_without.Statement.{statement}
-use Rattle.reporting.proofs.known.put_without.Tie as tie
+use Rattle.compare_text.proofs.inner.put_without.Statement.{statement}
+use Rattle.compare_text.proofs.inner.put_without.Tie as tie
 
 enum-known-second : tie.Need-enum-known-second
 enum-known-second c = search needs

@@ -1,7 +1,7 @@
--- `reader::known::closed_verdict` meets its contract. Assumes nothing.
+-- `listing_read::inner::closed_verdict` meets its contract. Assumes nothing.
 use borrow.Author.Needs.{needs}
-use Rattle.reader.proofs.known.closed_verdict.Statement.{statement}
-use Rattle.reader.proofs.known.closed_verdict.Tie as tie
+use Rattle.listing_read.proofs.inner.closed_verdict.Statement.{statement}
+use Rattle.listing_read.proofs.inner.closed_verdict.Tie as tie
 
 missing-line-requires : tie.Need-missing-line-requires
 missing-line-requires c κs = search needs

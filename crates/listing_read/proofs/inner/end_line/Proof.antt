@@ -1,7 +1,7 @@
--- `reader::known::end_line` meets its contract. Assumes nothing.
+-- `listing_read::inner::end_line` meets its contract. Assumes nothing.
 use borrow.Author.Needs.{needs}
-use Rattle.reader.proofs.known.end_line.Statement.{statement}
-use Rattle.reader.proofs.known.end_line.Tie as tie
+use Rattle.listing_read.proofs.inner.end_line.Statement.{statement}
+use Rattle.listing_read.proofs.inner.end_line.Tie as tie
 
 line-end-requires : tie.Need-line-end-requires
 line-end-requires c κs = search needs

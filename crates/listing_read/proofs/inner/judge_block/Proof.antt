@@ -5,11 +5,11 @@ use native.Mathlib.Omega.{arith}
 use lib.ListN.{length, take}
 use lib.Seq.{take-suc, take-all, length-take-le}
 use denote.Ref.{now}
-use Rattle.reader.specs.Bytes.{Goes}
+use Rattle.listing_read.specs.Bytes.{Goes}
 use Rattle.reader.proofs.Judging.{goes-nowhere, goes-on}
 use borrow.Author.Needs.{needs}
-use Rattle.reader.proofs.known.judge_block.Statement.{statement}
-use Rattle.reader.proofs.known.judge_block.Tie as tie
+use Rattle.listing_read.proofs.inner.judge_block.Statement.{statement}
+use Rattle.listing_read.proofs.inner.judge_block.Tie as tie
 
 abbrev Inv-loop : tie.InvT-loop
 Inv-loop block j₀ i₀ j i = (i ≤ length block) × Goes j₀ (take i block) j

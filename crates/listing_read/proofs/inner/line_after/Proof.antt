@@ -1,7 +1,7 @@
--- `reader::known::line_after` meets its contract. Assumes nothing.
+-- `listing_read::inner::line_after` meets its contract. Assumes nothing.
 use borrow.Author.Needs.{needs}
-use Rattle.reader.proofs.known.line_after.Statement.{statement}
-use Rattle.reader.proofs.known.line_after.Tie as tie
+use Rattle.listing_read.proofs.inner.line_after.Statement.{statement}
+use Rattle.listing_read.proofs.inner.line_after.Tie as tie
 
 is-off-requires : tie.Need-is-off-requires
 is-off-requires c κs = search needs

@@ -1,11 +1,11 @@
--- `reader::known::verdict` meets its contract: a line that has begun ends with the text. Assumes nothing.
+-- `listing_read::inner::verdict` meets its contract: a line that has begun ends with the text. Assumes nothing.
 use mathlib.Core.Path.{sym, ap, _∙_}
 use native.Mathlib.Omega.{arith}
-use Rattle.reader.specs.Bytes.{closed}
-use Rattle.reader.proofs.Judging.{ends-between, ends-inside}
+use Rattle.listing_read.specs.Bytes.{closed}
+use Rattle.listing_read.proofs.Judging.{ends-between, ends-inside}
 use borrow.Author.Needs.{needs}
-use Rattle.reader.proofs.known.verdict.Statement.{statement}
-use Rattle.reader.proofs.known.verdict.Tie as tie
+use Rattle.listing_read.proofs.inner.verdict.Statement.{statement}
+use Rattle.listing_read.proofs.inner.verdict.Tie as tie
 
 has-begun-requires : tie.Need-has-begun-requires
 has-begun-requires c κs = search needs

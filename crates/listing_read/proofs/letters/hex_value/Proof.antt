@@ -1,9 +1,9 @@
--- `reader::letters::hex_value` meets its contract, range by range. Assumes nothing.
+-- `listing_read::letters::hex_value` meets its contract, range by range. Assumes nothing.
 use native.Mathlib.Omega.{arith}
 use borrow.Author.Tests.{le-leb, lt-leb}
 use borrow.Author.Needs.{needs}
-use Rattle.reader.proofs.letters.hex_value.Statement.{statement}
-use Rattle.reader.proofs.letters.hex_value.Tie as tie
+use Rattle.listing_read.proofs.letters.hex_value.Statement.{statement}
+use Rattle.listing_read.proofs.letters.hex_value.Tie as tie
 
 returns : tie.Need-returns
 returns c = let b = c .before .args .b in rw (lt-leb 48 b (omega arith), lt-leb 97 b (omega arith))

@@ -1,7 +1,7 @@
--- `reader::letters::is_decimal` meets its contract. Assumes nothing.
+-- `listing_read::letters::is_decimal` meets its contract. Assumes nothing.
 use borrow.Author.Tests.{le-leb, lt-leb}
-use Rattle.reader.proofs.letters.is_decimal.Statement.{statement}
-use Rattle.reader.proofs.letters.is_decimal.Tie as tie
+use Rattle.listing_read.proofs.letters.is_decimal.Statement.{statement}
+use Rattle.listing_read.proofs.letters.is_decimal.Tie as tie
 
 returns : tie.Need-returns
 returns c = rw (lt-leb 48 _ (c .if1 .taken))

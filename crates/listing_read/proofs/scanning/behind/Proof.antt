@@ -1,8 +1,8 @@
--- `reader::scanning::behind` meets its contract. Assumes nothing.
+-- `listing_read::scanning::behind` meets its contract. Assumes nothing.
 use Rattle.reader.proofs.Bytes.{row-over, row-space, row-bad}
 use borrow.Author.Needs.{needs}
-use Rattle.reader.proofs.scanning.behind.Statement.{statement}
-use Rattle.reader.proofs.scanning.behind.Tie as tie
+use Rattle.listing_read.proofs.scanning.behind.Statement.{statement}
+use Rattle.listing_read.proofs.scanning.behind.Tie as tie
 
 returns : tie.Need-returns
 returns c = row-over _ _ _ (c .if1 .taken)

@@ -1,8 +1,8 @@
--- `reader::scanning::behind_number` meets its contract, word by word. Assumes nothing.
+-- `listing_read::scanning::behind_number` meets its contract, word by word. Assumes nothing.
 use Rattle.reader.proofs.Bytes.{spaced-refused, spaced-strip, spaced-arrived, spaced-steps}
 use borrow.Author.Needs.{needs}
-use Rattle.reader.proofs.scanning.behind_number.Statement.{statement}
-use Rattle.reader.proofs.scanning.behind_number.Tie as tie
+use Rattle.listing_read.proofs.scanning.behind_number.Statement.{statement}
+use Rattle.listing_read.proofs.scanning.behind_number.Tie as tie
 
 enum-told : tie.Need-enum-told
 enum-told c = search needs

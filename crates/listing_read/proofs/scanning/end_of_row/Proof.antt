@@ -1,7 +1,7 @@
--- `reader::scanning::end_of_row` meets its contract. Assumes nothing.
-use Rattle.reader.proofs.Bytes.{end-row, end-short}
-use Rattle.reader.proofs.scanning.end_of_row.Statement.{statement}
-use Rattle.reader.proofs.scanning.end_of_row.Tie as tie
+-- `listing_read::scanning::end_of_row` meets its contract. Assumes nothing.
+use Rattle.listing_read.proofs.Bytes.{end-row, end-short}
+use Rattle.listing_read.proofs.scanning.end_of_row.Statement.{statement}
+use Rattle.listing_read.proofs.scanning.end_of_row.Tie as tie
 
 returns : tie.Need-returns
 returns c = end-row _ _ (c .if1 .taken)

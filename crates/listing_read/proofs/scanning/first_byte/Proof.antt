@@ -1,10 +1,10 @@
--- `reader::scanning::first_byte` meets its contract, byte by byte. Assumes nothing.
+-- `listing_read::scanning::first_byte` meets its contract, byte by byte. Assumes nothing.
 use mathlib.Core.Path.{sym, _∙_}
 use native.Mathlib.Omega.{arith}
 use Rattle.reader.proofs.Bytes.{decimal-least, first-strip, first-arrived, first-refused, first-digit, first-bad}
 use borrow.Author.Needs.{needs}
-use Rattle.reader.proofs.scanning.first_byte.Statement.{statement}
-use Rattle.reader.proofs.scanning.first_byte.Tie as tie
+use Rattle.listing_read.proofs.scanning.first_byte.Statement.{statement}
+use Rattle.listing_read.proofs.scanning.first_byte.Tie as tie
 
 returns : tie.Need-returns
 returns c = first-strip _ (c .if1 .taken)

@@ -1,9 +1,9 @@
--- `reader::scanning::line_end` meets its contract, value by value of the scan. Assumes nothing.
+-- `listing_read::scanning::line_end` meets its contract, value by value of the scan. Assumes nothing.
 use mathlib.Core.Path.{_∙_}
-use Rattle.reader.proofs.Bytes.{end-start, end-letters, end-digits, end-moment, end-component, end-bad}
+use Rattle.listing_read.proofs.Bytes.{end-start, end-letters, end-digits, end-moment, end-component, end-bad}
 use borrow.Author.Needs.{needs}
-use Rattle.reader.proofs.scanning.line_end.Statement.{statement}
-use Rattle.reader.proofs.scanning.line_end.Tie as tie
+use Rattle.listing_read.proofs.scanning.line_end.Statement.{statement}
+use Rattle.listing_read.proofs.scanning.line_end.Tie as tie
 
 enum-known-scan : tie.Need-enum-known-scan
 enum-known-scan c = search needs

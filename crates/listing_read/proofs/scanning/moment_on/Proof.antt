@@ -1,10 +1,10 @@
--- `reader::scanning::moment_on` meets its contract: the test by a tenth of the end of time is the test of the moment with its digit. Assumes nothing.
+-- `listing_read::scanning::moment_on` meets its contract: the test by a tenth of the end of time is the test of the moment with its digit. Assumes nothing.
 use mathlib.Core.Path.{sym, _∙_}
 use native.Mathlib.Omega.{arith}
 use Rattle.reader.proofs.Bytes.{decimal-least, moment-digit, moment-ends, zero-ends, range-ends}
 use borrow.Author.Needs.{needs}
-use Rattle.reader.proofs.scanning.moment_on.Statement.{statement}
-use Rattle.reader.proofs.scanning.moment_on.Tie as tie
+use Rattle.listing_read.proofs.scanning.moment_on.Statement.{statement}
+use Rattle.listing_read.proofs.scanning.moment_on.Tie as tie
 
 is-decimal-requires : tie.Need-is-decimal-requires
 is-decimal-requires c κs = search needs

@@ -1,9 +1,9 @@
--- `reader::scanning::next_digit` meets its contract. Assumes nothing.
+-- `listing_read::scanning::next_digit` meets its contract. Assumes nothing.
 use mathlib.Core.Path.{sym, _∙_}
 use Rattle.reader.proofs.Bytes.{number-space, number-on, number-stops, zero-alone}
 use borrow.Author.Needs.{needs}
-use Rattle.reader.proofs.scanning.next_digit.Statement.{statement}
-use Rattle.reader.proofs.scanning.next_digit.Tie as tie
+use Rattle.listing_read.proofs.scanning.next_digit.Statement.{statement}
+use Rattle.listing_read.proofs.scanning.next_digit.Tie as tie
 
 behind-number-requires : tie.Need-behind-number-requires
 behind-number-requires c κs = search needs

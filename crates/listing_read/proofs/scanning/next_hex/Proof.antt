@@ -1,9 +1,9 @@
--- `reader::scanning::next_hex` meets its contract. Assumes nothing.
+-- `listing_read::scanning::next_hex` meets its contract. Assumes nothing.
 use mathlib.Core.Path.{sym, _∙_}
 use Rattle.reader.proofs.Bytes.{no-hex, hex-on, hex-last, hex-infinite}
 use borrow.Author.Needs.{needs}
-use Rattle.reader.proofs.scanning.next_hex.Statement.{statement}
-use Rattle.reader.proofs.scanning.next_hex.Tie as tie
+use Rattle.listing_read.proofs.scanning.next_hex.Statement.{statement}
+use Rattle.listing_read.proofs.scanning.next_hex.Tie as tie
 
 hex-value-requires : tie.Need-hex-value-requires
 hex-value-requires c κs = search needs

@@ -1,9 +1,9 @@
--- `reader::scanning::next_letter` meets its contract. Assumes nothing.
+-- `listing_read::scanning::next_letter` meets its contract. Assumes nothing.
 use mathlib.Core.Path.{refl, sym, _∙_}
 use Rattle.reader.proofs.Bytes.{next-letter, other-letter, number-digit, number-bad}
 use borrow.Author.Needs.{needs}
-use Rattle.reader.proofs.scanning.next_letter.Statement.{statement}
-use Rattle.reader.proofs.scanning.next_letter.Tie as tie
+use Rattle.listing_read.proofs.scanning.next_letter.Statement.{statement}
+use Rattle.listing_read.proofs.scanning.next_letter.Tie as tie
 
 letters-in-requires : tie.Need-letters-in-requires
 letters-in-requires c κs = search needs

@@ -1,8 +1,8 @@
--- `reader::scanning::take_byte` meets its contract, value by value of the scan. Assumes nothing.
+-- `listing_read::scanning::take_byte` meets its contract, value by value of the scan. Assumes nothing.
 use Rattle.reader.proofs.Bytes.{bad-stays}
 use borrow.Author.Needs.{needs}
-use Rattle.reader.proofs.scanning.take_byte.Statement.{statement}
-use Rattle.reader.proofs.scanning.take_byte.Tie as tie
+use Rattle.listing_read.proofs.scanning.take_byte.Statement.{statement}
+use Rattle.listing_read.proofs.scanning.take_byte.Tie as tie
 
 enum-told : tie.Need-enum-told
 enum-told c = search needs

@@ -1,4 +1,4 @@
--- `listing::known::portion` meets its contract: at the loop's test the bytes written and the text from now on make up the whole
+-- `listing_write::inner::portion` meets its contract: at the loop's test the bytes written and the text from now on make up the whole
 -- (`Listing`). The measure is the number of steps left. Assumes nothing.
 use Prim.Native.Nat.{ℕ}
 use mathlib.Core.Path.{_≡_, refl, sym, _∙_}
@@ -7,9 +7,9 @@ use lib.ListN.{length}
 use denote.Ref.{now}
 use Rattle.book.specs.Calm.{Ready}
 use Rattle.motion.specs.declared.Outcome.the-variants.{Arrived, Going, Refused}
-use Rattle.listing.proofs.Courses.{Listing, begins, stands, text-ends, ends, refuses, goes-on}
-use Rattle.listing.proofs.known.portion.Statement.{statement}
-use Rattle.listing.proofs.known.portion.Tie as tie
+use Rattle.listing_write.proofs.Courses.{Listing, begins, stands, text-ends, ends, refuses, goes-on}
+use Rattle.listing_write.proofs.inner.portion.Statement.{statement}
+use Rattle.listing_write.proofs.inner.portion.Tie as tie
 
 abbrev Inv-loop : tie.InvT-loop
 Inv-loop book setting h out₀ calm now₀ entries₀ left₀ done₀ at₀ out now entries left done at = (length out ≡ length out₀) × Listing book setting h (record { state = now₀; entries = entries₀; left = left₀; done = done₀ }) out₀ out now entries left done at

@@ -1,9 +1,9 @@
--- `listing::known::start` meets its contract. Assumes nothing.
+-- `listing_write::inner::start` meets its contract. Assumes nothing.
 use native.Mathlib.Omega.{arith}
-use Rattle.listing.proofs.Courses.{not-before}
+use Rattle.listing_write.proofs.Courses.{not-before}
 use borrow.Author.Needs.{needs}
-use Rattle.listing.proofs.known.start.Statement.{statement}
-use Rattle.listing.proofs.known.start.Tie as tie
+use Rattle.listing_write.proofs.inner.start.Statement.{statement}
+use Rattle.listing_write.proofs.inner.start.Tie as tie
 
 sub-t6 : tie.Need-sub-t6
 sub-t6 c = not-before _ _ _ (c .pre .1)

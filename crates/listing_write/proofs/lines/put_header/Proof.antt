@@ -1,8 +1,8 @@
--- `listing::lines::put_header` meets its contract. Assumes nothing.
-use Rattle.listing.specs.Lines.{headerLine}
+-- `listing_write::lines::put_header` meets its contract. Assumes nothing.
+use Rattle.listing_write.specs.Lines.{headerLine}
 use borrow.Author.Needs.{needs}
-use Rattle.listing.proofs.lines.put_header.Statement.{statement}
-use Rattle.listing.proofs.lines.put_header.Tie as tie
+use Rattle.listing_write.proofs.lines.put_header.Statement.{statement}
+use Rattle.listing_write.proofs.lines.put_header.Tie as tie
 
 slice-aggregate-put-numbered : tie.Need-slice-aggregate-put-numbered
 slice-aggregate-put-numbered c = search needs

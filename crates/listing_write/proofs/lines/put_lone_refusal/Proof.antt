@@ -1,8 +1,8 @@
--- `listing::lines::put_lone_refusal` meets its contract. Assumes nothing.
-use Rattle.listing.specs.Lines.{loneRefusal}
+-- `listing_write::lines::put_lone_refusal` meets its contract. Assumes nothing.
+use Rattle.listing_write.specs.Lines.{loneRefusal}
 use borrow.Author.Needs.{needs}
-use Rattle.listing.proofs.lines.put_lone_refusal.Statement.{statement}
-use Rattle.listing.proofs.lines.put_lone_refusal.Tie as tie
+use Rattle.listing_write.proofs.lines.put_lone_refusal.Statement.{statement}
+use Rattle.listing_write.proofs.lines.put_lone_refusal.Tie as tie
 
 slice-aggregate-put-numbered : tie.Need-slice-aggregate-put-numbered
 slice-aggregate-put-numbered c = search needs

@@ -1,10 +1,10 @@
--- `listing::lines::put_numbered` meets its contract: three texts, one after the other. Assumes nothing.
+-- `listing_write::lines::put_numbered` meets its contract: three texts, one after the other. Assumes nothing.
 use native.Mathlib.Omega.{arith}
-use Rattle.text.proofs.Writing.{both}
-use Rattle.text.proofs.Decimal.{decimal-fits}
+use Rattle.text_write.proofs.Writing.{both}
+use Rattle.text_write.proofs.Decimal.{decimal-fits}
 use borrow.Author.Needs.{needs}
-use Rattle.listing.proofs.lines.put_numbered.Statement.{statement}
-use Rattle.listing.proofs.lines.put_numbered.Tie as tie
+use Rattle.listing_write.proofs.lines.put_numbered.Statement.{statement}
+use Rattle.listing_write.proofs.lines.put_numbered.Tie as tie
 
 put-bytes-requires : tie.Need-put-bytes-requires
 put-bytes-requires c κs = search needs

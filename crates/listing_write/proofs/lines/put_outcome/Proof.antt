@@ -1,8 +1,8 @@
--- `listing::lines::put_outcome` meets its contract, case by case. Assumes nothing.
-use Rattle.text.proofs.Writing.{nothing}
+-- `listing_write::lines::put_outcome` meets its contract, case by case. Assumes nothing.
+use Rattle.text_write.proofs.Writing.{nothing}
 use borrow.Author.Needs.{needs}
-use Rattle.listing.proofs.lines.put_outcome.Statement.{statement}
-use Rattle.listing.proofs.lines.put_outcome.Tie as tie
+use Rattle.listing_write.proofs.lines.put_outcome.Statement.{statement}
+use Rattle.listing_write.proofs.lines.put_outcome.Tie as tie
 
 enum-told : tie.Need-enum-told
 enum-told c = search needs

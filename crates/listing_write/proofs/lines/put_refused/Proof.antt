@@ -1,11 +1,11 @@
--- `listing::lines::put_refused` meets its contract: three texts, one after the other. Assumes nothing.
+-- `listing_write::lines::put_refused` meets its contract: three texts, one after the other. Assumes nothing.
 use native.Mathlib.Omega.{arith}
-use Rattle.text.proofs.Writing.{both}
-use Rattle.text.proofs.Decimal.{decimal-fits}
-use Rattle.listing.specs.Lines.{refusedLine}
+use Rattle.text_write.proofs.Writing.{both}
+use Rattle.text_write.proofs.Decimal.{decimal-fits}
+use Rattle.listing_write.specs.Lines.{refusedLine}
 use borrow.Author.Needs.{needs}
-use Rattle.listing.proofs.lines.put_refused.Statement.{statement}
-use Rattle.listing.proofs.lines.put_refused.Tie as tie
+use Rattle.listing_write.proofs.lines.put_refused.Statement.{statement}
+use Rattle.listing_write.proofs.lines.put_refused.Tie as tie
 
 slice-aggregate-put-bytes : tie.Need-slice-aggregate-put-bytes
 slice-aggregate-put-bytes c = search needs

@@ -1,8 +1,8 @@
--- `listing::lines::put_spaced` meets its contract. Assumes nothing.
-use Rattle.text.proofs.Writing.{both}
+-- `listing_write::lines::put_spaced` meets its contract. Assumes nothing.
+use Rattle.text_write.proofs.Writing.{both}
 use borrow.Author.Needs.{needs}
-use Rattle.listing.proofs.lines.put_spaced.Statement.{statement}
-use Rattle.listing.proofs.lines.put_spaced.Tie as tie
+use Rattle.listing_write.proofs.lines.put_spaced.Statement.{statement}
+use Rattle.listing_write.proofs.lines.put_spaced.Tie as tie
 
 slice-aggregate-put-bytes : tie.Need-slice-aggregate-put-bytes
 slice-aggregate-put-bytes c = search needs

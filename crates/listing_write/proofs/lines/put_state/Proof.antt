@@ -1,12 +1,12 @@
--- `listing::lines::put_state` meets its contract: four texts, one after the other. Assumes nothing.
+-- `listing_write::lines::put_state` meets its contract: four texts, one after the other. Assumes nothing.
 use native.Mathlib.Omega.{arith}
-use Rattle.text.proofs.Writing.{both}
-use Rattle.text.proofs.Decimal.{decimal-fits}
-use Rattle.listing.specs.Lines.{stateLine}
-use Rattle.listing.proofs.Lengths.{vector-fits}
+use Rattle.text_write.proofs.Writing.{both}
+use Rattle.text_write.proofs.Decimal.{decimal-fits}
+use Rattle.listing_write.specs.Lines.{stateLine}
+use Rattle.listing_write.proofs.Lengths.{vector-fits}
 use borrow.Author.Needs.{needs}
-use Rattle.listing.proofs.lines.put_state.Statement.{statement}
-use Rattle.listing.proofs.lines.put_state.Tie as tie
+use Rattle.listing_write.proofs.lines.put_state.Statement.{statement}
+use Rattle.listing_write.proofs.lines.put_state.Tie as tie
 
 put-decimal-requires : tie.Need-put-decimal-requires
 put-decimal-requires c κs = omega (arith, decimal-fits (c .before .before .args .s .moment) (omega arith))

@@ -1,11 +1,11 @@
--- `listing::lines::put_vector` meets its contract. Assumes nothing.
+-- `listing_write::lines::put_vector` meets its contract. Assumes nothing.
 use native.Mathlib.Omega.{arith}
-use Rattle.text.proofs.Writing.{both}
-use Rattle.listing.specs.Lines.{vectorText}
-use Rattle.listing.proofs.Lengths.{spaced-fits}
+use Rattle.text_write.proofs.Writing.{both}
+use Rattle.listing_write.specs.Lines.{vectorText}
+use Rattle.listing_write.proofs.Lengths.{spaced-fits}
 use borrow.Author.Needs.{needs}
-use Rattle.listing.proofs.lines.put_vector.Statement.{statement}
-use Rattle.listing.proofs.lines.put_vector.Tie as tie
+use Rattle.listing_write.proofs.lines.put_vector.Statement.{statement}
+use Rattle.listing_write.proofs.lines.put_vector.Tie as tie
 
 put-spaced-requires : tie.Need-put-spaced-requires
 put-spaced-requires c κs = search needs

@@ -1,9 +1,9 @@
--- `orders::bytes::float_at` meets its contract. Assumes nothing.
+-- `strip_order::bytes::float_at` meets its contract. Assumes nothing.
 use mathlib.Core.Path.{ap, _∙_}
 use lib.Ieee.{binary64, ofBits}
 use borrow.Author.Needs.{needs}
-use Rattle.orders.proofs.bytes.float_at.Statement.{statement}
-use Rattle.orders.proofs.bytes.float_at.Tie as tie
+use Rattle.strip_order.proofs.bytes.float_at.Statement.{statement}
+use Rattle.strip_order.proofs.bytes.float_at.Tie as tie
 
 u64-at-requires : tie.Need-u64-at-requires
 u64-at-requires c κs = search needs

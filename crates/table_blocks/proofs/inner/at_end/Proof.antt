@@ -1,10 +1,10 @@
--- `tabling::known::at_end` meets its contract. Assumes nothing.
+-- `table_blocks::inner::at_end` meets its contract. Assumes nothing.
 use Prim.Native.Nat.{_+_}
 use mathlib.Core.Path.{_≡_, refl, sym, ap, _∙_, subst}
 use native.Mathlib.Omega.{arith}
 use borrow.Author.Needs.{needs}
-use Rattle.tabling.proofs.known.at_end.Statement.{statement}
-use Rattle.tabling.proofs.known.at_end.Tie as tie
+use Rattle.table_blocks.proofs.inner.at_end.Statement.{statement}
+use Rattle.table_blocks.proofs.inner.at_end.Tie as tie
 use Rattle.tabling.proofs.known.at_end.Reads as reads
 use Rattle.tabling.proofs.known.at_end.Lts as lts
 use Rattle.tabling.proofs.known.missing.Reads as missing-reads

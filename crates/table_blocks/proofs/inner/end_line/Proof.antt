@@ -1,11 +1,11 @@
--- `tabling::known::end_line` meets its contract. Assumes nothing.
+-- `table_blocks::inner::end_line` meets its contract. Assumes nothing.
 use Prim.Native.Nat.{_+_}
 use mathlib.Core.Path.{_≡_, refl, sym, ap, _∙_}
 use native.Mathlib.Omega.{arith}
-use Rattle.tabling.proofs.Reading.{found-fits, line-most, feeds-row, feeds-refused}
+use Rattle.table_blocks.proofs.Reading.{found-fits, line-most, feeds-row, feeds-refused}
 use borrow.Author.Needs.{needs}
-use Rattle.tabling.proofs.known.end_line.Statement.{statement}
-use Rattle.tabling.proofs.known.end_line.Tie as tie
+use Rattle.table_blocks.proofs.inner.end_line.Statement.{statement}
+use Rattle.table_blocks.proofs.inner.end_line.Tie as tie
 use Rattle.tabling.proofs.known.end_line.Reads as reads
 use Rattle.tabling.proofs.known.end_line.Lts as lts
 use Rattle.reader.proofs.place_after.Reads as place-after-reads

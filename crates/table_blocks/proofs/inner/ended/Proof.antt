@@ -1,12 +1,12 @@
--- `tabling::known::ended` meets its contract. Assumes nothing.
+-- `table_blocks::inner::ended` meets its contract. Assumes nothing.
 use Prim.Native.Nat.{_+_}
 use mathlib.Core.Path.{_≡_, refl, sym, ap, _∙_, subst}
 use native.Mathlib.Omega.{arith}
-use Rattle.tabling.specs.Steps.{Fresh}
-use Rattle.tabling.proofs.Reading.{end-table, fresh-begun, refused-end}
+use Rattle.table_blocks.specs.Steps.{Fresh}
+use Rattle.table_blocks.proofs.Reading.{end-table, fresh-begun, refused-end}
 use borrow.Author.Needs.{needs}
-use Rattle.tabling.proofs.known.ended.Statement.{statement}
-use Rattle.tabling.proofs.known.ended.Tie as tie
+use Rattle.table_blocks.proofs.inner.ended.Statement.{statement}
+use Rattle.table_blocks.proofs.inner.ended.Tie as tie
 use Rattle.tabling.proofs.known.ended.Reads as reads
 use Rattle.tabling.proofs.known.ended.Lts as lts
 use Rattle.tabling.proofs.known.at_end.Reads as at-end-reads

@@ -1,12 +1,12 @@
--- `tabling::known::finish` meets its contract. Assumes nothing.
+-- `table_blocks::inner::finish` meets its contract. Assumes nothing.
 use Prim.Native.Nat.{_+_}
 use mathlib.Core.Path.{_≡_, refl, sym, ap, _∙_, subst}
 use native.Mathlib.Omega.{arith}
-use Rattle.tabling.specs.Steps.{Stands}
-use Rattle.tabling.proofs.Reading.{stands-held, ends-refused}
+use Rattle.table_blocks.specs.Steps.{Stands}
+use Rattle.table_blocks.proofs.Reading.{stands-held, ends-refused}
 use borrow.Author.Needs.{needs}
-use Rattle.tabling.proofs.known.finish.Statement.{statement}
-use Rattle.tabling.proofs.known.finish.Tie as tie
+use Rattle.table_blocks.proofs.inner.finish.Statement.{statement}
+use Rattle.table_blocks.proofs.inner.finish.Tie as tie
 use Rattle.tabling.proofs.known.finish.Reads as reads
 use Rattle.tabling.proofs.known.finish.Lts as lts
 use Rattle.tabling.proofs.known.finish_line.Reads as finish-line-reads

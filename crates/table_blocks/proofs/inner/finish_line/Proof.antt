@@ -1,11 +1,11 @@
--- `tabling::known::finish_line` meets its contract. Assumes nothing.
+-- `table_blocks::inner::finish_line` meets its contract. Assumes nothing.
 use Prim.Native.Nat.{_+_}
 use mathlib.Core.Path.{_≡_, refl, sym, ap, _∙_, subst}
 use native.Mathlib.Omega.{arith}
-use Rattle.tabling.proofs.Reading.{ends-inside, ends-between}
+use Rattle.table_blocks.proofs.Reading.{ends-inside, ends-between}
 use borrow.Author.Needs.{needs}
-use Rattle.tabling.proofs.known.finish_line.Statement.{statement}
-use Rattle.tabling.proofs.known.finish_line.Tie as tie
+use Rattle.table_blocks.proofs.inner.finish_line.Statement.{statement}
+use Rattle.table_blocks.proofs.inner.finish_line.Tie as tie
 use Rattle.tabling.proofs.known.finish_line.Reads as reads
 use Rattle.tabling.proofs.known.finish_line.Lts as lts
 use Rattle.reader.proofs.scanning.has_begun.Reads as has-begun-reads

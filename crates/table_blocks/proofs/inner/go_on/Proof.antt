@@ -1,8 +1,8 @@
--- `tabling::known::go_on` meets its contract. Assumes nothing.
-use Rattle.tabling.proofs.Reading.{feed-steps, byte-steps}
+-- `table_blocks::inner::go_on` meets its contract. Assumes nothing.
+use Rattle.table_blocks.proofs.Reading.{feed-steps, byte-steps}
 use borrow.Author.Needs.{needs}
-use Rattle.tabling.proofs.known.go_on.Statement.{statement}
-use Rattle.tabling.proofs.known.go_on.Tie as tie
+use Rattle.table_blocks.proofs.inner.go_on.Statement.{statement}
+use Rattle.table_blocks.proofs.inner.go_on.Tie as tie
 use Rattle.tabling.proofs.known.go_on.Reads as reads
 use Rattle.tabling.proofs.known.go_on.Lts as lts
 use Rattle.reader.proofs.scanning.take_byte.Reads as take-byte-reads

@@ -1,11 +1,11 @@
--- `tabling::known::portion` meets its contract. Assumes nothing.
+-- `table_blocks::inner::portion` meets its contract. Assumes nothing.
 use Prim.Native.Nat.{_+_, _-_}
 use mathlib.Core.Path.{_≡_, refl, sym, ap, _∙_}
 use native.Mathlib.Omega.{arith}
 use lib.ListN.{length}
-use Rattle.tabling.proofs.Reading.{Made, begins, goes-on, tabled}
-use Rattle.tabling.proofs.known.portion.Statement.{statement}
-use Rattle.tabling.proofs.known.portion.Tie as tie
+use Rattle.table_blocks.proofs.Reading.{Made, begins, goes-on, tabled}
+use Rattle.table_blocks.proofs.inner.portion.Statement.{statement}
+use Rattle.table_blocks.proofs.inner.portion.Tie as tie
 use Rattle.tabling.proofs.known.portion.Reads as reads
 use Rattle.tabling.proofs.known.portion.Lts as lts
 use Rattle.tabling.proofs.known.take.Reads as take-reads

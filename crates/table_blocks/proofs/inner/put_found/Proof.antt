@@ -1,12 +1,12 @@
--- `tabling::known::put_found` meets its contract. Assumes nothing.
+-- `table_blocks::inner::put_found` meets its contract. Assumes nothing.
 use Prim.Native.Nat.{_+_}
 use mathlib.Core.Path.{_≡_, refl, sym, ap, _∙_}
 use native.Mathlib.Omega.{arith}
-use Rattle.text.proofs.Writing.{nothing}
-use Rattle.tabling.proofs.Reading.{state-fits, fits-of}
+use Rattle.text_write.proofs.Writing.{nothing}
+use Rattle.table_blocks.proofs.Reading.{state-fits, fits-of}
 use borrow.Author.Needs.{needs}
-use Rattle.tabling.proofs.known.put_found.Statement.{statement}
-use Rattle.tabling.proofs.known.put_found.Tie as tie
+use Rattle.table_blocks.proofs.inner.put_found.Statement.{statement}
+use Rattle.table_blocks.proofs.inner.put_found.Tie as tie
 use Rattle.tabling.proofs.known.put_found.Reads as reads
 use Rattle.tabling.proofs.known.put_found.Lts as lts
 use Rattle.rows.proofs.known.put_row.Reads as put-row-reads

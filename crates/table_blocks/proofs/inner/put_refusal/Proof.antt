@@ -1,14 +1,14 @@
--- `tabling::known::put_refusal` meets its contract. Assumes nothing.
+-- `table_blocks::inner::put_refusal` meets its contract. Assumes nothing.
 use Prim.Native.Nat.{_+_}
 use mathlib.Core.Path.{_≡_, refl, sym, ap, _∙_, subst}
 use native.Mathlib.Omega.{arith}
 use borrow.Author.Tests.{eq-eqb, ne-eqb}
-use Rattle.text.proofs.Writing.{nothing, both}
-use Rattle.text.proofs.Decimal.{decimal-fits}
-use Rattle.tabling.specs.Table.{refusalText}
+use Rattle.text_write.proofs.Writing.{nothing, both}
+use Rattle.text_write.proofs.Decimal.{decimal-fits}
+use Rattle.table_blocks.specs.Table.{refusalText}
 use borrow.Author.Needs.{needs}
-use Rattle.tabling.proofs.known.put_refusal.Statement.{statement}
-use Rattle.tabling.proofs.known.put_refusal.Tie as tie
+use Rattle.table_blocks.proofs.inner.put_refusal.Statement.{statement}
+use Rattle.table_blocks.proofs.inner.put_refusal.Tie as tie
 use Rattle.tabling.proofs.known.put_refusal.Reads as reads
 use Rattle.tabling.proofs.known.put_refusal.Lts as lts
 use Rattle.text.proofs.known.put_bytes.Reads as put-bytes-reads

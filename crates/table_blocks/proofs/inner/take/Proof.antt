@@ -1,12 +1,12 @@
--- `tabling::known::take` meets its contract. Assumes nothing.
+-- `table_blocks::inner::take` meets its contract. Assumes nothing.
 use Prim.Native.Nat.{_+_}
 use mathlib.Core.Path.{_≡_, refl, sym, ap, _∙_, subst}
 use native.Mathlib.Omega.{arith}
-use Rattle.tabling.specs.Steps.{Stands}
-use Rattle.tabling.proofs.Reading.{stands-held, stays-refused}
+use Rattle.table_blocks.specs.Steps.{Stands}
+use Rattle.table_blocks.proofs.Reading.{stands-held, stays-refused}
 use borrow.Author.Needs.{needs}
-use Rattle.tabling.proofs.known.take.Statement.{statement}
-use Rattle.tabling.proofs.known.take.Tie as tie
+use Rattle.table_blocks.proofs.inner.take.Statement.{statement}
+use Rattle.table_blocks.proofs.inner.take.Tie as tie
 use Rattle.tabling.proofs.known.take.Reads as reads
 use Rattle.tabling.proofs.known.take.Lts as lts
 use Rattle.tabling.proofs.known.go_on.Reads as go-on-reads

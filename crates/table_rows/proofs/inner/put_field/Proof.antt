@@ -1,13 +1,13 @@
--- `rows::known::put_field` meets its contract. Assumes nothing.
+-- `table_rows::inner::put_field` meets its contract. Assumes nothing.
 use Prim.Native.Nat.{_+_}
 use mathlib.Core.Path.{_≡_, refl, sym, ap, _∙_}
 use native.Mathlib.Omega.{arith}
-use Rattle.text.proofs.Writing.{both, byte}
+use Rattle.text_write.proofs.Writing.{both, byte}
 use lib.ListN.{length-set}
-use Rattle.rows.specs.Text.{field}
+use Rattle.table_rows.specs.Text.{field}
 use borrow.Author.Needs.{needs}
-use Rattle.rows.proofs.known.put_field.Statement.{statement}
-use Rattle.rows.proofs.known.put_field.Tie as tie
+use Rattle.table_rows.proofs.inner.put_field.Statement.{statement}
+use Rattle.table_rows.proofs.inner.put_field.Tie as tie
 use Rattle.rows.proofs.known.put_field.Reads as reads
 use Rattle.rows.proofs.known.put_field.Lts as lts
 use Rattle.numeral.proofs.known.put_numeral.Reads as put-numeral-reads

@@ -1,13 +1,13 @@
--- `rows::known::put_fields` meets its contract. Assumes nothing.
+-- `table_rows::inner::put_fields` meets its contract. Assumes nothing.
 use Prim.Native.Nat.{_+_}
 use mathlib.Core.Path.{_≡_, refl, sym, ap, _∙_}
 use native.Mathlib.Omega.{arith}
 use Rattle.text.proofs.Writing.{both, byte}
-use Rattle.rows.specs.Text.{fields}
-use Rattle.rows.proofs.Sizes.{none-large, field-next}
+use Rattle.table_rows.specs.Text.{fields}
+use Rattle.table_rows.proofs.Sizes.{none-large, field-next}
 use borrow.Author.Needs.{needs}
-use Rattle.rows.proofs.known.put_fields.Statement.{statement}
-use Rattle.rows.proofs.known.put_fields.Tie as tie
+use Rattle.table_rows.proofs.inner.put_fields.Statement.{statement}
+use Rattle.table_rows.proofs.inner.put_fields.Tie as tie
 use Rattle.rows.proofs.known.put_fields.Reads as reads
 use Rattle.rows.proofs.known.put_fields.Lts as lts
 use Rattle.rows.proofs.known.put_field.Reads as put-field-reads

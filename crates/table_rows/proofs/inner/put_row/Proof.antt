@@ -1,13 +1,13 @@
--- `rows::known::put_row` meets its contract. Assumes nothing.
+-- `table_rows::inner::put_row` meets its contract. Assumes nothing.
 use Prim.Native.Nat.{_+_}
 use mathlib.Core.Path.{_≡_, refl, sym, ap, _∙_}
 use native.Mathlib.Omega.{arith}
-use Rattle.text.proofs.Writing.{both, byte}
-use Rattle.rows.specs.Text.{rowText}
-use Rattle.rows.proofs.Sizes.{row-small, fields-next, stamp-next}
+use Rattle.text_write.proofs.Writing.{both, byte}
+use Rattle.table_rows.specs.Text.{rowText}
+use Rattle.table_rows.proofs.Sizes.{row-small, fields-next, stamp-next}
 use borrow.Author.Needs.{needs}
-use Rattle.rows.proofs.known.put_row.Statement.{statement}
-use Rattle.rows.proofs.known.put_row.Tie as tie
+use Rattle.table_rows.proofs.inner.put_row.Statement.{statement}
+use Rattle.table_rows.proofs.inner.put_row.Tie as tie
 use Rattle.rows.proofs.known.put_row.Reads as reads
 use Rattle.rows.proofs.known.put_row.Lts as lts
 use Rattle.rows.proofs.known.put_fields.Reads as put-fields-reads
