@@ -4,7 +4,7 @@
 mod about;
 mod calls;
 
-use dialogue::put::Out;
+use line_form::put::Out;
 ghost use Prim.Native.Nat.{_+_, _≤_};
 ghost use lib.ListN.{length};
 

@@ -9,8 +9,8 @@ use Rattle.hour.specs.declared.HourAnswer.{HourAnswer}
 use Rattle.root.specs.declared.RootAnswer.{RootAnswer}
 use Rattle.sine.specs.declared.SineCosineAnswer.{SineCosineAnswer}
 use Rattle.book.specs.declared.PositionAnswer.{PositionAnswer}
-use Rattle.handed.specs.Handed.{Answer, Accepted, Refused}
-use Rattle.almanaclink.specs.Lent.{dateIn, sineCosineIn, motionIn}
+use Rattle.c_answer.specs.Handed.{Answer, Accepted, Refused}
+use Rattle.belfry_almanac.specs.Lent.{dateIn, sineCosineIn, motionIn}
 
 abbrev pub ofDate : DateAnswer → Answer (List ℕ)
 ofDate (DateAnswer.Date date) = Accepted (dateIn date)

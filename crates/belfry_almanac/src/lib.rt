@@ -11,15 +11,15 @@ use hour::HourAnswer;
 use root::RootAnswer;
 use sine::SineCosineAnswer;
 ghost use mathlib.Core.Path.{_≡_};
-ghost use Rattle.basis.specs.Choice.{if_then_else_};
+ghost use Rattle.base.specs.Choice.{if_then_else_};
 ghost use Rattle.calendar.specs.Answers.{dateAnswer, dayAnswer, julianAnswer};
 ghost use Rattle.hour.specs.Hour.{hourAnswer, siderealAnswer};
 ghost use Rattle.root.specs.Root.{rootAnswer};
 ghost use Rattle.sine.specs.Sine.{sineCosineAnswer};
 ghost use Rattle.book.specs.Passes.{passes};
 ghost use Rattle.book.specs.Position.{positionAnswer};
-ghost use Rattle.handed.specs.Handed.{handed, answered};
-ghost use Rattle.almanaclink.specs.Answers.{ofDate, ofDay, ofJulian, ofHour, ofRoot, ofSineCosine, ofPosition};
+ghost use Rattle.c_answer.specs.Handed.{handed, answered};
+ghost use Rattle.belfry_almanac.specs.Answers.{ofDate, ofDay, ofJulian, ofHour, ofRoot, ofSineCosine, ofPosition};
 
 #[no_mangle]
 pub extern "C" fn belfry_date(day: u64, date: &mut [u64; 3]) -> u64

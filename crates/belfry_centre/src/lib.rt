@@ -3,16 +3,16 @@
 
 ghost use mathlib.Core.Path.{_≡_};
 ghost use Rattle.gravity.specs.Acceleration.{accelerationAnswer};
-ghost use Rattle.injection.specs.Injection.{injectionAnswer};
-ghost use Rattle.motion.specs.Run.{runAnswer};
+ghost use Rattle.gravity_stored.specs.Injection.{injectionAnswer};
+ghost use Rattle.run.specs.Run.{runAnswer};
 ghost use Rattle.centre.specs.Move.{moveAnswer};
-ghost use Rattle.fixed.specs.Fixed.{fixedAnswer};
+ghost use Rattle.earth_fixed.specs.Fixed.{fixedAnswer};
 ghost use Rattle.conic.specs.Conic.{conicAnswer};
-ghost use Rattle.handed.specs.Handed.{handed, answered};
-ghost use Rattle.lent.specs.Lent.{settingOf, vectorOf, injectionOf, stateOf, unkeptOf, guessesOf};
-ghost use Rattle.lentconic.specs.Figures.{bothIn, ofConic};
+ghost use Rattle.c_answer.specs.Handed.{handed, answered};
+ghost use Rattle.c_run.specs.Lent.{settingOf, vectorOf, injectionOf, stateOf, unkeptOf, guessesOf};
+ghost use Rattle.c_conic.specs.Figures.{bothIn, ofConic};
 ghost use Rattle.lent.specs.Answers.{ofAcceleration, ofInjection, ofMove, handedBack, ofFlight};
-ghost use Rattle.lentearth.specs.Earth.{ofFixed};
+ghost use Rattle.c_earth.specs.Earth.{ofFixed};
 
 #[no_mangle]
 pub extern "C" fn belfry_pull(
@@ -30,7 +30,7 @@ pub extern "C" fn belfry_pull(
         (ofAcceleration (accelerationAnswer (now (book .entry)) (settingOf (now (coefficients .entry)) (now (extras .entry)) dut rule) centre moment
         (vectorOf (now (position .entry))))) ⌝ }
 {
-    lent::calls::pull(
+    c_run::calls::pull(
         book,
         coefficients,
         extras,
@@ -60,7 +60,7 @@ pub extern "C" fn belfry_inject(
         (ofInjection (injectionAnswer (now (book .entry)) (settingOf (now (coefficients .entry)) (now (extras .entry)) dut rule)
         (injectionOf moment centre (now (coordinates .entry))))) ⌝ }
 {
-    lent::calls::inject(
+    c_run::calls::inject(
         book,
         coefficients,
         extras,
@@ -97,7 +97,7 @@ pub extern "C" fn belfry_fly(
         (runAnswer (now (book .entry)) (settingOf (now (coefficients .entry)) (now (extras .entry)) dut rule)
         (stateOf moment centre (now (coordinates .entry))) h target budget (guessesOf (now (guesses .entry)))) ⌝ }
 {
-    lent::calls::fly(
+    c_run::calls::fly(
         book,
         coefficients,
         extras,
@@ -134,7 +134,7 @@ pub extern "C" fn belfry_move(
         (ofMove (moveAnswer (now (book .entry)) (settingOf (now (coefficients .entry)) (now (extras .entry)) dut rule)
         (stateOf moment centre (now (coordinates .entry))) new)) ⌝ }
 {
-    lent::calls::moved(
+    c_run::calls::moved(
         book,
         coefficients,
         extras,
@@ -161,7 +161,7 @@ pub extern "C" fn belfry_turn(
     ensures { λ r. ⌜ handed r (now (turned .exit)) ≡ answered (now (turned .entry))
         (ofFixed (fixedAnswer rule dut (unkeptOf moment centre (now (coordinates .entry))))) ⌝ }
 {
-    lentearth::turned(rule, dut, moment, centre, coordinates, turned)
+    c_earth::turned(rule, dut, moment, centre, coordinates, turned)
 }
 
 #[no_mangle]
@@ -176,5 +176,5 @@ pub extern "C" fn belfry_orbit(
     ensures { λ r. ⌜ handed r (bothIn (now (names .exit)) (now (figures .exit))) ≡ answered (bothIn (now (names .entry)) (now (figures .entry)))
         (ofConic (conicAnswer m (unkeptOf moment centre (now (coordinates .entry))))) ⌝ }
 {
-    lentconic::orbit(m, moment, centre, coordinates, names, figures)
+    c_conic::orbit(m, moment, centre, coordinates, names, figures)
 }

@@ -2,18 +2,18 @@
 // An old call means an old order: centre 1, J, A and K zero, rule 0 and the acceleration that the rule gives; the calls with the whole of it are `centrelink`'s.
 // Each returns 0 where it is accepted, else the number of the refusal. A run that is still going returns 100.
 
-use sphere::SphereAnswer;
+use launch::SphereAnswer;
 ghost use mathlib.Core.Path.{_≡_};
 ghost use Rattle.gravity.specs.Acceleration.{accelerationAnswer};
-ghost use Rattle.injection.specs.Injection.{launched};
-ghost use Rattle.motion.specs.Run.{runAnswer, singleStepAnswer};
-ghost use Rattle.fixed.specs.Fixed.{fixedAnswer};
-ghost use Rattle.sphere.specs.Sphere.{sphereAnswer};
+ghost use Rattle.gravity_stored.specs.Injection.{launched};
+ghost use Rattle.run.specs.Run.{runAnswer, singleStepAnswer};
+ghost use Rattle.earth_fixed.specs.Fixed.{fixedAnswer};
+ghost use Rattle.launch.specs.Sphere.{sphereAnswer};
 ghost use Rattle.conic.specs.Conic.{conicAnswer};
-ghost use Rattle.handed.specs.Handed.{handed, answered};
-ghost use Rattle.lent.specs.Lent.{settingOf, noExtras, vectorOf, injectionOf, unkeptOf, guessesOf};
-ghost use Rattle.lentearth.specs.Earth.{sphereOf, ofFixed, ofSphere};
-ghost use Rattle.lentconic.specs.Figures.{bothIn, ofConic};
+ghost use Rattle.c_answer.specs.Handed.{handed, answered};
+ghost use Rattle.c_run.specs.Lent.{settingOf, noExtras, vectorOf, injectionOf, unkeptOf, guessesOf};
+ghost use Rattle.c_earth.specs.Earth.{sphereOf, ofFixed, ofSphere};
+ghost use Rattle.c_conic.specs.Figures.{bothIn, ofConic};
 ghost use Rattle.lent.specs.Answers.{ofAcceleration, handedBack, ofRun};
 
 #[no_mangle]
@@ -30,7 +30,7 @@ pub extern "C" fn belfry_acceleration(
         (vectorOf (now (position .entry))))) ⌝ }
 {
     let none = [0.0, 0.0, 0.0];
-    lent::calls::pull(
+    c_run::calls::pull(
         book,
         coefficients,
         &none,
@@ -66,12 +66,12 @@ pub extern "C" fn belfry_run(
         (injectionOf moment 1 (now (coordinates .entry)))) h target budget (guessesOf (now (guesses .entry)))) ⌝ }
 {
     let none = [0.0, 0.0, 0.0];
-    let setting = lent::setting_of(*coefficients, none, dut, 0);
-    let injection = lent::injection_of(moment, 1, *coordinates);
-    let state = injection::launch(book, setting, injection);
-    let given = lent::guesses_of(*guesses);
-    let answer = motion::run(book, setting, state, h, target, budget, given);
-    lent::hand_back(answer, reached, there, entries, steps)
+    let setting = c_run::setting_of(*coefficients, none, dut, 0);
+    let injection = c_run::injection_of(moment, 1, *coordinates);
+    let state = gravity_stored::launch(book, setting, injection);
+    let given = c_run::guesses_of(*guesses);
+    let answer = run::run(book, setting, state, h, target, budget, given);
+    c_run::hand_back(answer, reached, there, entries, steps)
 }
 
 #[no_mangle]
@@ -94,12 +94,12 @@ pub extern "C" fn belfry_single_step(
         (injectionOf moment 1 (now (coordinates .entry)))) h (guessesOf (now (guesses .entry)))) ⌝ }
 {
     let none = [0.0, 0.0, 0.0];
-    let setting = lent::setting_of(*coefficients, none, dut, 0);
-    let injection = lent::injection_of(moment, 1, *coordinates);
-    let state = injection::launch(book, setting, injection);
-    let given = lent::guesses_of(*guesses);
-    let answer = motion::single_step(book, setting, state, h, given);
-    lent::hand_back(answer, reached, there, entries, steps)
+    let setting = c_run::setting_of(*coefficients, none, dut, 0);
+    let injection = c_run::injection_of(moment, 1, *coordinates);
+    let state = gravity_stored::launch(book, setting, injection);
+    let given = c_run::guesses_of(*guesses);
+    let answer = run::single_step(book, setting, state, h, given);
+    c_run::hand_back(answer, reached, there, entries, steps)
 }
 
 #[no_mangle]
@@ -112,7 +112,7 @@ pub extern "C" fn belfry_earth_fixed(
     ensures { λ r. ⌜ handed r (now (turned .exit)) ≡ answered (now (turned .entry))
         (ofFixed (fixedAnswer 0 dut (unkeptOf moment 1 (now (coordinates .entry))))) ⌝ }
 {
-    lentearth::turned(0, dut, moment, 1, coordinates, turned)
+    c_earth::turned(0, dut, moment, 1, coordinates, turned)
 }
 
 #[no_mangle]
@@ -127,7 +127,7 @@ pub extern "C" fn belfry_from_sphere(
     ensures { λ r. ⌜ handed r (now (coordinates .exit)) ≡ answered (now (coordinates .entry))
         (ofSphere (sphereAnswer (sphereOf (now (sizes .entry)) (now (angles .entry))) rule moment dut)) ⌝ }
 {
-    match sphere::from_sphere(lentearth::sphere_of(*sizes, *angles), rule, moment, dut) {
+    match launch::from_sphere(c_earth::sphere_of(*sizes, *angles), rule, moment, dut) {
         SphereAnswer::Injected(s) => {
             *coordinates = [s.x, s.y, s.z, s.vx, s.vy, s.vz];
             0
@@ -147,5 +147,5 @@ pub extern "C" fn belfry_conic(
     ensures { λ r. ⌜ handed r (bothIn (now (names .exit)) (now (figures .exit))) ≡ answered (bothIn (now (names .entry)) (now (figures .entry)))
         (ofConic (conicAnswer m (unkeptOf moment 1 (now (coordinates .entry))))) ⌝ }
 {
-    lentconic::orbit(m, moment, 1, coordinates, names, figures)
+    c_conic::orbit(m, moment, 1, coordinates, names, figures)
 }

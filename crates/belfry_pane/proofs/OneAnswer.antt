@@ -2,15 +2,15 @@
 -- was lent to write, together. Assumes nothing.
 use mathlib.Core.Path.{refl}
 use denote.Ref.{now}
-use Rattle.basis.proofs.OneAnswer.{Tell, OneOutcome, one-outcome}
-use Rattle.handed.specs.Handed.{Handed, handed}
-use Rattle.lent.specs.Lent.{stateOf}
-use Rattle.live.specs.Pane.{take, feed, clear, frameAt}
+use Rattle.base.proofs.OneAnswer.{Tell, OneOutcome, one-outcome}
+use Rattle.c_answer.specs.Handed.{Handed, handed}
+use Rattle.c_run.specs.Lent.{stateOf}
+use Rattle.pane_live.specs.Pane.{take, feed, clear, frameAt}
 use Rattle.panelink.specs.Lent.{Kept, keptIn, paneOf, paneIn, flownTo, left, FrameMemory, framed, ofFrame}
-use Rattle.panelink.proofs.belfry_clear as clear-call
-use Rattle.panelink.proofs.belfry_take as take-call
-use Rattle.panelink.proofs.belfry_feed as feed-call
-use Rattle.panelink.proofs.belfry_frame as frame-call
+use Rattle.belfry_pane.proofs.belfry_clear as clear-call
+use Rattle.belfry_pane.proofs.belfry_take as take-call
+use Rattle.belfry_pane.proofs.belfry_feed as feed-call
+use Rattle.belfry_pane.proofs.belfry_frame as frame-call
 
 abbrev tell-clear : Tell clear-call.ended (λ κs. Handed Kept)
 tell-clear κs r after = handed r (keptIn (now (after .0)) (now (after .1 .0)))

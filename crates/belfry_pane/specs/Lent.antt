@@ -4,21 +4,21 @@ use Prim.Native.Nat.{ℕ}
 use mathlib.Core.List.{List, [], _∷_}
 use lib.ListN.{getD}
 use lib.Ieee.{Float, nan}
-use Rattle.basis.specs.Choice.{if_then_else_, _=?_}
-use Rattle.basis.specs.Floats.{zero64}
+use Rattle.base.specs.Choice.{if_then_else_, _=?_}
+use Rattle.base.specs.Floats.{zero64}
 use Rattle.state.specs.declared.State.{State}
 use Rattle.gravity.specs.declared.Guesses.{Guesses}
-use Rattle.motion.specs.declared.Outcome.{Outcome}
-use Rattle.motion.specs.declared.RunAnswer.{RunAnswer}
-use Rattle.live.specs.declared.Pane.{Pane}
-use Rattle.live.specs.declared.Pane.the-variants.{Blank, One, Two}
-use Rattle.live.specs.declared.TakeAnswer.{TakeAnswer}
-use Rattle.live.specs.declared.TakeAnswer.the-variants as taken
-use Rattle.live.specs.declared.FrameAnswer.{FrameAnswer}
-use Rattle.live.specs.declared.FrameAnswer.the-variants as frame
-use Rattle.handed.specs.Handed.{Handed, handed}
-use Rattle.lent.specs.Lent.{stateOf, vectorIn}
-use Rattle.lent.specs.Answers.{going}
+use Rattle.run.specs.declared.Outcome.{Outcome}
+use Rattle.run.specs.declared.RunAnswer.{RunAnswer}
+use Rattle.pane_live.specs.declared.Pane.{Pane}
+use Rattle.pane_live.specs.declared.Pane.the-variants.{Blank, One, Two}
+use Rattle.pane_live.specs.declared.TakeAnswer.{TakeAnswer}
+use Rattle.pane_live.specs.declared.TakeAnswer.the-variants as taken
+use Rattle.pane_live.specs.declared.FrameAnswer.{FrameAnswer}
+use Rattle.pane_live.specs.declared.FrameAnswer.the-variants as frame
+use Rattle.c_answer.specs.Handed.{Handed, handed}
+use Rattle.c_run.specs.Lent.{stateOf, vectorIn}
+use Rattle.c_run.specs.Answers.{going}
 
 -- both places of a pane: how many states it holds, then moment and centre of the older and of the newer; and the nine coordinates of each
 pub record Kept : Type 0 where

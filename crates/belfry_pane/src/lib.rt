@@ -6,9 +6,9 @@ mod memory;
 use memory::keep;
 use memory::pane_of;
 ghost use mathlib.Core.Path.{_≡_};
-ghost use Rattle.handed.specs.Handed.{handed};
-ghost use Rattle.lent.specs.Lent.{stateOf};
-ghost use Rattle.live.specs.Pane.{take, feed, clear, frameAt};
+ghost use Rattle.c_answer.specs.Handed.{handed};
+ghost use Rattle.c_run.specs.Lent.{stateOf};
+ghost use Rattle.pane_live.specs.Pane.{take, feed, clear, frameAt};
 ghost use Rattle.panelink.specs.Lent.{keptIn, paneOf, paneIn, flownTo, left, framed, ofFrame};
 
 // Always 0.
@@ -16,7 +16,7 @@ ghost use Rattle.panelink.specs.Lent.{keptIn, paneOf, paneIn, flownTo, l
 pub extern "C" fn belfry_clear(pane: &mut [u64; 5], places: &mut [f64; 18]) -> u64
     ensures { λ r. ⌜ handed r (keptIn (now (pane .exit)) (now (places .exit))) ≡ handed 0 (paneIn clear) ⌝ }
 {
-    let blank = live::clear();
+    let blank = pane_live::clear();
     *pane = memory::numbers_in(blank);
     *places = memory::places_in(blank);
     0
@@ -35,8 +35,8 @@ pub extern "C" fn belfry_take(
         (take (paneOf (now (pane .entry)) (now (places .entry))) (stateOf moment centre (now (coordinates .entry)))) ⌝ }
 {
     let before = pane_of(*pane, *places);
-    let state = lent::state_of(moment, centre, *coordinates);
-    keep(live::take(before, state), pane, places)
+    let state = c_run::state_of(moment, centre, *coordinates);
+    keep(pane_live::take(before, state), pane, places)
 }
 
 // What a run returned and where it left the craft. 0 where that state is taken, 18 where it is not; 101 of a run that was refused.
@@ -53,9 +53,9 @@ pub extern "C" fn belfry_feed(
         (feed (paneOf (now (pane .entry)) (now (places .entry))) (flownTo answer (stateOf moment centre (now (coordinates .entry))))) ⌝ }
 {
     let before = pane_of(*pane, *places);
-    let state = lent::state_of(moment, centre, *coordinates);
+    let state = c_run::state_of(moment, centre, *coordinates);
     keep(
-        live::feed(before, memory::flown_to(answer, state)),
+        pane_live::feed(before, memory::flown_to(answer, state)),
         pane,
         places,
     )

@@ -1,16 +1,16 @@
 // A pane, a run's answer and a frame, between lent memory and the values of the crates below.
 
 use gravity::Guesses;
-use live::FrameAnswer;
-use live::Pane;
-use live::TakeAnswer;
-use motion::Outcome;
-use motion::RunAnswer;
+use pane_live::FrameAnswer;
+use pane_live::Pane;
+use pane_live::TakeAnswer;
+use run::Outcome;
+use run::RunAnswer;
 use state::State;
 ghost use lib.Ieee.{nan};
 ghost use mathlib.Core.Path.{_≡_};
-ghost use Rattle.handed.specs.Handed.{handed};
-ghost use Rattle.panelink.specs.Lent.{keptIn, olderOf, newerOf, paneOf, numbersIn, placesIn, outcomeOf, flownTo, left, ofFrame};
+ghost use Rattle.c_answer.specs.Handed.{handed};
+ghost use Rattle.belfry_pane.specs.Lent.{keptIn, olderOf, newerOf, paneOf, numbersIn, placesIn, outcomeOf, flownTo, left, ofFrame};
 
 const GOING: u64 = 100;
 

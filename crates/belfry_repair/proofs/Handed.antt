@@ -3,9 +3,9 @@ use Prim.Native.Nat.{ℕ}
 use mathlib.Core.List.{List}
 use mathlib.Core.Path.{_≡_, sym, ap, _∙_}
 use Rattle.mend.specs.Repaired.{Outcome, told}
-use Rattle.mend.specs.declared.Report.{Report}
-use Rattle.mend.specs.declared.RepairAnswer.{RepairAnswer}
-use Rattle.mend.specs.declared.RepairAnswer.the-variants.{Written, Refused}
+use Rattle.repair_book.specs.declared.Report.{Report}
+use Rattle.repair_book.specs.declared.RepairAnswer.{RepairAnswer}
+use Rattle.repair_book.specs.declared.RepairAnswer.the-variants.{Written, Refused}
 use Rattle.mendlink.specs.Lent.{reportIn, handedBack, ofRepair}
 
 module _ (before output fates : List ℕ) (o : Outcome) (answer : RepairAnswer) (left : told answer output fates ≡ o) where

@@ -2,10 +2,10 @@
 -- lent to write, together. Assumes nothing.
 use mathlib.Core.Path.{refl}
 use denote.Ref.{now}
-use Rattle.basis.proofs.OneAnswer.{Tell, OneOutcome, one-outcome}
-use Rattle.mend.specs.Repaired.{repairOutcome}
+use Rattle.base.proofs.OneAnswer.{Tell, OneOutcome, one-outcome}
+use Rattle.repair_book.specs.Repaired.{repairOutcome}
 use Rattle.mendlink.specs.Lent.{RepairMemory, handedBack, ofRepair}
-use Rattle.mendlink.proofs.belfry_repair as belfry-repair
+use Rattle.belfry_repair.proofs.belfry_repair as belfry-repair
 
 abbrev tell-repair : Tell belfry-repair.ended (λ κs. RepairMemory)
 tell-repair κs r after = handedBack r (now (after .1 .0)) (now (after .1 .1 .0)) (now (after .1 .1 .1 .0))

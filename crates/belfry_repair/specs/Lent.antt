@@ -2,11 +2,11 @@
 use Prim.Native.Nat.{ℕ}
 use mathlib.Core.Bool.{Bool}
 use mathlib.Core.List.{List, [], _∷_}
-use Rattle.basis.specs.Choice.{if_then_else_}
-use Rattle.mend.specs.Repaired.{Outcome}
-use Rattle.mend.specs.declared.Report.{Report}
-use Rattle.mend.specs.declared.RepairAnswer.{RepairAnswer}
-use Rattle.mend.specs.declared.RepairAnswer.the-variants.{Written, Refused}
+use Rattle.base.specs.Choice.{if_then_else_}
+use Rattle.repair_book.specs.Repaired.{Outcome}
+use Rattle.repair_book.specs.declared.Report.{Report}
+use Rattle.repair_book.specs.declared.RepairAnswer.{RepairAnswer}
+use Rattle.repair_book.specs.declared.RepairAnswer.the-variants.{Written, Refused}
 
 -- a mark as a number: 1 where something changed
 abbrev pub markOf : Bool → ℕ

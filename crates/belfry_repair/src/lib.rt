@@ -1,11 +1,11 @@
 // The repair of a damaged book for C and Rust, over memory that the caller lends. Returns 0 where a book was written, else the
 // number of the refusal.
 
-use mend::MOST_ENTRIES;
-use mend::RepairAnswer;
-use mend::Report;
+use repair_book::MOST_ENTRIES;
+use repair_book::RepairAnswer;
+use repair_book::Report;
 ghost use mathlib.Core.Path.{_≡_};
-ghost use Rattle.mend.specs.Repaired.{repairOutcome};
+ghost use Rattle.repair_book.specs.Repaired.{repairOutcome};
 ghost use Rattle.mendlink.specs.Lent.{markOf, reportIn, handedBack, ofRepair};
 
 fn mark_of(changed: bool) -> u64
@@ -39,7 +39,7 @@ pub extern "C" fn belfry_repair(
     ensures { λ r. ⌜ handedBack r (now (output .exit)) (now (fates .exit)) (now (report .exit)) ≡ ofRepair (now (report .entry))
         (repairOutcome (now (input .entry)) (now (output .entry)) (now (fates .entry))) ⌝ }
 {
-    match mend::repair(input, output, fates) {
+    match repair_book::repair(input, output, fates) {
         RepairAnswer::Written(told) => {
             *report = report_in(told);
             0

@@ -6,7 +6,7 @@ use Rattle.conic.specs.declared.Conic.{Conic}
 use Rattle.conic.specs.declared.Conic.the-variants.{Ellipse, Hyperbola}
 use Rattle.conic.specs.declared.CentredConic.{CentredConic}
 use Rattle.conic.specs.declared.ConicAnswer.{ConicAnswer}
-use Rattle.handed.specs.Handed.{Answer, Accepted, Refused}
+use Rattle.c_answer.specs.Handed.{Answer, Accepted, Refused}
 
 -- written: a conic's kind, 1 for an ellipse and 2 for a hyperbola, behind the number of its centre
 abbrev pub kindOf : Conic → ℕ

@@ -5,9 +5,9 @@ use conic::ConicAnswer;
 use lentstate::unkept_of;
 ghost use mathlib.Core.Path.{_≡_};
 ghost use Rattle.conic.specs.Conic.{conicAnswer};
-ghost use Rattle.handed.specs.Handed.{handed, answered};
-ghost use Rattle.lentstate.specs.Groups.{unkeptOf};
-ghost use Rattle.lentconic.specs.Figures.{kindOf, figuresOf, bothIn, ofConic};
+ghost use Rattle.c_answer.specs.Handed.{handed, answered};
+ghost use Rattle.c_state.specs.Groups.{unkeptOf};
+ghost use Rattle.c_conic.specs.Figures.{kindOf, figuresOf, bothIn, ofConic};
 
 fn kind_of(conic: Conic) -> u64
     ensures { λ r. ⌜ r ≡ kindOf conic ⌝ }

@@ -4,13 +4,13 @@ use Prim.Native.Nat.{ℕ}
 use mathlib.Core.List.{List, [], _∷_}
 use lib.ListN.{getD}
 use lib.Ieee.{Float, nan}
-use Rattle.fixed.specs.declared.EarthFixed.{EarthFixed}
-use Rattle.fixed.specs.declared.FixedAnswer.{FixedAnswer}
-use Rattle.sphere.specs.Signed.{signedOf}
-use Rattle.sphere.specs.declared.Sphere.{Sphere}
-use Rattle.sphere.specs.declared.SphereAnswer.{SphereAnswer}
-use Rattle.handed.specs.Handed.{Answer, Accepted, Refused}
-use Rattle.lentstate.specs.Groups.{startIn}
+use Rattle.earth_fixed.specs.declared.EarthFixed.{EarthFixed}
+use Rattle.earth_fixed.specs.declared.FixedAnswer.{FixedAnswer}
+use Rattle.launch.specs.Signed.{signedOf}
+use Rattle.launch.specs.declared.Sphere.{Sphere}
+use Rattle.launch.specs.declared.SphereAnswer.{SphereAnswer}
+use Rattle.c_answer.specs.Handed.{Answer, Accepted, Refused}
+use Rattle.c_state.specs.Groups.{startIn}
 
 -- read: radius and speed; latitude, longitude, path angle and azimuth
 abbrev pub sphereOf : List Float → List ℕ → Sphere

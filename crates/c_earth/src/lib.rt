@@ -1,14 +1,14 @@
 // The Earth-fixed call, and the numbers of an injection as launch crews speak it, over what a caller lends.
 
-use fixed::FixedAnswer;
+use earth_fixed::FixedAnswer;
 use lentstate::unkept_of;
-use sphere::Sphere;
-use sphere::signed_of;
+use launch::Sphere;
+use launch::signed_of;
 ghost use mathlib.Core.Path.{_≡_};
-ghost use Rattle.fixed.specs.Fixed.{fixedAnswer};
-ghost use Rattle.handed.specs.Handed.{handed, answered};
-ghost use Rattle.lentstate.specs.Groups.{unkeptOf};
-ghost use Rattle.lentearth.specs.Earth.{sphereOf, ofFixed};
+ghost use Rattle.earth_fixed.specs.Fixed.{fixedAnswer};
+ghost use Rattle.c_answer.specs.Handed.{handed, answered};
+ghost use Rattle.c_state.specs.Groups.{unkeptOf};
+ghost use Rattle.c_earth.specs.Earth.{sphereOf, ofFixed};
 
 pub fn sphere_of(sizes: [f64; 2], angles: [u64; 4]) -> Sphere
     ensures { λ r. ⌜ r ≡ sphereOf sizes angles ⌝ }
@@ -37,7 +37,7 @@ pub fn turned(
     ensures { λ r. ⌜ handed r (now (turned .exit)) ≡ answered (now (turned .entry))
         (ofFixed (fixedAnswer rule dut (unkeptOf moment centre (now (coordinates .entry))))) ⌝ }
 {
-    match fixed::earth_fixed(rule, dut, unkept_of(moment, centre, *coordinates)) {
+    match earth_fixed::earth_fixed(rule, dut, unkept_of(moment, centre, *coordinates)) {
         FixedAnswer::Fixed(t) => {
             *turned = [t.x, t.y, t.z, t.vx, t.vy, t.vz];
             0

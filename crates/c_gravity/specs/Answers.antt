@@ -2,9 +2,9 @@
 use mathlib.Core.List.{List}
 use lib.Ieee.{Float}
 use Rattle.gravity.specs.declared.AccelerationAnswer.{AccelerationAnswer}
-use Rattle.injection.specs.declared.InjectionAnswer.{InjectionAnswer}
-use Rattle.handed.specs.Handed.{Answer, Accepted, Refused}
-use Rattle.lentstate.specs.Groups.{vectorIn, wholeIn}
+use Rattle.gravity_stored.specs.declared.InjectionAnswer.{InjectionAnswer}
+use Rattle.c_answer.specs.Handed.{Answer, Accepted, Refused}
+use Rattle.c_state.specs.Groups.{vectorIn, wholeIn}
 
 abbrev pub ofAcceleration : AccelerationAnswer → Answer (List Float)
 ofAcceleration (AccelerationAnswer.Is a) = Accepted (vectorIn a)

@@ -2,15 +2,15 @@
 
 use gravity::AccelerationAnswer;
 use injection::InjectionAnswer;
-use lentstate::injection_of;
-use lentstate::setting_of;
-use lentstate::vector_of;
+use c_state::injection_of;
+use c_state::setting_of;
+use c_state::vector_of;
 ghost use mathlib.Core.Path.{_≡_};
 ghost use Rattle.gravity.specs.Acceleration.{accelerationAnswer};
-ghost use Rattle.injection.specs.Injection.{injectionAnswer};
-ghost use Rattle.handed.specs.Handed.{handed, answered};
-ghost use Rattle.lentstate.specs.Groups.{settingOf, vectorOf, injectionOf};
-ghost use Rattle.lentpull.specs.Answers.{ofAcceleration, ofInjection};
+ghost use Rattle.gravity_stored.specs.Injection.{injectionAnswer};
+ghost use Rattle.c_answer.specs.Handed.{handed, answered};
+ghost use Rattle.c_state.specs.Groups.{settingOf, vectorOf, injectionOf};
+ghost use Rattle.c_gravity.specs.Answers.{ofAcceleration, ofInjection};
 
 pub fn pull(
     book: &[u8],
@@ -54,7 +54,7 @@ pub fn inject(
         (injectionOf moment centre (now (coordinates .entry))))) ⌝ }
 {
     let setting = setting_of(*coefficients, *extras, dut, rule);
-    match injection::inject(book, setting, injection_of(moment, centre, *coordinates)) {
+    match gravity_stored::inject(book, setting, injection_of(moment, centre, *coordinates)) {
         InjectionAnswer::Injected(s) => {
             *state = [s.x, s.y, s.z, s.vx, s.vy, s.vz, s.ax, s.ay, s.az];
             0

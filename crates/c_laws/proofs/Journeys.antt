@@ -8,19 +8,19 @@ use Rattle.state.specs.declared.State.{State}
 use Rattle.state.specs.declared.Injection.{Injection}
 use Rattle.state.specs.declared.Setting.{Setting}
 use Rattle.gravity.specs.declared.Guesses.{Guesses}
-use Rattle.injection.specs.Injection.{launched}
-use Rattle.injection.proofs.Launched.{launched-bare, launched-again}
-use Rattle.start.specs.Start.{startRefusal}
-use Rattle.start.proofs.Passed.{passed}
-use Rattle.motion.specs.Step.{step}
-use Rattle.motion.specs.Run.{runTo, runAnswer}
-use Rattle.motion.specs.declared.RunAnswer.{RunAnswer}
-use Rattle.journey.specs.Journey.{Call, journey}
-use Rattle.journey.proofs.Answers.{answerIs, refusedIs, runFrom, centreStays}
-use Rattle.journey.proofs.Order.{run-launched}
+use Rattle.gravity_stored.specs.Injection.{launched}
+use Rattle.gravity_stored.proofs.Launched.{launched-bare, launched-again}
+use Rattle.run_checks.specs.Start.{startRefusal}
+use Rattle.run_checks.proofs.Passed.{passed}
+use Rattle.run.specs.Step.{step}
+use Rattle.run.specs.Run.{runTo, runAnswer}
+use Rattle.run.specs.declared.RunAnswer.{RunAnswer}
+use Rattle.run_laws.specs.Journey.{Call, journey}
+use Rattle.run_laws.proofs.Answers.{answerIs, refusedIs, runFrom, centreStays}
+use Rattle.run_laws.proofs.Order.{run-launched}
 use Rattle.lent.specs.Lent.{settingOf, noExtras, injectionOf, stateOf, guessesOf, coordinatesIn, wholeIn, guessesIn}
-use Rattle.lent.specs.Answers.{RunMemory, ofRun, ofFlight}
-use Rattle.linked.specs.Linked.{LinkedCall, asCall, linkedJourney, oldJourney}
+use Rattle.c_run.specs.Answers.{RunMemory, ofRun, ofFlight}
+use Rattle.c_laws.specs.Linked.{LinkedCall, asCall, linkedJourney, oldJourney}
 
 -- a run stays about its centre
 centre-stays : (b : List ℕ) (setting : Setting) (s : State) (h target budget : ℕ) (given : Guesses)

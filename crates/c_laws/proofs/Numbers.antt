@@ -6,10 +6,10 @@ use mathlib.Core.Path.{_≡_, refl}
 use Prim.Native.Nat.{ℕ, _+_}
 use lib.Ieee.{Float, eq}
 use lib.Ieee.Scale.{finite}
-use Rattle.basis.specs.Choice.{if_then_else_, _<?_, _≤?_, _=?_}
-use Rattle.basis.specs.Limits.{isMoment, isDUT, lastDay, circle}
-use Rattle.basis.proofs.Cases.{by-if}
-use Rattle.basis.specs.Floats.{zero64, above0}
+use Rattle.base.specs.Choice.{if_then_else_, _<?_, _≤?_, _=?_}
+use Rattle.base.specs.Limits.{isMoment, isDUT, lastDay, circle}
+use Rattle.base.proofs.Cases.{by-if}
+use Rattle.base.specs.Floats.{zero64, above0}
 use Rattle.state.specs.State.{finiteState, finiteInjection, isBody}
 use Rattle.state.specs.declared.State.{State}
 use Rattle.state.specs.declared.Injection.{Injection}
@@ -28,28 +28,28 @@ use Rattle.gravity.specs.Acceleration.{accelerationAnswer}
 use Rattle.gravity.proofs.Refused as gravity
 use Rattle.gravity.specs.declared.AccelerationAnswer.{AccelerationAnswer}
 use Rattle.gravity.specs.declared.Guesses.{Guesses}
-use Rattle.injection.specs.Injection.{injectionAnswer as injection-answer}
-use Rattle.injection.specs.declared.InjectionAnswer.{InjectionAnswer}
-use Rattle.injection.proofs.Refused as injection
-use Rattle.motion.specs.Run.{runAnswer, singleStepAnswer}
-use Rattle.motion.specs.declared.Outcome.{Outcome}
-use Rattle.journey.proofs.Refused as journey
+use Rattle.gravity_stored.specs.Injection.{injectionAnswer as injection-answer}
+use Rattle.gravity_stored.specs.declared.InjectionAnswer.{InjectionAnswer}
+use Rattle.gravity_stored.proofs.Refused as injection
+use Rattle.run.specs.Run.{runAnswer, singleStepAnswer}
+use Rattle.run.specs.declared.Outcome.{Outcome}
+use Rattle.run_laws.proofs.Refused as journey
 use Rattle.centre.specs.Move.{moveAnswer}
 use Rattle.centre.specs.declared.MoveAnswer.{MoveAnswer}
 use Rattle.centre.proofs.Moves as centre
-use Rattle.fixed.specs.declared.FixedAnswer.{FixedAnswer}
-use Rattle.sphere.specs.Sphere as sphere
-use Rattle.sphere.specs.Sphere.{anglesAllowed, sizesAllowed, injected, injectionAnswer, sphereAnswer}
-use Rattle.sphere.specs.declared.Sphere.{Sphere}
-use Rattle.sphere.specs.declared.SphereAnswer.{SphereAnswer}
-use Rattle.rotation.specs.Rotation.{rotation}
-use Rattle.fixed.specs.Fixed.{afterHour, finiteFixed, finiteAnswer, fixedAnswer, turned}
+use Rattle.earth_fixed.specs.declared.FixedAnswer.{FixedAnswer}
+use Rattle.launch.specs.Sphere as sphere
+use Rattle.launch.specs.Sphere.{anglesAllowed, sizesAllowed, injected, injectionAnswer, sphereAnswer}
+use Rattle.launch.specs.declared.Sphere.{Sphere}
+use Rattle.launch.specs.declared.SphereAnswer.{SphereAnswer}
+use Rattle.earth_rotation.specs.Rotation.{rotation}
+use Rattle.earth_fixed.specs.Fixed.{afterHour, finiteFixed, finiteAnswer, fixedAnswer, turned}
 use Rattle.conic.specs.Conic.{unfit, _before_, refusal, orbitAnswer, orbit, figuresAbout, conicAnswer}
 use Rattle.conic.specs.declared.ConicAnswer.{ConicAnswer}
-use Rattle.almanaclink.specs.Answers.{ofDate, ofDay, ofJulian, ofHour, ofRoot, ofSineCosine, ofPosition}
-use Rattle.lent.specs.Answers.{ofAcceleration, ofInjection, ofMove}
-use Rattle.lentearth.specs.Earth.{ofFixed, ofSphere}
-use Rattle.lentconic.specs.Figures.{ofConic}
+use Rattle.belfry_almanac.specs.Answers.{ofDate, ofDay, ofJulian, ofHour, ofRoot, ofSineCosine, ofPosition}
+use Rattle.c_run.specs.Answers.{ofAcceleration, ofInjection, ofMove}
+use Rattle.c_earth.specs.Earth.{ofFixed, ofSphere}
+use Rattle.c_conic.specs.Figures.{ofConic}
 use Rattle.linked.specs.Table.{tabled, told, outcomeTold}
 
 -- 0 for none, or a number of the table

@@ -6,7 +6,7 @@ use mathlib.Core.Path.{refl}
 use Prim.Native.Nat.{ℕ}
 use lib.Ieee.{Float}
 use denote.Ref.{now}
-use Rattle.basis.specs.Choice.{if_then_else_}
+use Rattle.base.specs.Choice.{if_then_else_}
 use Rattle.basis.proofs.OneAnswer.{Told, Tell, OneOutcome, OneAnswer, one-outcome, one-answer}
 use Rattle.calendar.specs.Answers.{dateAnswer, dayAnswer, julianAnswer}
 use Rattle.hour.specs.Hour.{hourAnswer, siderealAnswer}
@@ -15,39 +15,39 @@ use Rattle.sine.specs.Sine.{sineCosineAnswer}
 use Rattle.book.specs.Passes.{passes}
 use Rattle.book.specs.Position.{positionAnswer}
 use Rattle.gravity.specs.Acceleration.{accelerationAnswer}
-use Rattle.injection.specs.Injection.{injectionAnswer, launched}
-use Rattle.motion.specs.Run.{runAnswer, singleStepAnswer}
-use Rattle.fixed.specs.Fixed.{fixedAnswer}
-use Rattle.sphere.specs.Sphere.{sphereAnswer}
+use Rattle.gravity_stored.specs.Injection.{injectionAnswer, launched}
+use Rattle.run.specs.Run.{runAnswer, singleStepAnswer}
+use Rattle.earth_fixed.specs.Fixed.{fixedAnswer}
+use Rattle.launch.specs.Sphere.{sphereAnswer}
 use Rattle.conic.specs.Conic.{conicAnswer}
-use Rattle.handed.specs.Handed.{Handed, handed, answered}
-use Rattle.almanaclink.specs.Answers.{ofDate, ofDay, ofJulian, ofHour, ofRoot, ofSineCosine, ofPosition}
-use Rattle.lent.specs.Lent.{settingOf, noExtras, vectorOf, injectionOf, stateOf, unkeptOf, guessesOf}
-use Rattle.lentearth.specs.Earth.{sphereOf, ofFixed, ofSphere}
-use Rattle.lentconic.specs.Figures.{Both, bothIn, ofConic}
+use Rattle.c_answer.specs.Handed.{Handed, handed, answered}
+use Rattle.belfry_almanac.specs.Answers.{ofDate, ofDay, ofJulian, ofHour, ofRoot, ofSineCosine, ofPosition}
+use Rattle.c_run.specs.Lent.{settingOf, noExtras, vectorOf, injectionOf, stateOf, unkeptOf, guessesOf}
+use Rattle.c_earth.specs.Earth.{sphereOf, ofFixed, ofSphere}
+use Rattle.c_conic.specs.Figures.{Both, bothIn, ofConic}
 use Rattle.lent.specs.Answers.{ofAcceleration, ofInjection, ofMove, RunMemory, handedBack, ofRun, ofFlight}
-use Rattle.almanaclink.proofs.belfry_date as date
-use Rattle.almanaclink.proofs.belfry_day as day
-use Rattle.almanaclink.proofs.belfry_twice_julian_date as twice-julian-date
-use Rattle.almanaclink.proofs.belfry_hour_angle as hour-angle
-use Rattle.almanaclink.proofs.belfry_root as root
-use Rattle.almanaclink.proofs.belfry_sine_cosine as sine-cosine
-use Rattle.almanaclink.proofs.belfry_position as position
-use Rattle.link.proofs.belfry_acceleration as acceleration
-use Rattle.link.proofs.belfry_earth_fixed as earth-fixed
-use Rattle.link.proofs.belfry_from_sphere as from-sphere
-use Rattle.almanaclink.proofs.belfry_sidereal as sidereal
-use Rattle.centrelink.proofs.belfry_turn as turn
-use Rattle.centrelink.proofs.belfry_pull as pull
-use Rattle.centrelink.proofs.belfry_inject as inject
-use Rattle.centrelink.proofs.belfry_fly as fly
-use Rattle.centrelink.proofs.belfry_move as move
-use Rattle.centrelink.proofs.belfry_orbit as orbit
+use Rattle.belfry_almanac.proofs.belfry_date as date
+use Rattle.belfry_almanac.proofs.belfry_day as day
+use Rattle.belfry_almanac.proofs.belfry_twice_julian_date as twice-julian-date
+use Rattle.belfry_almanac.proofs.belfry_hour_angle as hour-angle
+use Rattle.belfry_almanac.proofs.belfry_root as root
+use Rattle.belfry_almanac.proofs.belfry_sine_cosine as sine-cosine
+use Rattle.belfry_almanac.proofs.belfry_position as position
+use Rattle.belfry_earth.proofs.belfry_acceleration as acceleration
+use Rattle.belfry_earth.proofs.belfry_earth_fixed as earth-fixed
+use Rattle.belfry_earth.proofs.belfry_from_sphere as from-sphere
+use Rattle.belfry_almanac.proofs.belfry_sidereal as sidereal
+use Rattle.belfry_centre.proofs.belfry_turn as turn
+use Rattle.belfry_centre.proofs.belfry_pull as pull
+use Rattle.belfry_centre.proofs.belfry_inject as inject
+use Rattle.belfry_centre.proofs.belfry_fly as fly
+use Rattle.belfry_centre.proofs.belfry_move as move
+use Rattle.belfry_centre.proofs.belfry_orbit as orbit
 use Rattle.centre.specs.Move.{moveAnswer}
-use Rattle.almanaclink.proofs.belfry_book_passes as book-passes
-use Rattle.link.proofs.belfry_run as run
-use Rattle.link.proofs.belfry_single_step as single-step
-use Rattle.link.proofs.belfry_conic as conic
+use Rattle.belfry_almanac.proofs.belfry_book_passes as book-passes
+use Rattle.belfry_earth.proofs.belfry_run as run
+use Rattle.belfry_earth.proofs.belfry_single_step as single-step
+use Rattle.belfry_earth.proofs.belfry_conic as conic
 
 abbrev tell-date : Tell date.ended (λ κs. Handed (List ℕ))
 tell-date κs r after = handed r (now (after .1 .0))

@@ -7,34 +7,34 @@ use Prim.Native.Nat.{ℕ, _-_, _≤_, _<_}
 use native.Mathlib.Omega.{arith}
 use lib.Ieee.{Float}
 use borrow.Author.Tests.{leb-true, ne-eqb}
-use Rattle.basis.specs.Choice.{_<?_, _≤?_}
-use Rattle.basis.proofs.Cases.{by-if}
+use Rattle.base.specs.Choice.{_<?_, _≤?_}
+use Rattle.base.proofs.Cases.{by-if}
 use Rattle.book.proofs.Below as below
 use Rattle.state.specs.State.{finiteVector}
 use Rattle.state.specs.declared.State.{State}
 use Rattle.state.specs.declared.Setting.{Setting}
 use Rattle.gravity.specs.declared.Guesses.{Guesses}
 use Rattle.start.specs.Start.{startRefusal}
-use Rattle.motion.specs.Run.{runAnswer}
-use Rattle.motion.specs.declared.Outcome.{Outcome}
-use Rattle.motion.specs.declared.RunAnswer.{RunAnswer}
-use Rattle.journey.specs.Journey.{journey}
-use Rattle.live.specs.Pane.{follows, take, feedBy, feed, after, figure, frameAt}
-use Rattle.live.specs.Laws.{fed}
-use Rattle.live.specs.declared.Pane.{Pane}
-use Rattle.live.specs.declared.Pane.the-variants.{Blank, One, Two}
-use Rattle.live.specs.declared.TakeAnswer.{TakeAnswer}
-use Rattle.live.specs.declared.TakeAnswer.the-variants as taken
-use Rattle.live.specs.declared.FrameAnswer.{FrameAnswer}
+use Rattle.run.specs.Run.{runAnswer}
+use Rattle.run.specs.declared.Outcome.{Outcome}
+use Rattle.run.specs.declared.RunAnswer.{RunAnswer}
+use Rattle.run_laws.specs.Journey.{journey}
+use Rattle.pane_live.specs.Pane.{follows, take, feedBy, feed, after, figure, frameAt}
+use Rattle.pane_live.specs.Laws.{fed}
+use Rattle.pane_live.specs.declared.Pane.{Pane}
+use Rattle.pane_live.specs.declared.Pane.the-variants.{Blank, One, Two}
+use Rattle.pane_live.specs.declared.TakeAnswer.{TakeAnswer}
+use Rattle.pane_live.specs.declared.TakeAnswer.the-variants as taken
+use Rattle.pane_live.specs.declared.FrameAnswer.{FrameAnswer}
 use Rattle.live.proofs.Night.{the-night}
-use Rattle.lent.specs.Lent.{settingOf, stateOf, guessesOf, wholeIn}
+use Rattle.c_run.specs.Lent.{settingOf, stateOf, guessesOf, wholeIn}
 use Rattle.lent.specs.Answers.{outcomeNumber, RunMemory, ofFlight}
 use Rattle.panelink.specs.Lent.{Kept, paneOf, numbersIn, placesIn, paneIn, outcomeOf, flownTo, left, late, nothing, framed, ofFrame}
 use Rattle.linked.specs.Table.{tabled, outcomeTold}
-use Rattle.linked.specs.Linked.{LinkedCall, asCall, linkedJourney}
-use Rattle.linked.specs.Panes.{fedIn, takenOr18, fedOr18, frameTold}
-use Rattle.linked.proofs.Numbers.{run-told}
-use Rattle.linked.proofs.Journeys.{state-reads-back}
+use Rattle.c_laws.specs.Linked.{LinkedCall, asCall, linkedJourney}
+use Rattle.c_laws.specs.Panes.{fedIn, takenOr18, fedOr18, frameTold}
+use Rattle.c_laws.proofs.Numbers.{run-told}
+use Rattle.c_laws.proofs.Journeys.{state-reads-back}
 
 pub pane-reads-back : (pane : Pane) → paneOf (numbersIn pane) (placesIn pane) ≡ pane
 pane-reads-back Blank = refl

@@ -2,11 +2,11 @@
 use mathlib.Core.List.{List, [], _∷_}
 use Prim.Native.Nat.{ℕ}
 use lib.Ieee.{Float}
-use Rattle.injection.specs.Injection.{launched}
-use Rattle.motion.specs.Run.{runAnswer}
-use Rattle.journey.specs.Journey.{Call}
-use Rattle.lent.specs.Lent.{settingOf, noExtras, injectionOf, stateOf, guessesOf}
-use Rattle.lent.specs.Answers.{RunMemory, ofRun, ofFlight}
+use Rattle.gravity_stored.specs.Injection.{launched}
+use Rattle.run.specs.Run.{runAnswer}
+use Rattle.run_laws.specs.Journey.{Call}
+use Rattle.c_run.specs.Lent.{settingOf, noExtras, injectionOf, stateOf, guessesOf}
+use Rattle.c_run.specs.Answers.{RunMemory, ofRun, ofFlight}
 
 -- one call, with its guesses as they lie in memory
 pub record LinkedCall : Type 0 where

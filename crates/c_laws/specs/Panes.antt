@@ -2,11 +2,11 @@
 use mathlib.Core.List.{List, [], _∷_}
 use mathlib.Core.Bool.{Bool, _||_}
 use Prim.Native.Nat.{ℕ}
-use Rattle.basis.specs.Choice.{_=?_}
-use Rattle.live.specs.Pane.{feed}
-use Rattle.lent.specs.Lent.{stateOf}
-use Rattle.lent.specs.Answers.{RunMemory}
-use Rattle.panelink.specs.Lent.{Kept, paneOf, flownTo, unchanged, left, late, empty}
+use Rattle.base.specs.Choice.{_=?_}
+use Rattle.pane_live.specs.Pane.{feed}
+use Rattle.c_run.specs.Lent.{stateOf}
+use Rattle.c_run.specs.Answers.{RunMemory}
+use Rattle.belfry_pane.specs.Lent.{Kept, paneOf, flownTo, unchanged, left, late, empty}
 
 -- the pane's memory after flights about a centre, one after the other: each is fed as it left its memory
 abbrev pub fedIn : ℕ → Kept → List RunMemory → Kept

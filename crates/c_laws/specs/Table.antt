@@ -2,8 +2,8 @@
 -- returns tells a refusal from 0 and from a run's 100.
 use Prim.Native.Nat.{ℕ}
 use mathlib.Core.Bool.{Bool, true, _&&_}
-use Rattle.basis.specs.Choice.{_≤?_}
-use Rattle.motion.specs.declared.Outcome.{Outcome}
+use Rattle.base.specs.Choice.{_≤?_}
+use Rattle.run.specs.declared.Outcome.{Outcome}
 use Rattle.handed.specs.Handed.{Answer, Accepted, Refused}
 
 abbrev pub tabled : ℕ → Bool

@@ -2,13 +2,13 @@
 use Prim.Native.Nat.{ℕ}
 use mathlib.Core.List.{List}
 use lib.Ieee.{Float}
-use Rattle.motion.specs.declared.Outcome.{Outcome}
-use Rattle.motion.specs.declared.RunAnswer.{RunAnswer}
+use Rattle.run.specs.declared.Outcome.{Outcome}
+use Rattle.run.specs.declared.RunAnswer.{RunAnswer}
 use Rattle.centre.specs.declared.MoveAnswer.{MoveAnswer}
-use Rattle.handed.specs.Handed.{Answer, Accepted, Refused}
-use Rattle.lentstate.specs.Groups.{coordinatesIn, wholeIn}
-pub use Rattle.lentpull.specs.Answers.{ofAcceleration, ofInjection}
-use Rattle.lent.specs.Lent.{guessesIn}
+use Rattle.c_answer.specs.Handed.{Answer, Accepted, Refused}
+use Rattle.c_state.specs.Groups.{coordinatesIn, wholeIn}
+pub use Rattle.c_gravity.specs.Answers.{ofAcceleration, ofInjection}
+use Rattle.c_run.specs.Lent.{guessesIn}
 
 -- a move leaves the moment as it was, and the new centre was given
 abbrev pub ofMove : MoveAnswer → Answer (List Float)

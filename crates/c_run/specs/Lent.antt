@@ -4,7 +4,7 @@ use Prim.Native.Nat.{ℕ}
 use mathlib.Core.List.{List, [], _∷_}
 use lib.ListN.{getD}
 use Rattle.gravity.specs.declared.Guesses.{Guesses}
-pub use Rattle.lentstate.specs.Groups.{settingOf, noExtras, vectorOf, injectionOf, stateOf, unkeptOf, vectorIn, startIn, coordinatesIn, wholeIn}
+pub use Rattle.c_state.specs.Groups.{settingOf, noExtras, vectorOf, injectionOf, stateOf, unkeptOf, vectorIn, startIn, coordinatesIn, wholeIn}
 
 -- read: "one guess a body, 2 to 6"
 abbrev pub guessesOf : List ℕ → Guesses

@@ -3,16 +3,16 @@
 use crate::guesses_of;
 use crate::hand_back_whole;
 use centre::MoveAnswer;
-pub use lentpull::inject;
-pub use lentpull::pull;
-use lentstate::setting_of;
-use lentstate::state_of;
+pub use c_gravity::inject;
+pub use c_gravity::pull;
+use c_state::setting_of;
+use c_state::state_of;
 ghost use mathlib.Core.Path.{_≡_};
-ghost use Rattle.motion.specs.Run.{runAnswer};
+ghost use Rattle.run.specs.Run.{runAnswer};
 ghost use Rattle.centre.specs.Move.{moveAnswer};
-ghost use Rattle.handed.specs.Handed.{handed, answered};
-ghost use Rattle.lentstate.specs.Groups.{settingOf, stateOf};
-ghost use Rattle.lent.specs.Lent.{guessesOf};
+ghost use Rattle.c_answer.specs.Handed.{handed, answered};
+ghost use Rattle.c_state.specs.Groups.{settingOf, stateOf};
+ghost use Rattle.c_run.specs.Lent.{guessesOf};
 ghost use Rattle.lent.specs.Answers.{ofMove, handedBack, ofFlight};
 
 // What is read and what is written stand apart: the next call reads what this one wrote. The centre is the one given.
@@ -41,7 +41,7 @@ pub fn fly(
     let setting = setting_of(*coefficients, *extras, dut, rule);
     let state = state_of(moment, centre, *coordinates);
     let given = guesses_of(*guesses);
-    let answer = motion::run(book, setting, state, h, target, budget, given);
+    let answer = run::run(book, setting, state, h, target, budget, given);
     hand_back_whole(answer, reached, there, entries, steps)
 }
 

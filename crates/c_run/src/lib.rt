@@ -4,13 +4,13 @@
 pub mod calls;
 
 use gravity::Guesses;
-pub use lentstate::injection_of;
-pub use lentstate::setting_of;
-pub use lentstate::state_of;
-use motion::Outcome;
-use motion::RunAnswer;
+pub use c_state::injection_of;
+pub use c_state::setting_of;
+pub use c_state::state_of;
+use run::Outcome;
+use run::RunAnswer;
 ghost use mathlib.Core.Path.{_≡_};
-ghost use Rattle.lent.specs.Lent.{guessesOf};
+ghost use Rattle.c_run.specs.Lent.{guessesOf};
 ghost use Rattle.lent.specs.Answers.{outcomeNumber, handedBack, ofRun, ofFlight};
 
 const GOING: u64 = 100;

@@ -5,7 +5,7 @@ use state::Setting;
 use state::State;
 use state::Vector;
 ghost use mathlib.Core.Path.{_≡_};
-ghost use Rattle.lentstate.specs.Groups.{settingOf, vectorOf, injectionOf, stateOf, unkeptOf};
+ghost use Rattle.c_state.specs.Groups.{settingOf, vectorOf, injectionOf, stateOf, unkeptOf};
 
 pub fn setting_of(m: [f64; 6], extras: [f64; 3], dut: u32, rule: u64) -> Setting
     ensures { λ r. ⌜ r ≡ settingOf m extras dut rule ⌝ }

@@ -3,7 +3,7 @@ use mathlib.Core.List.{List, [], _∷_}
 use mathlib.Core.Path.{_≡_}
 use Prim.Native.Nat.{ℕ}
 use lib.Ieee.{Float, nan, neg}
-use Rattle.basis.specs.Floats.{whole}
+use Rattle.base.specs.Floats.{whole}
 use Rattle.calendar.specs.Gregorian.{ymd}
 use Rattle.calendar.specs.Answers.{dateAnswer}
 use Rattle.calendar.specs.declared.DateAnswer.{DateAnswer}

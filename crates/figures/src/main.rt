@@ -10,8 +10,8 @@ use libc::STDIN_FILENO;
 use libc::STDOUT_FILENO;
 use root::RootAnswer;
 use sine::SineCosineAnswer;
-use text::Bits;
-use text::Field;
+use text_write::Bits;
+use text_write::Field;
 ghost use Prim.Native.Nat.{_≤_, _<_};
 ghost use lib.ListN.{length};
 
@@ -37,7 +37,7 @@ fn say_bits(bits: u64) {
 
 fn say_float(x: f64) {
     say(b" ");
-    let b = text::bits_of(x);
+    let b = text_write::bits_of(x);
     match b {
         Bits::Pattern(bits) => say_bits(bits),
         Bits::NaN => say(b"nan"),
@@ -110,7 +110,7 @@ fn angle(parts: u64) {
 }
 
 fn root_of(bits: u64) {
-    let answer = root::root(text::float_of_bits(bits));
+    let answer = root::root(text_write::float_of_bits(bits));
     match answer {
         RootAnswer::Value(y) => say_float(y),
         RootAnswer::Refused(number) => say_refused(number),
@@ -119,11 +119,11 @@ fn root_of(bits: u64) {
 
 // A line of two patterns: the argument, what the library makes of it, and what was published.
 fn published(line: &[u8]) {
-    let Field::Value(x, at) = text::read_hex16(line, 0) else {
+    let Field::Value(x, at) = text_write::read_hex16(line, 0) else {
         return;
     };
     if at < line.len() {
-        let Field::Value(y, _) = text::read_hex16(line, at + 1) else {
+        let Field::Value(y, _) = text_write::read_hex16(line, at + 1) else {
             return;
         };
         say(b"root ");

@@ -5,9 +5,9 @@ use lib.ListN.{length}
 use lib.Ieee.{Float, nan, inf, fin, binary64, toBits}
 use mir.Syntax.{w64}
 use mir.Val.{Fits}
-use Rattle.text.specs.Numerals.{hex16, floatText, decimalOf}
-use Rattle.text.proofs.Decimal.{decimal-some, decimal-fits}
-use Rattle.text.proofs.Digits.{length-digits}
+use Rattle.text_write.specs.Numerals.{hex16, floatText, decimalOf}
+use Rattle.text_write.proofs.Decimal.{decimal-some, decimal-fits}
+use Rattle.text_write.proofs.Digits.{length-digits}
 
 pub record Short (most n : ℕ) : Type 0 where
   pub some : 0 < n

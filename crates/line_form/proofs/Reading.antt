@@ -1,7 +1,7 @@
 -- How the loops over a line's bytes and fields come to what the definitions say of the whole line.
 use Prim.Native.Nat.{ℕ, suc, _+_, _<_}
 use mathlib.Core.Bool.{Bool, true, false, _&&_}
-use Rattle.basis.specs.Choice.{if_then_else_}
+use Rattle.base.specs.Choice.{if_then_else_}
 use mathlib.Core.List.{List, [], _∷_, _++_}
 use mathlib.Core.Path.{_≡_, refl, sym, ap, _∙_}
 use native.Mathlib.Numerals.{add-one}
@@ -11,7 +11,7 @@ use lib.Dec.{eqb}
 use lib.ListN.{length, getD, take, drop, set}
 use lib.Seq.{drop-cons, drop-length, take-suc-set}
 use Rattle.fields.specs.declared.Field.{Field}
-use Rattle.fields.specs.declared.Field.the-variants.{Value, Bad}
+use Rattle.text_read.specs.declared.Field.the-variants.{Value, Bad}
 use Rattle.dialogue.specs.Call.{Call, These, Unreadable, ahead, andThen, fieldAt, fieldsFrom, startsWith, told}
 
 pub same-byte : (line name : List ℕ) (i : ℕ) → i < length line → i < length name → getD line i 0 ≡ getD name i 0 → startsWith (drop i line) (drop i name) ≡ startsWith (drop (i + 1) line) (drop (i + 1) name)

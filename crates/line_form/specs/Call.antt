@@ -3,10 +3,10 @@ use Prim.Native.Nat.{ℕ, _+_, _-_}
 use mathlib.Core.Bool.{Bool, true, false, _&&_}
 use mathlib.Core.List.{List, [], _∷_}
 use lib.ListN.{length, getD, drop}
-use Rattle.basis.specs.Choice.{if_then_else_, _<?_, _≤?_, _=?_}
-use Rattle.fields.specs.declared.Field.{Field}
-use Rattle.fields.specs.declared.Field.the-variants.{Value, Bad}
-use Rattle.text.specs.Fields.{readDecimal, readHex16}
+use Rattle.base.specs.Choice.{if_then_else_, _<?_, _≤?_, _=?_}
+use Rattle.text_read.specs.declared.Field.{Field}
+use Rattle.text_read.specs.declared.Field.the-variants.{Value, Bad}
+use Rattle.text_write.specs.Fields.{readDecimal, readHex16}
 
 -- a number that fits 32 bits
 abbrev pub below32 : Field → Field

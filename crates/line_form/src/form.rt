@@ -1,6 +1,6 @@
 // The numbers of a call: a line is a name and fields, each behind one space.
 
-use text::Field;
+use text_write::Field;
 pub use values::Numbers;
 ghost use Prim.Native.Nat.{_≤_};
 ghost use mathlib.Core.Path.{_≡_};
@@ -71,9 +71,9 @@ fn read_signed(line: &[u8], at: usize) -> Field
         return Field::Bad;
     }
     if line[at] == b'-' {
-        return below_zero(text::read_decimal(line, at + 1));
+        return below_zero(text_write::read_decimal(line, at + 1));
     }
-    above_zero(text::read_decimal(line, at))
+    above_zero(text_write::read_decimal(line, at))
 }
 
 // A float as it is printed: sixteen digits, or `nan`.
@@ -81,12 +81,12 @@ fn read_printed(line: &[u8], at: usize) -> Field
     ensures { λ r. ⌜ r ≡ readPrinted (now (line .entry)) at ⌝ }
 {
     if line.len() < at {
-        return text::read_hex16(line, at);
+        return text_write::read_hex16(line, at);
     }
     if starts_with(&line[at..], b"nan") {
         return Field::Value(0x7ff8_0000_0000_0000, at + 3);
     }
-    text::read_hex16(line, at)
+    text_write::read_hex16(line, at)
 }
 
 // The field behind a space: D is a decimal, N one that may carry a minus sign, S one of 32 bits, F a float, and P one as it is printed.
@@ -100,11 +100,11 @@ fn field_at(kind: u8, line: &[u8], at: usize) -> Field
         return Field::Bad;
     }
     match kind {
-        b'F' => text::read_hex16(line, at + 1),
-        b'S' => small(text::read_decimal(line, at + 1)),
+        b'F' => text_write::read_hex16(line, at + 1),
+        b'S' => small(text_write::read_decimal(line, at + 1)),
         b'N' => read_signed(line, at + 1),
         b'P' => read_printed(line, at + 1),
-        _ => text::read_decimal(line, at + 1),
+        _ => text_write::read_decimal(line, at + 1),
     }
 }
 

@@ -11,7 +11,7 @@ fn put_number(out: &mut Out, from: usize, number: u64) -> usize
     requires { ⌜ from + 21 ≤ 65_536 ⌝ }
     ensures { λ r. ⌜ Between from 1 21 r ⌝ }
 {
-    let at = text::known::put_decimal(out, from, number);
+    let at = text_write::inner::put_decimal(out, from, number);
     out[at] = b' ';
     at + 1
 }
@@ -20,7 +20,7 @@ fn put_float(out: &mut Out, from: usize, x: f64) -> usize
     requires { ⌜ from + 17 ≤ 65_536 ⌝ }
     ensures { λ r. ⌜ Between from 1 17 r ⌝ }
 {
-    let at = text::known::put_float(out, from, x);
+    let at = text_write::inner::put_float(out, from, x);
     out[at] = b' ';
     at + 1
 }
@@ -51,6 +51,6 @@ pub fn put_refused(out: &mut Out, from: usize, number: u64) -> usize
     requires { ⌜ from + 29 ≤ 65_536 ⌝ }
     ensures { λ r. ⌜ Between from 1 29 r ⌝ }
 {
-    let at = text::known::put_bytes(out, from, b"REFUSED ");
+    let at = text_write::inner::put_bytes(out, from, b"REFUSED ");
     put_number(out, at, number)
 }

@@ -4,7 +4,7 @@ use Prim.Native.Nat.{ℕ, _+_, _%_}
 use mathlib.Core.List.{List}
 use lib.ListN.{getD}
 use lib.Ieee.{Float, binary64, ofBits}
-use Rattle.basis.specs.Floats.{zero64}
+use Rattle.base.specs.Floats.{zero64}
 use Rattle.state.specs.State.{carrying}
 use Rattle.state.specs.declared.Vector.{Vector}
 use Rattle.state.specs.declared.Injection.{Injection}
@@ -12,8 +12,8 @@ use Rattle.state.specs.declared.State.{State}
 use Rattle.state.specs.declared.Setting.{Setting}
 use Rattle.gravity.specs.declared.Guesses.{Guesses}
 use Rattle.gravity.specs.Acceleration.{nowhere}
-use Rattle.sphere.specs.Signed.{signedOf}
-use Rattle.sphere.specs.declared.Sphere.{Sphere}
+use Rattle.launch.specs.Signed.{signedOf}
+use Rattle.launch.specs.declared.Sphere.{Sphere}
 
 abbrev pub number : List ℕ → ℕ → ℕ
 number v i = getD v i 0

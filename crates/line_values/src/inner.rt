@@ -2,15 +2,15 @@
 
 use crate::Numbers;
 use gravity::Guesses;
-use sphere::Sphere;
-use sphere::signed_of;
+use launch::Sphere;
+use launch::signed_of;
 use state::Injection;
 use state::Setting;
 use state::State;
 use state::Vector;
 ghost use mathlib.Core.Path.{_≡_};
 ghost use Prim.Native.Nat.{_+_, _≤_};
-ghost use Rattle.values.specs.Values.{narrow, nthFloat, vectorFrom, injectionFrom, stateFrom, unkeptFrom, oldSetting, settingFrom, guessesFrom, sphereFrom};
+ghost use Rattle.line_values.specs.Values.{narrow, nthFloat, vectorFrom, injectionFrom, stateFrom, unkeptFrom, oldSetting, settingFrom, guessesFrom, sphereFrom};
 
 // The reader has seen that a number of 32 bits has no more of them.
 pub fn narrowed(number: u64) -> u32
@@ -23,7 +23,7 @@ pub fn nth_float(v: &Numbers, i: usize) -> f64
     requires { ⌜ i + 1 ≤ 30 ⌝ }
     ensures { λ r. ⌜ r ≡ nthFloat (now (v .entry)) i ⌝ }
 {
-    fields::float_of_bits(v[i])
+    text_read::float_of_bits(v[i])
 }
 
 pub fn vector_from(v: &Numbers, i: usize) -> Vector

@@ -3,8 +3,8 @@
 mod calls;
 
 use calls::Told;
-use dialogue::put::Out;
-use live::Pane;
+use line_form::put::Out;
+use pane_live::Pane;
 ghost use Prim.Native.Nat.{_+_, _≤_};
 ghost use lib.ListN.{length};
 
@@ -81,7 +81,7 @@ fn answer_all() {
     let mut block = [0u8; 65536];
     let mut line = [0u8; LINE];
     let mut standing = Standing {
-        pane: live::clear(),
+        pane: pane_live::clear(),
         kept: 0,
     };
     let mut blocks_left = u64::MAX;

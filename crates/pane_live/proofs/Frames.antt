@@ -4,16 +4,16 @@ use mathlib.Core.Path.{_≡_, refl, sym, ap, _∙_}
 use Prim.Native.Nat.{ℕ, _-_, _≤_, _<_}
 use native.Mathlib.Omega.{arith}
 use borrow.Author.Tests.{ltb-false, lt-ltb, le-ltb, eq-eqb, ne-eqb}
-use Rattle.basis.specs.Choice.{if_then_else_, _<?_}
+use Rattle.base.specs.Choice.{if_then_else_, _<?_}
 use Rattle.state.specs.State.{position, finiteVector}
 use Rattle.state.specs.declared.State.{State}
 use Rattle.state.specs.declared.Vector.{Vector}
-use Rattle.live.specs.Pane.{between, figure, shown, frameBetween, frameAt}
-use Rattle.live.specs.Laws.{Risen, InOrder, Shown}
-use Rattle.live.specs.declared.Pane.{Pane}
-use Rattle.live.specs.declared.Pane.the-variants.{Blank, One, Two}
-use Rattle.live.specs.declared.FrameAnswer.{FrameAnswer}
-use Rattle.live.specs.declared.FrameAnswer.the-variants as frame
+use Rattle.pane_live.specs.Pane.{between, figure, shown, frameBetween, frameAt}
+use Rattle.pane_live.specs.Laws.{Risen, InOrder, Shown}
+use Rattle.pane_live.specs.declared.Pane.{Pane}
+use Rattle.pane_live.specs.declared.Pane.the-variants.{Blank, One, Two}
+use Rattle.pane_live.specs.declared.FrameAnswer.{FrameAnswer}
+use Rattle.pane_live.specs.declared.FrameAnswer.the-variants as frame
 
 shown-once : (p q : Vector) → shown p ≡ frame.Current q → p ≡ q
 shown-once p q = go (finiteVector p)

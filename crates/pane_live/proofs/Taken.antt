@@ -5,18 +5,18 @@ use mathlib.Core.Path.{_≡_, refl, sym, ap, _∙_}
 use Prim.Native.Nat.{ℕ, _<_, _≤_}
 use native.Mathlib.Omega.{arith}
 use borrow.Author.Tests.{eqb-true, ltb-true, le-ltb}
-use Rattle.basis.specs.Choice.{if_then_else_, _<?_, _=?_}
+use Rattle.base.specs.Choice.{if_then_else_, _<?_, _=?_}
 use Rattle.state.specs.declared.State.{State}
-use Rattle.motion.specs.declared.Outcome.{Outcome}
-use Rattle.motion.specs.declared.Outcome.the-variants as outcome
-use Rattle.motion.specs.declared.RunAnswer.{RunAnswer}
+use Rattle.run.specs.declared.Outcome.{Outcome}
+use Rattle.run.specs.declared.Outcome.the-variants as outcome
+use Rattle.run.specs.declared.RunAnswer.{RunAnswer}
 use Rattle.book.proofs.Below.{left, right}
-use Rattle.live.specs.Pane.{follows, takenAfter, take, feedBy, feed, clear, after}
-use Rattle.live.specs.Laws.{Risen, InOrder, fed}
-use Rattle.live.specs.declared.Pane.{Pane}
-use Rattle.live.specs.declared.Pane.the-variants.{Blank, One, Two}
-use Rattle.live.specs.declared.TakeAnswer.{TakeAnswer}
-use Rattle.live.specs.declared.TakeAnswer.the-variants.{Taken, Unchanged, Refused}
+use Rattle.pane_live.specs.Pane.{follows, takenAfter, take, feedBy, feed, clear, after}
+use Rattle.pane_live.specs.Laws.{Risen, InOrder, fed}
+use Rattle.pane_live.specs.declared.Pane.{Pane}
+use Rattle.pane_live.specs.declared.Pane.the-variants.{Blank, One, Two}
+use Rattle.pane_live.specs.declared.TakeAnswer.{TakeAnswer}
+use Rattle.pane_live.specs.declared.TakeAnswer.the-variants.{Taken, Unchanged, Refused}
 
 -- "older and newer always rise in time and agree in centre"
 after-one : (pane : Pane) (a s : State) → InOrder pane → InOrder (after pane (takenAfter a s))

@@ -5,10 +5,10 @@ use Prim.Native.Nat.{ℕ, _≤_, _<_}
 use Rattle.state.specs.State.{position}
 use Rattle.state.specs.declared.State.{State}
 use Rattle.state.specs.declared.Vector.{Vector}
-use Rattle.motion.specs.declared.RunAnswer.{RunAnswer}
+use Rattle.run.specs.declared.RunAnswer.{RunAnswer}
 use Rattle.live.specs.Pane.{take, feed, after}
-use Rattle.live.specs.declared.Pane.{Pane}
-use Rattle.live.specs.declared.Pane.the-variants.{Blank, One, Two}
+use Rattle.pane_live.specs.declared.Pane.{Pane}
+use Rattle.pane_live.specs.declared.Pane.the-variants.{Blank, One, Two}
 
 -- older and newer rise in time and agree in centre
 pub record Risen (a b : State) : Type 0 where

@@ -2,20 +2,20 @@
 use mathlib.Core.Bool.{Bool, _&&_}
 use Prim.Native.Nat.{ℕ, _-_}
 use lib.Ieee.{Float}
-use Rattle.basis.specs.Choice.{if_then_else_, _<?_, _=?_}
-use Rattle.basis.specs.Floats.{_⊕_, _⊖_, _⊗_, _⊘_, whole}
+use Rattle.base.specs.Choice.{if_then_else_, _<?_, _=?_}
+use Rattle.base.specs.Floats.{_⊕_, _⊖_, _⊗_, _⊘_, whole}
 use Rattle.state.specs.State.{position, velocity, finiteVector}
 use Rattle.state.specs.declared.Vector.{Vector}
 use Rattle.state.specs.declared.State.{State}
-use Rattle.motion.specs.declared.Outcome.{Outcome}
-use Rattle.motion.specs.declared.Outcome.the-variants as outcome
-use Rattle.motion.specs.declared.RunAnswer.{RunAnswer}
-use Rattle.live.specs.declared.Pane.{Pane}
-use Rattle.live.specs.declared.Pane.the-variants.{Blank, One, Two}
-use Rattle.live.specs.declared.TakeAnswer.{TakeAnswer}
-use Rattle.live.specs.declared.TakeAnswer.the-variants.{Taken, Unchanged, Refused}
-use Rattle.live.specs.declared.FrameAnswer.{FrameAnswer}
-use Rattle.live.specs.declared.FrameAnswer.the-variants as frame
+use Rattle.run.specs.declared.Outcome.{Outcome}
+use Rattle.run.specs.declared.Outcome.the-variants as outcome
+use Rattle.run.specs.declared.RunAnswer.{RunAnswer}
+use Rattle.pane_live.specs.declared.Pane.{Pane}
+use Rattle.pane_live.specs.declared.Pane.the-variants.{Blank, One, Two}
+use Rattle.pane_live.specs.declared.TakeAnswer.{TakeAnswer}
+use Rattle.pane_live.specs.declared.TakeAnswer.the-variants.{Taken, Unchanged, Refused}
+use Rattle.pane_live.specs.declared.FrameAnswer.{FrameAnswer}
+use Rattle.pane_live.specs.declared.FrameAnswer.the-variants as frame
 
 -- ---- taking states
 

@@ -1,7 +1,7 @@
 // (02, R-14) The live pane: it keeps the last two reached states, and answers each frame with current, late or empty.
 
-use motion::Outcome;
-use motion::RunAnswer;
+use run::Outcome;
+use run::RunAnswer;
 use state::State;
 use state::Vector;
 use state::position_of;

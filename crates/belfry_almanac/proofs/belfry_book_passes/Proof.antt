@@ -1,6 +1,6 @@
--- `almanaclink::belfry_book_passes` meets its contract. Assumes nothing.
-use Rattle.almanaclink.proofs.belfry_book_passes.Statement.{statement}
-use Rattle.almanaclink.proofs.belfry_book_passes.Tie as tie
+-- `belfry_almanac::belfry_book_passes` meets its contract. Assumes nothing.
+use Rattle.belfry_almanac.proofs.belfry_book_passes.Statement.{statement}
+use Rattle.belfry_almanac.proofs.belfry_book_passes.Tie as tie
 
 returns : tie.Need-returns
 returns c = rw (← c .before .book-passes .ensures, c .if1 .taken)

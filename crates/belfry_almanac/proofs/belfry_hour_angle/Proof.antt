@@ -1,8 +1,8 @@
--- `almanaclink::belfry_hour_angle` meets its contract. Assumes nothing.
+-- `belfry_almanac::belfry_hour_angle` meets its contract. Assumes nothing.
 use mathlib.Core.Path.{refl}
 use borrow.Author.Needs.{needs}
-use Rattle.almanaclink.proofs.belfry_hour_angle.Statement.{statement}
-use Rattle.almanaclink.proofs.belfry_hour_angle.Tie as tie
+use Rattle.belfry_almanac.proofs.belfry_hour_angle.Statement.{statement}
+use Rattle.belfry_almanac.proofs.belfry_hour_angle.Tie as tie
 
 returns : tie.Need-returns
 returns c = rw (← c .before .before .before .hour-angle .ensures, c .before .p .given .1) refl

@@ -1,8 +1,8 @@
--- `almanaclink::belfry_position` meets its contract. Assumes nothing.
+-- `belfry_almanac::belfry_position` meets its contract. Assumes nothing.
 use mathlib.Core.Path.{refl}
 use borrow.Author.Needs.{needs}
-use Rattle.almanaclink.proofs.belfry_position.Statement.{statement}
-use Rattle.almanaclink.proofs.belfry_position.Tie as tie
+use Rattle.belfry_almanac.proofs.belfry_position.Statement.{statement}
+use Rattle.belfry_almanac.proofs.belfry_position.Tie as tie
 
 returns : tie.Need-returns
 returns c = rw (← c .before .before .before .before .before .before .position .ensures, c .before .before .before .before .at .given .1) refl

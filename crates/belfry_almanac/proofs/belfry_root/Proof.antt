@@ -1,8 +1,8 @@
--- `almanaclink::belfry_root` meets its contract. Assumes nothing.
+-- `belfry_almanac::belfry_root` meets its contract. Assumes nothing.
 use mathlib.Core.Path.{refl}
 use borrow.Author.Needs.{needs}
-use Rattle.almanaclink.proofs.belfry_root.Statement.{statement}
-use Rattle.almanaclink.proofs.belfry_root.Tie as tie
+use Rattle.belfry_almanac.proofs.belfry_root.Statement.{statement}
+use Rattle.belfry_almanac.proofs.belfry_root.Tie as tie
 
 returns : tie.Need-returns
 returns c = rw (← c .before .before .before .root .ensures, c .before .y .given .1) refl

@@ -1,8 +1,8 @@
--- `almanaclink::belfry_sine_cosine` meets its contract. Assumes nothing.
+-- `belfry_almanac::belfry_sine_cosine` meets its contract. Assumes nothing.
 use mathlib.Core.Path.{refl}
 use borrow.Author.Needs.{needs}
-use Rattle.almanaclink.proofs.belfry_sine_cosine.Statement.{statement}
-use Rattle.almanaclink.proofs.belfry_sine_cosine.Tie as tie
+use Rattle.belfry_almanac.proofs.belfry_sine_cosine.Statement.{statement}
+use Rattle.belfry_almanac.proofs.belfry_sine_cosine.Tie as tie
 
 returns : tie.Need-returns
 returns c = rw (← c .before .before .before .before .sine-cosine .ensures, c .before .before .of .given .1) refl

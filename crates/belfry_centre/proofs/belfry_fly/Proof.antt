@@ -1,6 +1,6 @@
--- `centrelink::belfry_fly` meets its contract. Assumes nothing.
-use Rattle.centrelink.proofs.belfry_fly.Statement.{statement}
-use Rattle.centrelink.proofs.belfry_fly.Tie as tie
+-- `belfry_centre::belfry_fly` meets its contract. Assumes nothing.
+use Rattle.belfry_centre.proofs.belfry_fly.Statement.{statement}
+use Rattle.belfry_centre.proofs.belfry_fly.Tie as tie
 
 returns : tie.Need-returns
 returns c = c .fly .ensures

@@ -1,6 +1,6 @@
--- `centrelink::belfry_inject` meets its contract. Assumes nothing.
-use Rattle.centrelink.proofs.belfry_inject.Statement.{statement}
-use Rattle.centrelink.proofs.belfry_inject.Tie as tie
+-- `belfry_centre::belfry_inject` meets its contract. Assumes nothing.
+use Rattle.belfry_centre.proofs.belfry_inject.Statement.{statement}
+use Rattle.belfry_centre.proofs.belfry_inject.Tie as tie
 
 returns : tie.Need-returns
 returns c = c .inject .ensures

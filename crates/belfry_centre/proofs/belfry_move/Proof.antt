@@ -1,6 +1,6 @@
--- `centrelink::belfry_move` meets its contract. Assumes nothing.
-use Rattle.centrelink.proofs.belfry_move.Statement.{statement}
-use Rattle.centrelink.proofs.belfry_move.Tie as tie
+-- `belfry_centre::belfry_move` meets its contract. Assumes nothing.
+use Rattle.belfry_centre.proofs.belfry_move.Statement.{statement}
+use Rattle.belfry_centre.proofs.belfry_move.Tie as tie
 
 returns : tie.Need-returns
 returns c = c .moved .ensures

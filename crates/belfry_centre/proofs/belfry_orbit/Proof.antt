@@ -1,6 +1,6 @@
--- `centrelink::belfry_orbit` meets its contract. Assumes nothing.
-use Rattle.centrelink.proofs.belfry_orbit.Statement.{statement}
-use Rattle.centrelink.proofs.belfry_orbit.Tie as tie
+-- `belfry_centre::belfry_orbit` meets its contract. Assumes nothing.
+use Rattle.belfry_centre.proofs.belfry_orbit.Statement.{statement}
+use Rattle.belfry_centre.proofs.belfry_orbit.Tie as tie
 
 returns : tie.Need-returns
 returns c = c .orbit .ensures

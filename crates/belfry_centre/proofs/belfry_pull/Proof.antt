@@ -1,6 +1,6 @@
--- `centrelink::belfry_pull` meets its contract. Assumes nothing.
-use Rattle.centrelink.proofs.belfry_pull.Statement.{statement}
-use Rattle.centrelink.proofs.belfry_pull.Tie as tie
+-- `belfry_centre::belfry_pull` meets its contract. Assumes nothing.
+use Rattle.belfry_centre.proofs.belfry_pull.Statement.{statement}
+use Rattle.belfry_centre.proofs.belfry_pull.Tie as tie
 
 returns : tie.Need-returns
 returns c = c .pull .ensures

@@ -1,6 +1,6 @@
--- `centrelink::belfry_turn` meets its contract. Assumes nothing.
-use Rattle.centrelink.proofs.belfry_turn.Statement.{statement}
-use Rattle.centrelink.proofs.belfry_turn.Tie as tie
+-- `belfry_centre::belfry_turn` meets its contract. Assumes nothing.
+use Rattle.belfry_centre.proofs.belfry_turn.Statement.{statement}
+use Rattle.belfry_centre.proofs.belfry_turn.Tie as tie
 
 returns : tie.Need-returns
 returns c = c .turned .ensures

@@ -1,6 +1,6 @@
--- `link::belfry_acceleration` meets its contract. Assumes nothing.
-use Rattle.link.proofs.belfry_acceleration.Statement.{statement}
-use Rattle.link.proofs.belfry_acceleration.Tie as tie
+-- `belfry_earth::belfry_acceleration` meets its contract. Assumes nothing.
+use Rattle.belfry_earth.proofs.belfry_acceleration.Statement.{statement}
+use Rattle.belfry_earth.proofs.belfry_acceleration.Tie as tie
 
 returns : tie.Need-returns
 returns c = c .pull .ensures

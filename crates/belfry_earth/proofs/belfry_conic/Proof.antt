@@ -1,6 +1,6 @@
--- `link::belfry_conic` meets its contract. Assumes nothing.
-use Rattle.link.proofs.belfry_conic.Statement.{statement}
-use Rattle.link.proofs.belfry_conic.Tie as tie
+-- `belfry_earth::belfry_conic` meets its contract. Assumes nothing.
+use Rattle.belfry_earth.proofs.belfry_conic.Statement.{statement}
+use Rattle.belfry_earth.proofs.belfry_conic.Tie as tie
 
 returns : tie.Need-returns
 returns c = c .orbit .ensures

@@ -1,6 +1,6 @@
--- `link::belfry_earth_fixed` meets its contract. Assumes nothing.
-use Rattle.link.proofs.belfry_earth_fixed.Statement.{statement}
-use Rattle.link.proofs.belfry_earth_fixed.Tie as tie
+-- `belfry_earth::belfry_earth_fixed` meets its contract. Assumes nothing.
+use Rattle.belfry_earth.proofs.belfry_earth_fixed.Statement.{statement}
+use Rattle.belfry_earth.proofs.belfry_earth_fixed.Tie as tie
 
 returns : tie.Need-returns
 returns c = c .turned .ensures

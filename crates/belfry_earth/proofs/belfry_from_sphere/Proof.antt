@@ -1,8 +1,8 @@
--- `link::belfry_from_sphere` meets its contract. Assumes nothing.
+-- `belfry_earth::belfry_from_sphere` meets its contract. Assumes nothing.
 use mathlib.Core.Path.{refl}
 use borrow.Author.Needs.{needs}
-use Rattle.link.proofs.belfry_from_sphere.Statement.{statement}
-use Rattle.link.proofs.belfry_from_sphere.Tie as tie
+use Rattle.belfry_earth.proofs.belfry_from_sphere.Statement.{statement}
+use Rattle.belfry_earth.proofs.belfry_from_sphere.Tie as tie
 
 returns : tie.Need-returns
 returns c =

@@ -1,8 +1,8 @@
--- `panelink::belfry_clear` meets its contract. Assumes nothing.
+-- `belfry_pane::belfry_clear` meets its contract. Assumes nothing.
 use mathlib.Core.Path.{refl}
 use borrow.Author.Needs.{needs}
-use Rattle.panelink.proofs.belfry_clear.Statement.{statement}
-use Rattle.panelink.proofs.belfry_clear.Tie as tie
+use Rattle.belfry_pane.proofs.belfry_clear.Statement.{statement}
+use Rattle.belfry_pane.proofs.belfry_clear.Tie as tie
 
 clear-requires : tie.Need-clear-requires
 clear-requires c κs = search needs

@@ -1,8 +1,8 @@
--- `panelink::belfry_frame` meets its contract. Assumes nothing.
+-- `belfry_pane::belfry_frame` meets its contract. Assumes nothing.
 use mathlib.Core.Path.{refl}
 use borrow.Author.Needs.{needs}
-use Rattle.panelink.proofs.belfry_frame.Statement.{statement}
-use Rattle.panelink.proofs.belfry_frame.Tie as tie
+use Rattle.belfry_pane.proofs.belfry_frame.Statement.{statement}
+use Rattle.belfry_pane.proofs.belfry_frame.Tie as tie
 
 pane-of-requires : tie.Need-pane-of-requires
 pane-of-requires c κs = search needs

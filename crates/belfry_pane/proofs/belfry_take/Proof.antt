@@ -1,7 +1,7 @@
--- `panelink::belfry_take` meets its contract. Assumes nothing.
+-- `belfry_pane::belfry_take` meets its contract. Assumes nothing.
 use borrow.Author.Needs.{needs}
-use Rattle.panelink.proofs.belfry_take.Statement.{statement}
-use Rattle.panelink.proofs.belfry_take.Tie as tie
+use Rattle.belfry_pane.proofs.belfry_take.Statement.{statement}
+use Rattle.belfry_pane.proofs.belfry_take.Tie as tie
 
 pane-of-requires : tie.Need-pane-of-requires
 pane-of-requires c κs = search needs

@@ -1,8 +1,8 @@
--- `mendlink::belfry_repair` meets its contract: the call's answer, as it lies in memory. Assumes nothing.
+-- `belfry_repair::belfry_repair` meets its contract: the call's answer, as it lies in memory. Assumes nothing.
 use borrow.Author.Needs.{needs}
-use Rattle.mendlink.proofs.Handed.{written, refused}
-use Rattle.mendlink.proofs.belfry_repair.Statement.{statement}
-use Rattle.mendlink.proofs.belfry_repair.Tie as tie
+use Rattle.belfry_repair.proofs.Handed.{written, refused}
+use Rattle.belfry_repair.proofs.belfry_repair.Statement.{statement}
+use Rattle.belfry_repair.proofs.belfry_repair.Tie as tie
 
 same-length : tie.Need-same-length
 same-length c = search needs

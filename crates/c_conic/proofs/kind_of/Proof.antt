@@ -1,7 +1,7 @@
--- `lentconic::kind_of` meets its contract. Assumes nothing.
+-- `c_conic::kind_of` meets its contract. Assumes nothing.
 use borrow.Author.Needs.{needs}
-use Rattle.lentconic.proofs.kind_of.Statement.{statement}
-use Rattle.lentconic.proofs.kind_of.Tie as tie
+use Rattle.c_conic.proofs.kind_of.Statement.{statement}
+use Rattle.c_conic.proofs.kind_of.Tie as tie
 
 returns : tie.Need-returns
 returns c = rw (c .before .conic .given .1)

@@ -1,8 +1,8 @@
--- `lentconic::orbit` meets its contract. Assumes nothing.
+-- `c_conic::orbit` meets its contract. Assumes nothing.
 use mathlib.Core.Path.{refl}
 use borrow.Author.Needs.{needs}
-use Rattle.lentconic.proofs.orbit.Statement.{statement}
-use Rattle.lentconic.proofs.orbit.Tie as tie
+use Rattle.c_conic.proofs.orbit.Statement.{statement}
+use Rattle.c_conic.proofs.orbit.Tie as tie
 
 returns : tie.Need-returns
 returns c =

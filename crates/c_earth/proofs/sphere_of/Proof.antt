@@ -1,7 +1,7 @@
--- `lentearth::sphere_of` meets its contract. Assumes nothing.
+-- `c_earth::sphere_of` meets its contract. Assumes nothing.
 use borrow.Author.Needs.{needs}
-use Rattle.lentearth.proofs.sphere_of.Statement.{statement}
-use Rattle.lentearth.proofs.sphere_of.Tie as tie
+use Rattle.c_earth.proofs.sphere_of.Statement.{statement}
+use Rattle.c_earth.proofs.sphere_of.Tie as tie
 
 returns : tie.Need-returns
 returns c = rw (c .signed-of2 .ensures, c .before .signed-of .ensures)

@@ -1,8 +1,8 @@
--- `lentearth::turned` meets its contract. Assumes nothing.
+-- `c_earth::turned` meets its contract. Assumes nothing.
 use mathlib.Core.Path.{refl}
 use borrow.Author.Needs.{needs}
-use Rattle.lentearth.proofs.turned.Statement.{statement}
-use Rattle.lentearth.proofs.turned.Tie as tie
+use Rattle.c_earth.proofs.turned.Statement.{statement}
+use Rattle.c_earth.proofs.turned.Tie as tie
 
 returns : tie.Need-returns
 returns c =

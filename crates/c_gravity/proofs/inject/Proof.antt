@@ -1,8 +1,8 @@
--- `lentpull::inject` meets its contract. Assumes nothing.
+-- `c_gravity::inject` meets its contract. Assumes nothing.
 use mathlib.Core.Path.{refl}
 use borrow.Author.Needs.{needs}
-use Rattle.lentpull.proofs.inject.Statement.{statement}
-use Rattle.lentpull.proofs.inject.Tie as tie
+use Rattle.c_gravity.proofs.inject.Statement.{statement}
+use Rattle.c_gravity.proofs.inject.Tie as tie
 
 setting-of-requires : tie.Need-setting-of-requires
 setting-of-requires c κs = search needs

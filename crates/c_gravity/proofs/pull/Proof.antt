@@ -1,8 +1,8 @@
--- `lentpull::pull` meets its contract. Assumes nothing.
+-- `c_gravity::pull` meets its contract. Assumes nothing.
 use mathlib.Core.Path.{refl}
 use borrow.Author.Needs.{needs}
-use Rattle.lentpull.proofs.pull.Statement.{statement}
-use Rattle.lentpull.proofs.pull.Tie as tie
+use Rattle.c_gravity.proofs.pull.Statement.{statement}
+use Rattle.c_gravity.proofs.pull.Tie as tie
 
 returns : tie.Need-returns
 returns c =

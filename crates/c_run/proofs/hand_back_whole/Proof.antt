@@ -1,6 +1,6 @@
--- `lent::hand_back_whole` meets its contract. Assumes nothing.
-use Rattle.lent.proofs.hand_back_whole.Statement.{statement}
-use Rattle.lent.proofs.hand_back_whole.Tie as tie
+-- `c_run::hand_back_whole` meets its contract. Assumes nothing.
+use Rattle.c_run.proofs.hand_back_whole.Statement.{statement}
+use Rattle.c_run.proofs.hand_back_whole.Tie as tie
 
 returns : tie.Need-returns
 returns c = rw (c .outcome-number .ensures)

@@ -1,8 +1,8 @@
--- `live::feed` meets its contract. Assumes nothing.
-use Rattle.live.specs.Pane.{feed}
+-- `pane_live::feed` meets its contract. Assumes nothing.
+use Rattle.pane_live.specs.Pane.{feed}
 use borrow.Author.Needs.{needs}
-use Rattle.live.proofs.feed.Statement.{statement}
-use Rattle.live.proofs.feed.Tie as tie
+use Rattle.pane_live.proofs.feed.Statement.{statement}
+use Rattle.pane_live.proofs.feed.Tie as tie
 
 feed-by-requires : tie.Need-feed-by-requires
 feed-by-requires c κs = search needs

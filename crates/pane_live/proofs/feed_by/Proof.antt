@@ -1,7 +1,7 @@
--- `live::feed_by` meets its contract. Assumes nothing.
+-- `pane_live::feed_by` meets its contract. Assumes nothing.
 use borrow.Author.Needs.{needs}
-use Rattle.live.proofs.feed_by.Statement.{statement}
-use Rattle.live.proofs.feed_by.Tie as tie
+use Rattle.pane_live.proofs.feed_by.Statement.{statement}
+use Rattle.pane_live.proofs.feed_by.Tie as tie
 
 enum-told : tie.Need-enum-told
 enum-told c = search needs

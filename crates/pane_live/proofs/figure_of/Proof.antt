@@ -1,10 +1,10 @@
--- `live::figure_of` meets its contract. Assumes nothing.
+-- `pane_live::figure_of` meets its contract. Assumes nothing.
 use borrow.Author.Tests.{eq-eqb, ne-eqb}
 use native.Mathlib.Omega.{arith}
-use Rattle.live.specs.Pane.{figure}
+use Rattle.pane_live.specs.Pane.{figure}
 use borrow.Author.Needs.{needs}
-use Rattle.live.proofs.figure_of.Statement.{statement}
-use Rattle.live.proofs.figure_of.Tie as tie
+use Rattle.pane_live.proofs.figure_of.Statement.{statement}
+use Rattle.pane_live.proofs.figure_of.Tie as tie
 
 position-of-requires : tie.Need-position-of-requires
 position-of-requires c κs = search needs

@@ -1,8 +1,8 @@
--- `live::frame` meets its contract. Assumes nothing.
-use Rattle.live.specs.Pane.{frameAt}
+-- `pane_live::frame` meets its contract. Assumes nothing.
+use Rattle.pane_live.specs.Pane.{frameAt}
 use borrow.Author.Needs.{needs}
-use Rattle.live.proofs.frame.Statement.{statement}
-use Rattle.live.proofs.frame.Tie as tie
+use Rattle.pane_live.proofs.frame.Statement.{statement}
+use Rattle.pane_live.proofs.frame.Tie as tie
 
 enum-told : tie.Need-enum-told
 enum-told c = search needs

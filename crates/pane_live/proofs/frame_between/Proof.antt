@@ -1,9 +1,9 @@
--- `live::frame_between` meets its contract. Assumes nothing.
+-- `pane_live::frame_between` meets its contract. Assumes nothing.
 use borrow.Author.Tests.{lt-ltb, le-ltb}
 use native.Mathlib.Omega.{arith}
 use borrow.Author.Needs.{needs}
-use Rattle.live.proofs.frame_between.Statement.{statement}
-use Rattle.live.proofs.frame_between.Tie as tie
+use Rattle.pane_live.proofs.frame_between.Statement.{statement}
+use Rattle.pane_live.proofs.frame_between.Tie as tie
 
 sub-t5 : tie.Need-sub-t5
 sub-t5 c = search needs

@@ -1,7 +1,7 @@
--- `live::is_next` meets its contract. Assumes nothing.
+-- `pane_live::is_next` meets its contract. Assumes nothing.
 use borrow.Author.Tests.{eq-eqb, ne-eqb}
-use Rattle.live.proofs.is_next.Statement.{statement}
-use Rattle.live.proofs.is_next.Tie as tie
+use Rattle.pane_live.proofs.is_next.Statement.{statement}
+use Rattle.pane_live.proofs.is_next.Tie as tie
 
 returns : tie.Need-returns
 returns c = rw (eq-eqb _ _ (c .before .before .if1 .taken))

@@ -1,11 +1,11 @@
--- `live::place_between` meets its contract. Assumes nothing.
+-- `pane_live::place_between` meets its contract. Assumes nothing.
 use mathlib.Core.Path.{_≡_, refl}
 use lib.Ieee.{binary64, ofBits, ofInt, round}
-use Rattle.basis.specs.Floats.{whole}
-use Rattle.live.specs.Pane.{between}
+use Rattle.base.specs.Floats.{whole}
+use Rattle.pane_live.specs.Pane.{between}
 use borrow.Author.Needs.{needs}
-use Rattle.live.proofs.place_between.Statement.{statement}
-use Rattle.live.proofs.place_between.Tie as tie
+use Rattle.pane_live.proofs.place_between.Statement.{statement}
+use Rattle.pane_live.proofs.place_between.Tie as tie
 
 thousand : ofBits binary64 0x408f_4000_0000_0000 ≡ whole 1000
 unfolding ofBits ofInt round

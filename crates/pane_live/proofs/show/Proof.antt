@@ -1,8 +1,8 @@
--- `live::show` meets its contract. Assumes nothing.
+-- `pane_live::show` meets its contract. Assumes nothing.
 use mathlib.Core.Path.{sym, _∙_}
 use borrow.Author.Needs.{needs}
-use Rattle.live.proofs.show.Statement.{statement}
-use Rattle.live.proofs.show.Tie as tie
+use Rattle.pane_live.proofs.show.Statement.{statement}
+use Rattle.pane_live.proofs.show.Tie as tie
 
 vector-is-finite-requires : tie.Need-vector-is-finite-requires
 vector-is-finite-requires c κs = search needs

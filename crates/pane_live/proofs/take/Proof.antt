@@ -1,8 +1,8 @@
--- `live::take` meets its contract. Assumes nothing.
-use Rattle.live.specs.Pane.{take}
+-- `pane_live::take` meets its contract. Assumes nothing.
+use Rattle.pane_live.specs.Pane.{take}
 use borrow.Author.Needs.{needs}
-use Rattle.live.proofs.take.Statement.{statement}
-use Rattle.live.proofs.take.Tie as tie
+use Rattle.pane_live.proofs.take.Statement.{statement}
+use Rattle.pane_live.proofs.take.Tie as tie
 
 enum-told : tie.Need-enum-told
 enum-told c = search needs

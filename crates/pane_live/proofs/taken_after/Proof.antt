@@ -1,8 +1,8 @@
--- `live::taken_after` meets its contract. Assumes nothing.
+-- `pane_live::taken_after` meets its contract. Assumes nothing.
 use mathlib.Core.Path.{sym, _∙_}
 use borrow.Author.Needs.{needs}
-use Rattle.live.proofs.taken_after.Statement.{statement}
-use Rattle.live.proofs.taken_after.Tie as tie
+use Rattle.pane_live.proofs.taken_after.Statement.{statement}
+use Rattle.pane_live.proofs.taken_after.Tie as tie
 
 is-next-requires : tie.Need-is-next-requires
 is-next-requires c κs = search needs

@@ -1,7 +1,7 @@
--- `panelink::memory::flown_to` meets its contract. Assumes nothing.
+-- `belfry_pane::memory::flown_to` meets its contract. Assumes nothing.
 use borrow.Author.Needs.{needs}
-use Rattle.panelink.proofs.memory.flown_to.Statement.{statement}
-use Rattle.panelink.proofs.memory.flown_to.Tie as tie
+use Rattle.belfry_pane.proofs.memory.flown_to.Statement.{statement}
+use Rattle.belfry_pane.proofs.memory.flown_to.Tie as tie
 
 outcome-of-requires : tie.Need-outcome-of-requires
 outcome-of-requires c κs = search needs

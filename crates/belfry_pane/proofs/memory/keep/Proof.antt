@@ -1,8 +1,8 @@
--- `panelink::memory::keep` meets its contract. Assumes nothing.
+-- `belfry_pane::memory::keep` meets its contract. Assumes nothing.
 use mathlib.Core.Path.{refl}
 use borrow.Author.Needs.{needs}
-use Rattle.panelink.proofs.memory.keep.Statement.{statement}
-use Rattle.panelink.proofs.memory.keep.Tie as tie
+use Rattle.belfry_pane.proofs.memory.keep.Statement.{statement}
+use Rattle.belfry_pane.proofs.memory.keep.Tie as tie
 
 enum-known-answer : tie.Need-enum-known-answer
 enum-known-answer c = search needs

@@ -1,7 +1,7 @@
--- `panelink::memory::outcome_of` meets its contract. Assumes nothing.
+-- `belfry_pane::memory::outcome_of` meets its contract. Assumes nothing.
 use borrow.Author.Tests.{eq-eqb, ne-eqb}
-use Rattle.panelink.proofs.memory.outcome_of.Statement.{statement}
-use Rattle.panelink.proofs.memory.outcome_of.Tie as tie
+use Rattle.belfry_pane.proofs.memory.outcome_of.Statement.{statement}
+use Rattle.belfry_pane.proofs.memory.outcome_of.Tie as tie
 
 returns : tie.Need-returns
 returns c = rw (eq-eqb _ _ (c .if1 .taken))

@@ -1,9 +1,9 @@
--- `panelink::memory::pane_of` meets its contract. Assumes nothing.
+-- `belfry_pane::memory::pane_of` meets its contract. Assumes nothing.
 use mathlib.Core.Path.{refl}
 use borrow.Author.Tests.{eq-eqb, ne-eqb}
 use borrow.Author.Needs.{needs}
-use Rattle.panelink.proofs.memory.pane_of.Statement.{statement}
-use Rattle.panelink.proofs.memory.pane_of.Tie as tie
+use Rattle.belfry_pane.proofs.memory.pane_of.Statement.{statement}
+use Rattle.belfry_pane.proofs.memory.pane_of.Tie as tie
 
 array-read-held : tie.Need-array-read-held
 array-read-held c = search needs

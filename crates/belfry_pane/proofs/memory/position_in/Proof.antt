@@ -1,8 +1,8 @@
--- `panelink::memory::position_in` meets its contract. Assumes nothing.
+-- `belfry_pane::memory::position_in` meets its contract. Assumes nothing.
 use mathlib.Core.Path.{refl}
 use borrow.Author.Needs.{needs}
-use Rattle.panelink.proofs.memory.position_in.Statement.{statement}
-use Rattle.panelink.proofs.memory.position_in.Tie as tie
+use Rattle.belfry_pane.proofs.memory.position_in.Statement.{statement}
+use Rattle.belfry_pane.proofs.memory.position_in.Tie as tie
 
 enum-known-shown : tie.Need-enum-known-shown
 enum-known-shown c = search needs

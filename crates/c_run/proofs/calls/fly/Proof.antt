@@ -1,6 +1,6 @@
--- `lent::calls::fly` meets its contract. Assumes nothing.
-use Rattle.lent.proofs.calls.fly.Statement.{statement}
-use Rattle.lent.proofs.calls.fly.Tie as tie
+-- `c_run::calls::fly` meets its contract. Assumes nothing.
+use Rattle.c_run.proofs.calls.fly.Statement.{statement}
+use Rattle.c_run.proofs.calls.fly.Tie as tie
 
 returns : tie.Need-returns
 returns c =

@@ -1,8 +1,8 @@
--- `lent::calls::moved` meets its contract. Assumes nothing.
+-- `c_run::calls::moved` meets its contract. Assumes nothing.
 use mathlib.Core.Path.{refl}
 use borrow.Author.Needs.{needs}
-use Rattle.lent.proofs.calls.moved.Statement.{statement}
-use Rattle.lent.proofs.calls.moved.Tie as tie
+use Rattle.c_run.proofs.calls.moved.Statement.{statement}
+use Rattle.c_run.proofs.calls.moved.Tie as tie
 
 setting-of-requires : tie.Need-setting-of-requires
 setting-of-requires c κs = search needs

@@ -1,7 +1,7 @@
--- `dialogue::form::above_zero` meets its contract. Assumes nothing.
+-- `line_form::form::above_zero` meets its contract. Assumes nothing.
 use borrow.Author.Needs.{needs}
-use Rattle.dialogue.proofs.form.above_zero.Statement.{statement}
-use Rattle.dialogue.proofs.form.above_zero.Tie as tie
+use Rattle.line_form.proofs.form.above_zero.Statement.{statement}
+use Rattle.line_form.proofs.form.above_zero.Tie as tie
 
 enum-known-field : tie.Need-enum-known-field
 enum-known-field c = search needs

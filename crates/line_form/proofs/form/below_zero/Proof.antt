@@ -1,14 +1,14 @@
--- `dialogue::form::below_zero` meets its contract: the number is not 0, and at most 2^62. Assumes nothing.
+-- `line_form::form::below_zero` meets its contract: the number is not 0, and at most 2^62. Assumes nothing.
 use mathlib.Core.Path.{_≡_}
 use Prim.Native.Nat.{ℕ, _+_, _-_, _≤_}
 use mathlib.Core.Bool.{Bool, true, false}
 use native.Mathlib.Omega.{arith}
 use borrow.Author.Needs.{needs}
 use borrow.Author.Tests.{eq-eqb, ne-eqb}
-use Rattle.basis.specs.Choice.{if_then_else_, _<?_}
-use Rattle.dialogue.specs.Call.{cap}
-use Rattle.dialogue.proofs.form.below_zero.Statement.{statement}
-use Rattle.dialogue.proofs.form.below_zero.Tie as tie
+use Rattle.base.specs.Choice.{if_then_else_, _<?_}
+use Rattle.line_form.specs.Call.{cap}
+use Rattle.line_form.proofs.form.below_zero.Statement.{statement}
+use Rattle.line_form.proofs.form.below_zero.Tie as tie
 
 enum-known-field : tie.Need-enum-known-field
 enum-known-field c = search needs

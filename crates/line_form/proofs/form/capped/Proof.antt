@@ -1,8 +1,8 @@
--- `dialogue::form::capped` meets its contract. Assumes nothing.
+-- `line_form::form::capped` meets its contract. Assumes nothing.
 use native.Mathlib.Omega.{arith}
 use borrow.Author.Tests.{lt-ltb, le-ltb}
-use Rattle.dialogue.proofs.form.capped.Statement.{statement}
-use Rattle.dialogue.proofs.form.capped.Tie as tie
+use Rattle.line_form.proofs.form.capped.Statement.{statement}
+use Rattle.line_form.proofs.form.capped.Tie as tie
 
 returns : tie.Need-returns
 returns c = (rw (lt-ltb _ _ (c .if1 .taken)), omega arith)

@@ -1,10 +1,10 @@
--- `dialogue::form::field_at` meets its contract, case by case. Assumes nothing.
+-- `line_form::form::field_at` meets its contract, case by case. Assumes nothing.
 use mathlib.Core.Path.{ap, _∙_}
 use borrow.Author.Tests.{lt-ltb, le-ltb, eq-eqb, ne-eqb}
-use Rattle.dialogue.specs.Call.{below32, fieldAt}
+use Rattle.line_form.specs.Call.{below32, fieldAt}
 use borrow.Author.Needs.{needs}
-use Rattle.dialogue.proofs.form.field_at.Statement.{statement}
-use Rattle.dialogue.proofs.form.field_at.Tie as tie
+use Rattle.line_form.proofs.form.field_at.Statement.{statement}
+use Rattle.line_form.proofs.form.field_at.Tie as tie
 
 returns : tie.Need-returns
 unfolding fieldAt

@@ -1,13 +1,13 @@
--- `dialogue::form::fields_from` meets its contract: after i turns the first i fields are read. Assumes nothing.
+-- `line_form::form::fields_from` meets its contract: after i turns the first i fields are read. Assumes nothing.
 use Prim.Native.Nat.{_≤_, _-_}
 use mathlib.Core.Path.{_≡_, refl, sym, _∙_}
 use native.Mathlib.Omega.{arith}
 use borrow.Author.Needs.{needs}
 use denote.Ref.{now}
 use lib.ListN.{length, length-set}
-use Rattle.dialogue.proofs.Reading.{Read, read-none, read-more, read-bad, read-all}
-use Rattle.dialogue.proofs.form.fields_from.Statement.{statement}
-use Rattle.dialogue.proofs.form.fields_from.Tie as tie
+use Rattle.line_form.proofs.Reading.{Read, read-none, read-more, read-bad, read-all}
+use Rattle.line_form.proofs.form.fields_from.Statement.{statement}
+use Rattle.line_form.proofs.form.fields_from.Tie as tie
 
 abbrev Inv-loop : tie.InvT-loop
 Inv-loop line from kinds numbers₀ at₀ i₀ i-end numbers at i =

@@ -1,4 +1,4 @@
--- `dialogue::form::read_printed` meets its contract, case by case. Assumes nothing.
+-- `line_form::form::read_printed` meets its contract, case by case. Assumes nothing.
 use mathlib.Core.List.{List, [], _∷_}
 use mathlib.Core.Path.{_≡_, sym, ap, _∙_}
 use Prim.Native.Nat.{ℕ, _-_}
@@ -7,10 +7,10 @@ use lib.ListN.{length, take, drop, length-drop}
 use lib.Seq.{take-all}
 use denote.Ref.{now}
 use borrow.Author.Tests.{lt-leb, le-leb}
-use Rattle.dialogue.specs.Call.{startsWith, readPrinted}
+use Rattle.line_form.specs.Call.{startsWith, readPrinted}
 use borrow.Author.Needs.{needs}
-use Rattle.dialogue.proofs.form.read_printed.Statement.{statement}
-use Rattle.dialogue.proofs.form.read_printed.Tie as tie
+use Rattle.line_form.proofs.form.read_printed.Statement.{statement}
+use Rattle.line_form.proofs.form.read_printed.Tie as tie
 
 -- what is lent of the line from a place on is all that stands there
 behind : (line : List ℕ) (at : ℕ) → take (length line - at) (drop at line) ≡ drop at line

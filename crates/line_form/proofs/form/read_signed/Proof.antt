@@ -1,10 +1,10 @@
--- `dialogue::form::read_signed` meets its contract, case by case. Assumes nothing.
+-- `line_form::form::read_signed` meets its contract, case by case. Assumes nothing.
 use mathlib.Core.Path.{ap, _∙_}
 use borrow.Author.Tests.{lt-ltb, le-ltb, eq-eqb, ne-eqb}
-use Rattle.dialogue.specs.Call.{aboveZero, belowZero, readSigned}
+use Rattle.line_form.specs.Call.{aboveZero, belowZero, readSigned}
 use borrow.Author.Needs.{needs}
-use Rattle.dialogue.proofs.form.read_signed.Statement.{statement}
-use Rattle.dialogue.proofs.form.read_signed.Tie as tie
+use Rattle.line_form.proofs.form.read_signed.Statement.{statement}
+use Rattle.line_form.proofs.form.read_signed.Tie as tie
 
 returns : tie.Need-returns
 unfolding readSigned

@@ -1,8 +1,8 @@
--- `dialogue::form::reads` meets its contract. Assumes nothing.
+-- `line_form::form::reads` meets its contract. Assumes nothing.
 use borrow.Author.Needs.{needs}
-use Rattle.dialogue.specs.Call.{callOf}
-use Rattle.dialogue.proofs.form.reads.Statement.{statement}
-use Rattle.dialogue.proofs.form.reads.Tie as tie
+use Rattle.line_form.specs.Call.{callOf}
+use Rattle.line_form.proofs.form.reads.Statement.{statement}
+use Rattle.line_form.proofs.form.reads.Tie as tie
 
 starts-with-requires : tie.Need-starts-with-requires
 starts-with-requires c κs = search needs

@@ -1,8 +1,8 @@
--- `dialogue::form::small` meets its contract. Assumes nothing.
+-- `line_form::form::small` meets its contract. Assumes nothing.
 use borrow.Author.Needs.{needs}
 use borrow.Author.Tests.{lt-ltb, le-ltb}
-use Rattle.dialogue.proofs.form.small.Statement.{statement}
-use Rattle.dialogue.proofs.form.small.Tie as tie
+use Rattle.line_form.proofs.form.small.Statement.{statement}
+use Rattle.line_form.proofs.form.small.Tie as tie
 
 enum-known-field : tie.Need-enum-known-field
 enum-known-field c = search needs

@@ -1,13 +1,13 @@
--- `dialogue::form::starts_with` meets its contract: after i turns what is left of both is compared. Assumes nothing.
+-- `line_form::form::starts_with` meets its contract: after i turns what is left of both is compared. Assumes nothing.
 use denote.Ref.{now}
 use Prim.Native.Nat.{_≤_, _-_}
 use mathlib.Core.Path.{_≡_, refl, sym, _∙_}
 use native.Mathlib.Omega.{arith}
 use lib.ListN.{length, drop}
-use Rattle.dialogue.specs.Call.{startsWith}
-use Rattle.dialogue.proofs.Reading.{same-byte, other-byte, whole-name, too-short}
-use Rattle.dialogue.proofs.form.starts_with.Statement.{statement}
-use Rattle.dialogue.proofs.form.starts_with.Tie as tie
+use Rattle.line_form.specs.Call.{startsWith}
+use Rattle.line_form.proofs.Reading.{same-byte, other-byte, whole-name, too-short}
+use Rattle.line_form.proofs.form.starts_with.Statement.{statement}
+use Rattle.line_form.proofs.form.starts_with.Tie as tie
 
 abbrev Inv-loop : tie.InvT-loop
 Inv-loop line name i₀ i-end i = (i ≤ i-end) × (i-end ≤ length line) × (i-end ≡ length name) × (startsWith line name ≡ startsWith (drop i line) (drop i name))

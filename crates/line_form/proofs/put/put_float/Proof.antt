@@ -1,9 +1,9 @@
--- `dialogue::put::put_float` meets its contract. Assumes nothing.
+-- `line_form::put::put_float` meets its contract. Assumes nothing.
 use native.Mathlib.Omega.{arith}
-use Rattle.dialogue.proofs.Lengths.{float-short}
+use Rattle.line_form.proofs.Lengths.{float-short}
 use borrow.Author.Needs.{needs}
-use Rattle.dialogue.proofs.put.put_float.Statement.{statement}
-use Rattle.dialogue.proofs.put.put_float.Tie as tie
+use Rattle.line_form.proofs.put.put_float.Statement.{statement}
+use Rattle.line_form.proofs.put.put_float.Tie as tie
 
 put-float-requires : tie.Need-put-float-requires
 put-float-requires c κs = search needs

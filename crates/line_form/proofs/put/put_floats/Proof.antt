@@ -4,8 +4,8 @@ use mathlib.Core.Path.{_≡_}
 use lib.ListN.{length}
 use borrow.Author.Needs.{needs}
 use Rattle.dialogue.specs.Room.{Between}
-use Rattle.dialogue.proofs.put.put_floats.Statement.{statement}
-use Rattle.dialogue.proofs.put.put_floats.Tie as tie
+use Rattle.line_form.proofs.put.put_floats.Statement.{statement}
+use Rattle.line_form.proofs.put.put_floats.Tie as tie
 
 abbrev Inv-loop : tie.InvT-loop
 Inv-loop out₀ from row at₀ i₀ i-end out at i = (i ≤ i-end) × (i-end ≡ length row) × Between from i (17 * i) at

@@ -1,8 +1,8 @@
--- `dialogue::put::put_number` meets its contract. Assumes nothing.
+-- `line_form::put::put_number` meets its contract. Assumes nothing.
 use native.Mathlib.Omega.{arith}
-use Rattle.dialogue.proofs.Lengths.{number-short}
-use Rattle.dialogue.proofs.put.put_number.Statement.{statement}
-use Rattle.dialogue.proofs.put.put_number.Tie as tie
+use Rattle.line_form.proofs.Lengths.{number-short}
+use Rattle.line_form.proofs.put.put_number.Statement.{statement}
+use Rattle.line_form.proofs.put.put_number.Tie as tie
 
 put-decimal-requires : tie.Need-put-decimal-requires
 put-decimal-requires c κs = omega (arith, number-short (c .before .args .number) (c .before .fits .number))

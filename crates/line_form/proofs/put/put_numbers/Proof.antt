@@ -1,11 +1,11 @@
--- `dialogue::put::put_numbers` meets its contract: i numbers take from i to 21·i bytes. Assumes nothing.
+-- `line_form::put::put_numbers` meets its contract: i numbers take from i to 21·i bytes. Assumes nothing.
 use Prim.Native.Nat.{_≤_, _-_, _*_}
 use mathlib.Core.Path.{_≡_}
 use lib.ListN.{length}
 use borrow.Author.Needs.{needs}
 use Rattle.dialogue.specs.Room.{Between}
-use Rattle.dialogue.proofs.put.put_numbers.Statement.{statement}
-use Rattle.dialogue.proofs.put.put_numbers.Tie as tie
+use Rattle.line_form.proofs.put.put_numbers.Statement.{statement}
+use Rattle.line_form.proofs.put.put_numbers.Tie as tie
 
 abbrev Inv-loop : tie.InvT-loop
 Inv-loop out₀ from row at₀ i₀ i-end out at i = (i ≤ i-end) × (i-end ≡ length row) × Between from i (21 * i) at

@@ -1,8 +1,8 @@
--- `values::known::injection_from` meets its contract. Assumes nothing.
+-- `line_values::inner::injection_from` meets its contract. Assumes nothing.
 use mathlib.Core.Path.{refl}
 use borrow.Author.Needs.{needs}
-use Rattle.values.proofs.known.injection_from.Statement.{statement}
-use Rattle.values.proofs.known.injection_from.Tie as tie
+use Rattle.line_values.proofs.inner.injection_from.Statement.{statement}
+use Rattle.line_values.proofs.inner.injection_from.Tie as tie
 
 vector-from-requires : tie.Need-vector-from-requires
 vector-from-requires c κs = search needs

@@ -1,8 +1,8 @@
--- `values::known::old_setting` meets its contract. Assumes nothing.
+-- `line_values::inner::old_setting` meets its contract. Assumes nothing.
 use mathlib.Core.Path.{refl}
 use borrow.Author.Needs.{needs}
-use Rattle.values.proofs.known.old_setting.Statement.{statement}
-use Rattle.values.proofs.known.old_setting.Tie as tie
+use Rattle.line_values.proofs.inner.old_setting.Statement.{statement}
+use Rattle.line_values.proofs.inner.old_setting.Tie as tie
 
 nth-float-requires : tie.Need-nth-float-requires
 nth-float-requires c κs = search needs

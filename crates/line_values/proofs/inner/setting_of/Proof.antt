@@ -1,8 +1,8 @@
--- `values::known::setting_of` meets its contract. Assumes nothing.
+-- `line_values::inner::setting_of` meets its contract. Assumes nothing.
 use mathlib.Core.Path.{refl}
 use borrow.Author.Needs.{needs}
-use Rattle.values.proofs.known.setting_of.Statement.{statement}
-use Rattle.values.proofs.known.setting_of.Tie as tie
+use Rattle.line_values.proofs.inner.setting_of.Statement.{statement}
+use Rattle.line_values.proofs.inner.setting_of.Tie as tie
 
 old-setting-requires : tie.Need-old-setting-requires
 old-setting-requires c κs = search needs

@@ -1,8 +1,8 @@
--- `values::known::sphere_of` meets its contract. Assumes nothing.
+-- `line_values::inner::sphere_of` meets its contract. Assumes nothing.
 use mathlib.Core.Path.{refl}
 use borrow.Author.Needs.{needs}
-use Rattle.values.proofs.known.sphere_of.Statement.{statement}
-use Rattle.values.proofs.known.sphere_of.Tie as tie
+use Rattle.line_values.proofs.inner.sphere_of.Statement.{statement}
+use Rattle.line_values.proofs.inner.sphere_of.Tie as tie
 
 element-copy-out-signed-of : tie.Need-element-copy-out-signed-of
 element-copy-out-signed-of c = search needs

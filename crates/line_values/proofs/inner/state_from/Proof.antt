@@ -1,8 +1,8 @@
--- `values::known::state_from` meets its contract. Assumes nothing.
+-- `line_values::inner::state_from` meets its contract. Assumes nothing.
 use mathlib.Core.Path.{refl}
 use borrow.Author.Needs.{needs}
-use Rattle.values.proofs.known.state_from.Statement.{statement}
-use Rattle.values.proofs.known.state_from.Tie as tie
+use Rattle.line_values.proofs.inner.state_from.Statement.{statement}
+use Rattle.line_values.proofs.inner.state_from.Tie as tie
 
 mul-injection-from : tie.Need-mul-injection-from
 mul-injection-from c = search needs

@@ -1,8 +1,8 @@
--- `values::known::unkept_from` meets its contract. Assumes nothing.
+-- `line_values::inner::unkept_from` meets its contract. Assumes nothing.
 use mathlib.Core.Path.{refl}
 use borrow.Author.Needs.{needs}
-use Rattle.values.proofs.known.unkept_from.Statement.{statement}
-use Rattle.values.proofs.known.unkept_from.Tie as tie
+use Rattle.line_values.proofs.inner.unkept_from.Statement.{statement}
+use Rattle.line_values.proofs.inner.unkept_from.Tie as tie
 
 injection-from-requires : tie.Need-injection-from-requires
 injection-from-requires c κs = search needs

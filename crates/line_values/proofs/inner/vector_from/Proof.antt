@@ -1,8 +1,8 @@
--- `values::known::vector_from` meets its contract. Assumes nothing.
+-- `line_values::inner::vector_from` meets its contract. Assumes nothing.
 use mathlib.Core.Path.{refl}
 use borrow.Author.Needs.{needs}
-use Rattle.values.proofs.known.vector_from.Statement.{statement}
-use Rattle.values.proofs.known.vector_from.Tie as tie
+use Rattle.line_values.proofs.inner.vector_from.Statement.{statement}
+use Rattle.line_values.proofs.inner.vector_from.Tie as tie
 
 nth-float-requires : tie.Need-nth-float-requires
 nth-float-requires c κs = search needs
