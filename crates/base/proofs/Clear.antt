@@ -1,4 +1,4 @@
--- Floats without a minus sign, and that rounding puts none. Assumes nothing.
+-- Floats without a minus sign; rounding adds none. Assumes nothing.
 use mathlib.Core.Bool.{Bool, true, false, not, cond}
 use Prim.Native.Nat.{ℕ, zero, suc, _*_, _^_}
 use lib.Dec.{T, ltb}

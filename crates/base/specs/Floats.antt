@@ -1,5 +1,5 @@
--- Document 01: "Float" is IEEE 754 binary64, round to nearest even, one rounding for each written operation.
--- A circle around an operation says that it is the float's: x ⊕ y is the float nearest to the sum.
+-- Document 01: "Float" is IEEE 754 binary64, round to nearest even, one rounding for each written operation. A circle marks an operation on
+-- floats: x ⊕ y is the float nearest to the sum.
 use Prim.Native.Nat.{ℕ}
 use mathlib.Core.Bool.{Bool, false}
 use lib.IntN.{pos}
@@ -33,6 +33,6 @@ below0 x = lt x zero64
 abbrev pub whole : ℕ → Float
 whole n = ofInt binary64 (pos n)
 
--- the float nearest to the fraction n / d, as a decimal number in the document is read
+-- the float nearest to the fraction n / d: how a decimal number of the document is read
 abbrev pub decimal : ℕ → ℕ → Float
 decimal n d = round binary64 false n d

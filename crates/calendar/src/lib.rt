@@ -31,7 +31,7 @@ pub enum JulianAnswer {
     Refused(u64),
 }
 
-// The date after so many days of a year.
+// The date that many days after the start of a year.
 fn date_in_year(year: u64, elapsed: u64) -> Calendar
     requires { ⌜ (1950 ≤ year) × ((year ≤ 2049) × (elapsed < yearLength (isLeap year))) ⌝ }
     ensures { λ r. ⌜ r ≡ dateOf (daysBeforeYear year + elapsed) ⌝ }
@@ -105,7 +105,7 @@ impl Calendar {
         DayAnswer::Refused(8)
     }
 
-    // Twice, to be whole: at 0h a Julian date ends in a half.
+    // Twice the Julian date: at 0h it ends in a half, and twice it is a whole number.
     pub fn twice_julian_date(day: u64) -> JulianAnswer
         ensures { λ r. ⌜ r ≡ julianAnswer day ⌝ }
     {

@@ -5,7 +5,7 @@ use Prim.Native.Nat.{ℕ, zero, suc, _+_, _-_, _%_}
 use lib.ListN.{getD, take}
 use Rattle.base.specs.Choice.{if_then_else_, _=?_}
 
--- a year that 4 divides is leap, but of those that 100 divides only a year that 400 divides
+-- a year is leap if 4 divides it; if 100 divides it, 400 must divide it too
 abbrev pub isLeap : ℕ → Bool
 isLeap year = if year % 400 =? 0 then true else if year % 100 =? 0 then false else year % 4 =? 0
 
@@ -23,11 +23,11 @@ abbrev pub total : List ℕ → ℕ
 total [] = 0
 total (n ∷ rest) = n + total rest
 
--- the days of a year's months before a month
+-- the days in the months of a year before a month
 unfoldable pub daysBeforeMonth : Bool → ℕ → ℕ
 daysBeforeMonth leap month = total (take (month - 1) (monthLengths leap))
 
--- the days of so many years from 1950 on
+-- the days in that many years from 1950 on
 unfoldable pub daysOfYears : ℕ → ℕ
 daysOfYears zero = 0
 daysOfYears (suc years) = daysOfYears years + yearLength (isLeap (1950 + years))

@@ -1,4 +1,5 @@
-// Years and months that are known to be in range: which years are leap, and how many days lie before a year and before a month.
+// For years and months that are known to be in range: which years are leap, and how many days come before a year or a
+// month.
 
 use crate::FIRST_YEAR;
 ghost use mathlib.Core.Path.{_≡_};

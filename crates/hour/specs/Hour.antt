@@ -1,4 +1,4 @@
--- Document 01, "Time" and "Hour angle", and document 02, R-9: UT, the two rules, each one exact fraction, and the answer with its refusals.
+-- Document 01, "Time" and "Hour angle", and document 02, R-9: UT, and the two rules as exact fractions. The answer has the refusals.
 use mathlib.Core.Bool.{Bool, not}
 use Prim.Native.Nat.{ℕ, _-_, _/_, _%_}
 use Rattle.base.specs.Choice.{if_then_else_, _<?_, _≤?_, _=?_}
@@ -23,7 +23,7 @@ isRule rule = rule ≤? 1
 abbrev pub ruleOf : ℕ → ℕ → ℕ → Fraction
 ruleOf rule d t = if rule =? 0 then documentOne d t else sidereal1982 d t
 
--- of d whole days and t milliseconds of UT, by a rule
+-- the hour angle by a rule, from d whole days and t milliseconds of UT
 unfoldable pub siderealAngle : ℕ → ℕ → ℕ → ℕ
 siderealAngle rule d t = intoCircle (ruleOf rule d t)
 

@@ -13,7 +13,7 @@ pub enum HourAnswer {
     Refused(u64),
 }
 
-// By the rule 0 or 1.
+// The rule is 0 or 1.
 fn angle_by(rule: u64, d: u64, t: u64) -> u64
     requires { ⌜ (rule ≤ 1) × ((d ≤ lastDay) × (t < dayLength)) ⌝ }
     ensures { λ r. ⌜ r ≡ siderealAngle rule d t ⌝ }

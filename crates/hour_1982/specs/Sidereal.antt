@@ -1,5 +1,5 @@
--- Document 02, R-9: the IAU 1982 expression for Greenwich mean sidereal time, of the UT day d and t milliseconds of it, as one fraction.
--- Its decimals stand as they are printed, with _ for the point: 24110_54841 is 24110.54841 in units of its last place.
+-- Document 02, R-9: the IAU 1982 expression for Greenwich mean sidereal time, as one fraction. Its inputs are the UT day d and t
+-- milliseconds of it. The decimals are those printed, with _ for the point: 24110_54841 is 24110.54841 in units of its last place.
 use Prim.Native.Nat.{ℕ, _*_, _^_}
 use lib.IntN.{ℤ, pos, _+ℤ_, _-ℤ_, _*ℤ_}
 use Rattle.hour_rounding.specs.Fraction.{Fraction}
@@ -11,7 +11,8 @@ centuries d = pos (2 * d) -ℤ pos 36_525
 abbrev pub span : ℕ
 span = 73_050
 
--- "seconds at 0h UT are 24110.54841 + 8640184.812866·T + 0.093104·T² - 0.0000062·T³", of the numerator u of T: seven places, and span three times in the denominator
+-- "seconds at 0h UT are 24110.54841 + 8640184.812866·T + 0.093104·T² - 0.0000062·T³". Here u is the numerator of T. There are seven places,
+-- and the denominator has span three times.
 unfoldable pub secondsOf : ℤ → ℤ
 secondsOf u =
     pos (24110_54841 * 10 ^ 2 * span ^ 3)
@@ -26,10 +27,10 @@ rateOf u =
     +ℤ pos (0_000000000059006 * 10 * span) *ℤ u
     -ℤ pos 0_0000000000000059 *ℤ (u *ℤ u)
 
--- "the exact sum", nineteen places and span three times: seconds at 0h, and t, which has three places, at the rate
+-- "the exact sum": seconds at 0h, and t at the rate. There are nineteen places (t has three) and span three times.
 abbrev pub secondsSum : ℕ → ℕ → ℤ
 secondsSum d t = pos (10 ^ 12) *ℤ secondsOf (centuries d) +ℤ pos (t * span) *ℤ rateOf (centuries d)
 
--- "in parts": "86,400 seconds are a circle", so that 24 seconds are 10^9 parts
+-- "in parts": "86,400 seconds are a circle", so 24 seconds are 10^9 parts
 abbrev pub sidereal1982 : ℕ → ℕ → Fraction
 sidereal1982 d t = record { numerator = secondsSum d t; denominator = 24 * 10 ^ 10 * span ^ 3 }

@@ -1,5 +1,5 @@
-// The IAU 1982 expression for Greenwich mean sidereal time, within 64 bits: T is s/SPAN - 1, seconds count from 100 circles on, and fractions
-// stand in digits of base SPAN until the one rounding.
+// The IAU 1982 expression for Greenwich mean sidereal time, within 64 bits. T is s/SPAN - 1, and seconds start from
+// 100 circles. Fractions are kept as digits of base SPAN until the one rounding.
 
 use crate::DaySpans;
 use crate::Spans;
@@ -55,7 +55,7 @@ fn day_in_spans(s: u64) -> DaySpans
     }
 }
 
-// The digits' fractions are carried upward, so that the last division is the one rounding.
+// Carries the fractions of the digits upward, so that only the last division rounds.
 pub fn angle_1982(d: u64, t: u64) -> u64
     requires { ⌜ (d ≤ lastDay) × (t < dayLength) ⌝ }
     ensures { λ r. ⌜ r ≡ intoCircle (sidereal1982 d t) ⌝ }

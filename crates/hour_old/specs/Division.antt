@@ -1,4 +1,4 @@
--- Long division three digits at a time, for dividends beyond 64 bits: what the private functions promise.
+-- Long division three digits at a time, for dividends beyond 64 bits: the contracts of the private functions.
 use mathlib.Core.Path.{_≡_}
 use Prim.Native.Nat.{ℕ, _+_, _*_, _/_, _%_, _≤_, _<_}
 use Rattle.base.specs.Limits.{dayLength}
@@ -7,7 +7,7 @@ use Rattle.hour_old.specs.declared.Division.{Division}
 abbrev pub division : ℕ → ℕ → Division
 division dividend divisor = record { quotient = dividend / divisor; rest = dividend % divisor }
 
--- what keeps the next three digits within 64 bits
+-- the condition that keeps the next three digits within 64 bits
 pub record Room (part : Division) (divisor : ℕ) : Type 0 where
   pub rest-below : part .rest < divisor
   pub divisor-small : divisor ≤ 2_000_000_000_000_000

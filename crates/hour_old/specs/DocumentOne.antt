@@ -3,15 +3,15 @@ use Prim.Native.Nat.{ℕ, _+_, _*_, _^_}
 use lib.IntN.{pos}
 use Rattle.hour_rounding.specs.Fraction.{Fraction}
 
--- document 01's rule, of d whole days and t milliseconds of UT: what the fourth term is divided by
+-- the divisor of the fourth term, in document 01's rule for d whole days and t milliseconds of UT
 abbrev pub slowing : ℕ → ℕ
 slowing d = 10 ^ 15 + 521 * d
 
--- the third and the fourth term's divisors, 10^7 and 10^15 + 521·d, together: the denominator of the sum
+-- the denominator of the sum: the divisors of the third and the fourth term, 10^7 and 10^15 + 521·d, multiplied
 abbrev pub denominator : ℕ → ℕ
 denominator d = 10 ^ 7 * slowing d
 
--- the four terms over that denominator: the first two times the whole of it, the third and the fourth times the other's divisor
+-- the four terms over that denominator: the first two times all of it, the third and the fourth each times the divisor of the other
 abbrev pub numerator : ℕ → ℕ → ℕ
 numerator d t =
     1_000_755_426_000 * denominator d

@@ -19,7 +19,7 @@ fn divide(dividend: u64, divisor: u64) -> Division
     }
 }
 
-// The dividend times a thousand may pass 64 bits: only its rest is multiplied.
+// The dividend times a thousand may exceed 64 bits, so only its rest is multiplied.
 fn three_digits_on(part: Division, divisor: u64) -> Division
     requires { ⌜ Room part divisor ⌝ }
     ensures { λ r. ⌜ ThreeDigitsOn part divisor r ⌝ }
@@ -52,7 +52,7 @@ fn fraction(rest: u64, divisor: u64) -> u64
     three_digits_on(three_digits_on(start, divisor), divisor).quotient
 }
 
-// The third and the fourth term's fractions meet before the one rounding.
+// Adds the fractions of the third and the fourth term before the one rounding.
 pub fn angle(d: u64, t: u64) -> u64
     requires { ⌜ (d ≤ lastDay) × (t < dayLength) ⌝ }
     ensures { λ r. ⌜ r ≡ intoCircle (documentOne d t) ⌝ }

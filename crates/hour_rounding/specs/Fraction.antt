@@ -13,7 +13,7 @@ abbrev pub floor : ℤ → ℕ → ℤ
 floor (pos n) d = pos (n / d)
 floor (negsuc n) d = negsuc (n / d)
 
--- what is left of a whole number when it is brought into 0 .. m - 1 by whole m's
+-- the number from 0 to m - 1 that differs from a whole number by a multiple of m
 abbrev pub rest : ℤ → ℕ → ℕ
 rest (pos n) m = n % m
 rest (negsuc n) m = m - 1 - n % m

@@ -1,1 +1,1 @@
-// Nothing to run: this crate holds the one rounding of an hour angle into one circle, and its laws.
+// No code: this crate has the one rounding of an hour angle into one circle, and its laws.

@@ -1,4 +1,4 @@
-// The root put together from a float's parts and its digits' root.
+// Puts the root together from the parts of a float and the root of its digits.
 
 use root_split::Parts;
 ghost use mathlib.Core.Path.{_≡_};
@@ -7,7 +7,7 @@ ghost use Rattle.root_digits.specs.Nearest.{nearestRoot};
 ghost use Rattle.root_split.specs.Parts.{Opened};
 ghost use Rattle.root.specs.Root.{rootOf};
 
-// The root of x, of which q is the digits' root. A zero and a NaN are their own roots.
+// The root of x, if q is the root of its digits. A zero and a NaN are their own roots.
 pub fn closed(x: f64, p: Parts, q: u64) -> f64
     requires { ⌜ Opened x (p .m) (p .half) × (q ≡ nearestRoot (p .m * 2 ^ 52)) ⌝ }
     ensures { λ r. ⌜ r ≡ rootOf x ⌝ }

@@ -29,7 +29,7 @@ weight {g} i h = next g i h .weight
 pub turning : {n g v t : ℕ} → LaneOf n g v t → Weight g → 1 < g → Turning 4 g v t
 turning {n} {g} l i h = record { n = n; lane = l; whole = next g i h .whole }
 
--- a lane whose weight is written otherwise
+-- a lane whose weight is written differently
 pub at : {n g h v t : ℕ} → g ≡ h → LaneOf n g v t → LaneOf n h v t
 at {n} {g} {h} {v} {t} e l = subst (λ (z : ℕ). LaneOf n z v t) e l
 

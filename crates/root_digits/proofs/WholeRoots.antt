@@ -115,7 +115,7 @@ pub nearestRoot-is : (n : ℕ) → n < 4 ^ 53 → NearestRoot n (nearestRoot n)
 unfolding nearestRoot rounded
 nearestRoot-is n h = rounded-nearest n (wholeRoot 53 n) (wholeRoot-is 53 n h)
 
--- with w left over from the whole root r, the root is nearer to r + 1 where w is above r
+-- if w is left over from the whole root r, the root is nearer to r + 1 exactly if w is above r
 pub nearestRoot-by : (n r w : ℕ) → n < 4 ^ 53 → r * r + w ≡ n → w < 2 * r + 1 → nearestRoot n ≡ if ltb r w then r + 1 else r
 unfolding rounded
 nearestRoot-by n r w h e l =

@@ -1,4 +1,4 @@
--- What a pattern of bits is worth: the numbers at or above zero, by the exponent's field and the digits. Assumes nothing.
+-- The value of a bit pattern: the numbers at or above zero, by the exponent field and the digits. Assumes nothing.
 use mathlib.Core.Path.{_≡_, refl, sym, ap, _∙_, subst}
 use mathlib.Core.Bool.{Bool, true, false, not, cond}
 use Prim.Native.Nat.{ℕ, zero, suc, _+_, _-_, _*_, _/_, _%_, _^_, _≤_, _<_}
@@ -71,7 +71,7 @@ signed (suc x) t = pick (eqb (suc x) 2047) (eqb t 0)
     pick true false = refl
     pick false b = odd-signed 53 (2 ^ 52 + t) x (low binary64)
 
--- from the highest field on none is
+-- from the highest exponent field on no pattern is finite and above zero
 pub none-above : (b : ℕ) → 2047 ≤ b / 2 ^ 52 → positive (ofBits binary64 b) ≡ false
 none-above b h = go (leb (2 ^ 63) b) refl
   where

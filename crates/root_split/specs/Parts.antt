@@ -14,7 +14,7 @@ pub record Split (digits exponent m half : ℕ) : Type 0 where
   pub top : half ≤ 1533
   pub same : m * 4 ^ half ≡ digits * 2 ^ exponent
 
--- digits that have at most s places free below 53, and an exponent that can give as many
+-- digits that have at most s places free below 53, and an exponent from which s can be subtracted
 pub record Room (s digits exponent : ℕ) : Type 0 where
   pub least : 2 ^ (53 - s) ≤ digits
   pub most : digits < 2 ^ 53
@@ -26,7 +26,8 @@ pub record Raised (s digits exponent higher lower : ℕ) : Type 0 where
   pub less : lower ≤ exponent
   pub same : higher * 2 ^ lower ≡ digits * 2 ^ exponent
 
--- x is n·4^half / 4^1074 for n = m·2^52, so that its root is √n·2^half of the smallest floats. Of a float that is not above zero and finite only the bounds hold.
+-- x is n·4^half / 4^1074 for n = m·2^52, so its root is √n·2^half in units of the smallest float. If x is not finite and above zero, only
+-- the bounds hold.
 pub record Opened (x : Float) (m half : ℕ) : Type 0 where
   pub least : 2 ^ 52 ≤ m
   pub most : m + 2 ≤ 2 ^ 54

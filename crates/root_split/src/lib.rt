@@ -16,7 +16,7 @@ struct Scaled {
     exponent: u64,
 }
 
-// 2^53, which 53 digits do not reach.
+// 2^53: a number of 53 digits is below it.
 const TOP: u64 = 0x20_0000_0000_0000;
 
 // digits·2^exponent with an even exponent.
@@ -37,7 +37,7 @@ fn split(digits: u64, exponent: u64) -> Parts
     }
 }
 
-// The same number with its digits s places higher, where they have room for it.
+// The same number with its digits s places higher, if they have room for it.
 fn raised(p: Scaled, s: u64) -> Scaled
     requires { ⌜ (s ≤ 32) × Room (s + s) (p .digits) (p .exponent) ⌝ }
     ensures { λ r. ⌜ Raised s (p .digits) (p .exponent) (r .digits) (r .exponent) ⌝ }
@@ -51,7 +51,7 @@ fn raised(p: Scaled, s: u64) -> Scaled
     p
 }
 
-// A subnormal's digits shifted up to 53 of them: by 32 places or not, then by 16, by 8, by 4, by 2 and by 1.
+// Shifts the digits of a subnormal up until there are 53: by 32 places or not, then by 16, 8, 4, 2 and 1.
 fn subnormal(bits: u64) -> Parts
     requires { ⌜ (0 < bits) × (bits < 2 ^ 52) ⌝ }
     ensures { λ r. ⌜ Split bits 1022 (r .m) (r .half) ⌝ }
@@ -69,7 +69,7 @@ fn subnormal(bits: u64) -> Parts
     split(by_1.digits, by_1.exponent)
 }
 
-// x as its digits and half its exponent; of no use where x is not finite and above zero.
+// x as its digits and half its exponent. The result has no meaning unless x is finite and above zero.
 pub fn opened(x: f64) -> Parts
     ensures { λ r. ⌜ Opened x (r .m) (r .half) ⌝ }
 {

@@ -1,4 +1,4 @@
--- How far an angle stands from the nearer axis is at most an octant. Assumes nothing.
+-- The distance of an angle from the nearer axis is at most an octant. Assumes nothing.
 use mathlib.Core.Bool.{Bool, true, false}
 use Prim.Native.Nat.{ℕ, _≤_, _<_, _%_, _-_}
 use native.Mathlib.Omega.{arith}

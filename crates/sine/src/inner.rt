@@ -1,4 +1,4 @@
-// Sine and cosine of an angle that is known to lie within one circle. No public call: what the crates above use.
+// Sine and cosine of an angle that is known to lie within one circle. For the crates above; not a public call.
 
 use crate::SineCosine;
 ghost use mathlib.Core.Path.{_≡_};
@@ -8,7 +8,7 @@ ghost use Rattle.sine.specs.Sine.{within, angle, S, C, column, sineCosin
 
 const OCTANT: u64 = 450_000_000_000;
 
-// How far the angle stands from the nearer axis: odd octants are read backwards.
+// The distance of the angle from the nearer axis: odd octants are read backwards.
 fn from_axis(q: u64, r: u64) -> u64
     requires { ⌜ r < 450_000_000_000 ⌝ }
     ensures { λ x. ⌜ x ≡ within q r ⌝ }

@@ -1,4 +1,5 @@
--- Document 01, "Setting, state, acceleration", and document 02, R-6, R-7, R-8 and R-9: what a state and a setting hold, and which are allowed.
+-- Document 01, "Setting, state, acceleration", and document 02, R-6, R-7, R-8 and R-9: the parts of a state and of a setting, and which
+-- values are allowed.
 use mathlib.Core.Bool.{Bool, _&&_}
 use lib.Ieee.{Float}
 use lib.Ieee.Scale.{finite}
@@ -22,11 +23,11 @@ position s = record { x = s .x; y = s .y; z = s .z }
 abbrev pub velocity : State → Vector
 velocity s = record { x = s .vx; y = s .vy; z = s .vz }
 
--- document 02, R-8: the acceleration that is stored with it
+-- document 02, R-8: the acceleration stored with it
 abbrev pub acceleration : State → Vector
 acceleration s = record { x = s .ax; y = s .ay; z = s .az }
 
--- R-8: what an injection is given as, before its acceleration is worked out
+-- R-8: the input of an injection, without an acceleration
 abbrev pub injectionAt : ℕ → ℕ → Vector → Vector → Injection
 injectionAt t centre p v = record { moment = t; centre = centre; x = p .x; y = p .y; z = p .z; vx = v .x; vy = v .y; vz = v .z }
 
@@ -36,7 +37,7 @@ startingPosition i = record { x = i .x; y = i .y; z = i .z }
 abbrev pub startingVelocity : Injection → Vector
 startingVelocity i = record { x = i .vx; y = i .vy; z = i .vz }
 
--- with an acceleration it is a state
+-- an injection and its acceleration make a state
 abbrev pub carrying : Injection → Vector → State
 carrying i a =
     record {
@@ -89,7 +90,7 @@ termsAllowed s = coefficientAllowed (s .j) && coefficientAllowed (s .a) && coeff
 unfoldable pub settingAllowed : Setting → Bool
 settingAllowed s = coefficientsAllowed s && termsAllowed s && isDUT (s .dut) && isRule (s .rule)
 
--- the coefficient of the body of that number, "1 to 6"; outside there is none, and 0 stands for it
+-- the coefficient of the body with that number, "1 to 6"; 0 for any other number
 unfoldable pub coefficientOf : Setting → ℕ → Float
 coefficientOf s number =
     if number =? 1 then s .earth else

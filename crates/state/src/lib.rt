@@ -1,4 +1,4 @@
-// A spacecraft's state, the setting it moves under, and the tests that both have to pass.
+// The state of a spacecraft, the setting under which it moves, and the tests of both.
 
 use state_tests::bits_agree;
 use state_tests::coefficient_is_allowed;
@@ -14,8 +14,8 @@ pub struct Vector {
     pub z: f64,
 }
 
-// A moment, with the position in km and the velocity in km/s, both from a centre: (02, R-6) the number of a body; and (02, R-8) the
-// acceleration in km/s² about it.
+// A moment, with the position in km and the velocity in km/s. Both are seen from a centre: (02, R-6) the number of a
+// body. (02, R-8) The acceleration about it, in km/s².
 pub struct State {
     pub moment: u64,
     pub centre: u64,
@@ -42,8 +42,8 @@ pub struct Injection {
     pub vz: f64,
 }
 
-// The gravitational coefficients of the bodies 1 to 6 in km³/s², DUT in milliseconds, (02, R-7) J and A in km of the oblate Earth
-// and K in km³/s² of sunlight, and (02, R-9) the rule of the hour angle.
+// The gravitational coefficients of the bodies 1 to 6 in km³/s², and DUT in milliseconds. (02, R-7) J and A in km for
+// the oblate Earth, and K in km³/s² for sunlight. (02, R-9) The rule of the hour angle.
 pub struct Setting {
     pub earth: f64,
     pub moon: f64,
@@ -98,7 +98,7 @@ pub fn starting_position(i: Injection) -> Vector
     }
 }
 
-// An injection made into a state by its acceleration.
+// An injection and its acceleration make a state.
 pub fn carrying(i: Injection, a: Vector) -> State
     ensures { λ r. ⌜ r ≡ carrying i a ⌝ }
 {
@@ -216,7 +216,7 @@ pub fn setting_is_allowed(s: Setting) -> bool
     false
 }
 
-// The coefficient of the body of that number; 0 where there is no such body.
+// The coefficient of the body with that number; 0 if there is no such body.
 pub fn coefficient_of(s: Setting, number: u64) -> f64
     ensures { λ r. ⌜ r ≡ coefficientOf s number ⌝ }
 {

@@ -1,5 +1,5 @@
-// Tests of single numbers: whether two floats have the same bits, whether a coefficient is allowed, whether a body has that number and
-// whether it is looked up.
+// Tests of single numbers: equal bits of two floats, an allowed coefficient, the number of a body, and whether a body
+// is looked up.
 
 ghost use mathlib.Core.Path.{_≡_};
 ghost use Rattle.state_tests.specs.Allowed.{sameBits, coefficientAllowed, earthAllowed, isBody, lookedUp};
@@ -44,7 +44,7 @@ pub fn is_body(number: u64) -> bool
     number <= 6
 }
 
-// (02, R-7) Whether a body is looked up: it pulls, or it is lit up by K.
+// (02, R-7) Whether a body is looked up: it pulls, or K is above 0 and it is the Sun.
 pub fn is_looked_up(coefficient: f64, lit: bool) -> bool
     ensures { λ r. ⌜ r ≡ lookedUp coefficient lit ⌝ }
 {
