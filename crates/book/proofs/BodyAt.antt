@@ -1,4 +1,4 @@
--- What looking a body up gives, case by case, and that it depends on the covering entry's content alone. Assumes nothing.
+-- The result of looking a body up, case by case; it depends only on the content of the covering entry. Assumes nothing.
 use Prim.Native.Nat.{ℕ}
 use mathlib.Core.Bool.{true, false}
 use mathlib.Core.List.{List}
@@ -32,7 +32,7 @@ module _ (b : List ℕ) (body t : ℕ) where
     unfolding bodyAt place velocity
     by-content = rw h
 
--- two books whose covering entries say the same, wherever they stand, give the same
+-- two books whose covering entries have the same content, at any place, give the same
 pub same-content : (b c : List ℕ) (body t i j : ℕ) → lookup b body t ≡ Entry i → lookup c body t ≡ Entry j → contentOf b i ≡ contentOf c j →
     bodyAt b body t ≡ bodyAt c body t
 same-content b c body t i j h h' e =

@@ -1,4 +1,4 @@
--- What the code reads of an entry for a moment that it covers: where its coefficients lie, and w and L.
+-- What the code reads from an entry for a moment that it covers: the place of its coefficients, w and L.
 use Prim.Native.Nat.{ℕ, _+_, _*_, _≤_}
 use mathlib.Core.Bool.{true}
 use mathlib.Core.List.{List}

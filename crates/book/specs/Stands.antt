@@ -1,4 +1,5 @@
--- How the search goes: what it learns from an entry, and what it knows of the rest. That it comes to `lookup` is a law (proofs/Found.antt).
+-- How the search works: what it learns from an entry, and what it knows of the rest. The laws in proofs/Found.antt prove that it finds what
+-- `lookup` defines.
 use Prim.Native.Nat.{ℕ, _≤_, _<_}
 use mathlib.Core.Bool.{false}
 use mathlib.Core.List.{List}
@@ -13,7 +14,7 @@ Stands b i body t Past = (bodyOf b i ≤ body) × (bodyOf b i ≡ body → endOf
 Stands b i body t Covered = (bodyOf b i ≡ body) × (startOf b i ≤ t) × (t < endOf b i)
 Stands b i body t Before = (body ≤ bodyOf b i) × (bodyOf b i ≡ body → t < startOf b i)
 
--- only entries from low to high can serve, and `probe` is one of them where there is one
+-- only entries from low to high can serve; if there are any, `probe` is one of them
 pub record Narrowed (b : List ℕ) (body t low high probe : ℕ) : Type 0 where
   pub none-below : (i : ℕ) → i < low → serves b body t i ≡ false
   pub none-from : (i : ℕ) → high ≤ i → i < entryCount b → serves b body t i ≡ false

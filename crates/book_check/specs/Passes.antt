@@ -53,7 +53,7 @@ overlaps b i j = (bodyOf b i =? bodyOf b j) && (startOf b i <? endOf b j) && (st
 abbrev pub apart : List ℕ → ℕ → ℕ → Bool
 apart b i j = not (overlaps b i j)
 
--- "blocks follow the contents in entry order with no gap": where block i has to begin; at the entry count, where the last one ends
+-- "blocks follow the contents in entry order with no gap": where block i must begin; at the entry count, where the last one ends
 abbrev pub blockPlace : List ℕ → ℕ → ℕ
 blockPlace b zero = entryAt (entryCount b)
 blockPlace b (suc i) = blockPlace b i + blockLength b i

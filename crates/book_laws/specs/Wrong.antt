@@ -1,4 +1,4 @@
--- Two wrong programs that R-12 rules out, each as what it would answer for the position of a body, and the books that tell.
+-- Two wrong programs that R-12 rules out. Each is given by its answer for the position of a body, with the books that show the mistake.
 use mathlib.Core.Bool.{Bool, true}
 use mathlib.Core.List.{List, [], _∷_}
 use mathlib.Core.Path.{_≡_}
@@ -15,11 +15,11 @@ use Rattle.book.specs.declared.PositionAnswer.{PositionAnswer}
 use Rattle.book.specs.declared.PositionAnswer.the-variants.{At, Refused}
 use Rattle.book_laws.specs.Fuller.{HoldsAll, Unless}
 
--- a call that tells where a body stands at a moment of a book
+-- a call that returns the position of a body at a moment of a book
 abbrev pub PositionCall : Type 0
 PositionCall = List ℕ → ℕ → ℕ → PositionAnswer
 
--- what R-12 asks of it: under a fuller book the same, unless the first has no cover
+-- what R-12 demands of it: the same under a fuller book, unless the first has no cover
 abbrev pub Unmoved : PositionCall → Type 0
 Unmoved call =
     (b c : List ℕ) → passes b ≡ true → passes c ≡ true → HoldsAll b c → (body t : ℕ) → Unless (Refused 6) (call b body t) (call c body t)
@@ -29,11 +29,11 @@ abbrev pub lastBelow : ℕ → (ℕ → Bool) → Lookup
 lastBelow zero test = Nothing
 lastBelow (suc n) test = if test n then Entry n else lastBelow n test
 
--- a lookup that takes the last entry found from the back, be it of another body
+-- a lookup that takes the last entry found from the back, even of another body
 abbrev pub fromTheBack : PositionCall
 fromTheBack b body t = placeOr6 b t (lastBelow (entryCount b) (λ i. covers b i t))
 
--- a program that looks at the entry's number: the body stands as many km along x
+-- a program that uses the number of the entry: the body is that many km along x
 abbrev pub placedBy : Lookup → PositionAnswer
 placedBy (Entry i) =
     At (record { place = record { x = whole i; y = zero64; z = zero64 }; velocity = record { x = zero64; y = zero64; z = zero64 } })

@@ -1,1 +1,1 @@
-// Laws alone: a fuller book never changes a figure (02, R-12).
+// Laws only: a fuller book never changes a figure (02, R-12).

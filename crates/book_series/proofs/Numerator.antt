@@ -1,4 +1,4 @@
--- The signed number 2(t - s) - L, as document 01 writes it and as the machine works it out. Assumes nothing.
+-- The signed number 2(t - s) - L, as document 01 writes it and as the machine computes it. Assumes nothing.
 use Prim.Native.Nat.{ℕ, zero, suc, _+_, _-_, _*_, _^_, _<_, _≤_, zero-le}
 use mathlib.Core.Bool.{Bool, true, false, cond}
 use mathlib.Core.Path.{_≡_, refl, sym, ap, _∙_}

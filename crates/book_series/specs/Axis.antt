@@ -1,4 +1,5 @@
--- What the code carries of one axis from turn to turn: b(k), b(k+1), d(k), d(k+1). That it comes to `speed` is a law (proofs/Slopes.antt).
+-- What the code keeps of one axis from turn to turn: b(k), b(k+1), d(k), d(k+1). The laws in proofs/Slopes.antt prove that the result is
+-- `speed`.
 use mathlib.Core.List.{List}
 use lib.Ieee.{Float}
 use Rattle.base.specs.Floats.{_⊗_, _⊘_, zero64, whole}
@@ -24,6 +25,6 @@ axisTurn w c a = axisBy (turn w c (values a)) (slopeTurn w (values a) (slopesOf 
 abbrev pub axisSpeed : Float → Float → Axis → Float
 axisSpeed w L a = (lastSlope w (values a) (slopesOf a) ⊗ whole 2000) ⊘ L
 
--- all that stands behind these coefficients
+-- everything computed from the coefficients after these
 abbrev pub axisOf : Float → List Float → Axis
 axisOf w cs = axisBy (clenshaw w cs) (slopes w cs)

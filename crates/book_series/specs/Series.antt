@@ -1,5 +1,5 @@
--- Document 01, "The ephemeris book": the Chebyshev series by Clenshaw, over an entry's numbers and coefficients; and document 02, R-5:
--- its slope.
+-- Document 01, "The ephemeris book": the Chebyshev series by Clenshaw, from the numbers and coefficients of an entry. Document 02, R-5: its
+-- slope.
 use Prim.Native.Nat.{ℕ, zero, suc, _+_, _*_, _<_, _≤_}
 use mathlib.Core.List.{List, [], _∷_}
 use lib.IntN.{pos, _-ℤ_, _*ℤ_}
@@ -19,7 +19,7 @@ unfoldable pub argument : ℕ → ℕ → ℕ → Float
 argument start span t =
     ofInt binary64 (pos 2 *ℤ (pos t -ℤ pos start) -ℤ pos span) ⊘ whole span
 
--- t lies in the span of an entry that is allowed: what working out `argument` leans on
+-- t lies in the span of an allowed entry: what computing `argument` relies on
 pub record InSpan (start span t : ℕ) : Type 0 where
   pub from : start ≤ t
   pub until : t < start + span
@@ -34,7 +34,7 @@ pub record Pair : Type 0 where
 abbrev pub turn : Float → Float → Pair → Pair
 turn w c b = record { here = (twice w ⊗ b .here ⊖ b .next) ⊕ c; next = b .here }
 
--- "starting with two zeros", of the coefficients c(k), c(k+1), .. to the last
+-- "starting with two zeros", for the coefficients c(k), c(k+1), .. to the last
 unfoldable pub clenshaw : Float → List Float → Pair
 clenshaw w [] = record { here = zero64; next = zero64 }
 clenshaw w (c ∷ cs) = turn w c (clenshaw w cs)
@@ -80,7 +80,7 @@ placeBy c w = record { x = series w (c .xs); y = series w (c .ys); z = series w 
 abbrev pub velocityBy : Block → Float → Float → Velocity
 velocityBy c w L = record { x = speed w L (c .xs); y = speed w L (c .ys); z = speed w L (c .zs) }
 
--- all that an entry says of its body
+-- everything that an entry says about its body
 pub record Content : Type 0 where
   pub start : ℕ
   pub span : ℕ
@@ -92,7 +92,7 @@ placeIn e t = placeBy (e .block) (argument (e .start) (e .span) t)
 abbrev pub velocityIn : Content → ℕ → Velocity
 velocityIn e t = velocityBy (e .block) (argument (e .start) (e .span) t) (whole (e .span))
 
--- f k, f (k + 1), .. , n of them
+-- f k, f (k + 1), ..: n values
 abbrev pub listed : (ℕ → Float) → ℕ → ℕ → List Float
 listed f k zero = []
 listed f k (suc n) = f k ∷ listed f (suc k) n

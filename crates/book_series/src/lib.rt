@@ -1,4 +1,4 @@
-// The Chebyshev series of a book's entry: where its body stands, and how fast it goes.
+// The Chebyshev series of an entry of a book: the position of its body, and its velocity.
 
 pub mod inner;
 

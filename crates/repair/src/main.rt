@@ -1,8 +1,9 @@
-// The program repair: reads a damaged book from standard input, writes one that passes to standard output, and reports on
-// standard error. It may be given the room, the greatest length of the book written. What it cannot read or write it tells there too.
+// The program repair: reads a damaged book from standard input, writes one that passes to standard output, and
+// reports on standard error. An optional argument is the room: the greatest length of the book that it writes. Errors
+// of reading and writing are printed on standard error.
 //
-// No contract can say what a program reads or writes. The new book and the fates are mend's (`mend::repair`); this program
-// only carries them.
+// No contract can say what a program reads or writes. The new book and the fates come from `repair_book::repair`;
+// this program only passes them on.
 
 use libc::STDERR_FILENO;
 use libc::STDIN_FILENO;
@@ -16,12 +17,12 @@ ghost use Prim.Native.Nat.{_≤_};
 ghost use lib.ListN.{length};
 
 const NO_ROOM_GIVEN: usize = book::LONGEST_BOOK;
-// One byte more than the longest book: enough to see that the input is too long.
+// One byte more than the longest book: enough to detect that the input is too long.
 const LONGEST_INPUT: usize = book::LONGEST_BOOK + 1;
 
 const NOT_ALLOWED: usize = book::LONGEST_BOOK + 1;
 
-// The room that a word states in decimal, or one above the limit where it is no such number.
+// The room that a word gives in decimal; one above the limit if it is no such number.
 fn room_of(word: &[u8]) -> usize
     ensures { λ r. ⌜ r ≤ 61_441 ⌝ }
 {
@@ -117,7 +118,7 @@ fn tell_report(report: Report, fates: &[u16; MOST_ENTRIES]) {
     tell_numbered(report.written, b"\n");
 }
 
-// Whether all of the book was written.
+// Whether the whole book was written.
 fn print_book(output: &[u8], written: usize) -> bool {
     if written <= output.len() {
         return io::write_all(STDOUT_FILENO, &output[..written]);
@@ -153,7 +154,7 @@ fn print_within(input: &[u8], output: &mut [u8], room: usize)
     print_repaired(input, &mut output[..room]);
 }
 
-// A short count is the end of the input or a failure: reading once more tells which.
+// A short count means the end of the input or a failure: one more read shows which.
 fn read_failed(count: usize) -> bool {
     if LONGEST_INPUT <= count {
         return false;

@@ -11,19 +11,19 @@ use Rattle.repair_write.specs.Anew.{bookLength, placeAnew}
 use Rattle.repair_book.specs.declared.Changed.{Changed}
 use Rattle.repair_book.specs.declared.Report.{Report}
 
--- the written total against the stated one
+-- the written total differs from the stated one
 abbrev pub totalChanged : List ℕ → List ℕ → Bool
 totalChanged b kept = not (bookLength b kept =? statedTotal b)
 
--- the written count against the stated one
+-- the written count differs from the stated one
 abbrev pub countChanged : List ℕ → List ℕ → Bool
 countChanged b kept = not (length kept =? entryCount b)
 
--- the kept ones stand in another order than in the contents: some number is not above the one before it
+-- the kept entries are in the order of the contents: each number is above the one before it
 abbrev pub asInContents : List ℕ → Bool
 asInContents kept = allBelow (length kept - 1) (λ k. getD kept k 0 <? getD kept (k + 1) 0)
 
--- some kept entry's offset
+-- every kept entry keeps its offset
 abbrev pub offsetsStay : List ℕ → List ℕ → Bool
 offsetsStay b kept = allBelow (length kept) (λ k. offsetOf b (getD kept k 0) =? placeAnew b kept k)
 

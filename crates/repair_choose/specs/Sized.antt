@@ -1,4 +1,4 @@
--- How two arrays and three numbers hold the pass on its way.
+-- How two arrays and three numbers represent the pass.
 use Prim.Native.Nat.{ℕ, _-_, _<_, _≤_}
 use mathlib.Core.Bool.{Bool, false}
 use mathlib.Core.List.{List}
@@ -10,7 +10,7 @@ use Rattle.repair_sort.specs.Held.{AllSound}
 use Rattle.repair_write.specs.Anew.{bookLength}
 use Rattle.repair_choose.specs.Forward.{Sofar}
 
--- the first `count` of the one array are kept; the other has the fates
+-- the first `count` of one array are kept; the other has the fates
 abbrev pub held : List ℕ → ℕ → List ℕ → Sofar
 held kept count fates = record { kept = take count kept; fates = fates }
 
@@ -22,6 +22,6 @@ pub record Sized (b : List ℕ) (room : ℕ) (kept : List ℕ) (count last booke
   pub long : booked ≡ bookLength b (take count kept)
   pub fits : booked ≤ room
 
--- whether entry i overlaps the last of `count` entries, where there is one
+-- whether entry i overlaps the last of `count` entries, if there is one
 abbrev pub overlapsAt : List ℕ → ℕ → ℕ → ℕ → Bool
 overlapsAt b count last i = if count =? 0 then false else overlaps b last i

@@ -1,4 +1,4 @@
--- The numbers by which a repair can be refused: 16 and 1 alone, so that 0 tells none. Assumes nothing.
+-- The refusal numbers of a repair: only 16 and 1, so 0 means none. Assumes nothing.
 use mathlib.Core.Bool.{Bool, true, false, _||_}
 use mathlib.Core.List.{List}
 use mathlib.Core.Path.{_≡_, refl}
@@ -16,7 +16,8 @@ abbrev pub refusedBy : (ℕ → Bool) → RepairAnswer → Bool
 refusedBy ok (Written r) = true
 refusedBy ok (Refused k) = ok k
 
-by-tests : (ok : ℕ → Bool) → ok 1 ≡ true → ok 16 ≡ true → (x y : Bool) (r : Report) → refusedBy ok (if (if x then 16 else if y then 1 else 0) =? 0 then Written r else Refused (if x then 16 else if y then 1 else 0)) ≡ true
+by-tests : (ok : ℕ → Bool) → ok 1 ≡ true → ok 16 ≡ true → (x y : Bool) (r : Report)
+    → refusedBy ok (if (if x then 16 else if y then 1 else 0) =? 0 then Written r else Refused (if x then 16 else if y then 1 else 0)) ≡ true
 by-tests ok one sixteen true y r = sixteen
 by-tests ok one sixteen false true r = one
 by-tests ok one sixteen false false r = refl

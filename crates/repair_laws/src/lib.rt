@@ -1,1 +1,1 @@
-// Nothing to run: this crate holds the laws of a repaired book, over mend's definitions.
+// No code: this crate has the laws of a repaired book, about the definitions of `repair_book`.

@@ -1,5 +1,5 @@
--- Document 02, R-10: "A report names each entry's number and its fate". A fate is a number of 16 bits: an entry that is kept
--- has its new number, which is below 2,559; each reason for which one is dropped has a number above that.
+-- Document 02, R-10: "A report names each entry's number and its fate". A fate is a number of 16 bits. The fate of a kept entry is its new
+-- number, below 2,559. Each reason for dropping one has a number above that.
 use Prim.Native.Nat.{ℕ}
 
 -- "fields not allowed"
@@ -22,6 +22,6 @@ overlapping = 3_004
 abbrev pub noRoom : ℕ
 noRoom = 3_005
 
--- no fate yet: none of the first three reasons, so that the entry goes on to be put in order
+-- no fate yet: none of the first three reasons applies, so the entry goes on to be put in order
 abbrev pub goesOn : ℕ
 goesOn = 3_000

@@ -1,4 +1,4 @@
-// The entries of a damaged book: which are looked at, the first reason for which one is dropped, and the order of the rest.
+// The entries of a damaged book: which are looked at, the first reason for dropping one, and the order of the rest.
 
 pub mod inner;
 mod order;
@@ -7,7 +7,7 @@ mod reasons;
 // As many as the longest book can have in its contents.
 pub const MOST_ENTRIES: usize = 2559;
 
-// Fates: an entry that is kept has its new number, which is below MOST_ENTRIES.
+// Fates: the fate of a kept entry is its new number, which is below MOST_ENTRIES.
 pub const FIELDS: u16 = 3_001;
 
 pub const BLOCK: u16 = 3_002;

@@ -1,4 +1,4 @@
-// The reasons that an entry's own bytes give.
+// The reasons that follow from the bytes of the entry itself.
 
 use crate::BLOCK;
 use crate::COEFFICIENT;

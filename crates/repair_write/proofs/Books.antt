@@ -1,4 +1,4 @@
--- The book of the kept entries, entry after entry: what one entry more adds. Assumes nothing.
+-- The book of the kept entries, entry after entry: what one more entry adds. Assumes nothing.
 use Prim.Native.Nat.{ℕ, zero, suc, _+_, _*_, _<_, _≤_}
 use mathlib.Core.List.{List, [], _∷_, _++_, append-assoc, append-nil}
 use mathlib.Core.Path.{_≡_, refl, sym, ap, _∙_}
@@ -24,7 +24,8 @@ module _ (b : List ℕ) where
   pub contents-more : (place : ℕ) (l : List ℕ) (i : ℕ) → contentsAnew b place (l ++ (i ∷ [])) ≡ contentsAnew b place l ++ entryAnew b i (place + blocksLength b l)
   contents-more place [] i = append-nil (entryAnew b i place) ∙ ap (λ (p : ℕ). entryAnew b i p) (sym (add-zero place))
   contents-more place (j ∷ js) i =
-      ap (λ (r : List ℕ). entryAnew b j place ++ r) (contents-more (place + blockLength b j) js i ∙ ap (λ (p : ℕ). contentsAnew b (place + blockLength b j) js ++ entryAnew b i p) (add-assoc place (blockLength b j) (blocksLength b js)))
+      ap (λ (r : List ℕ). entryAnew b j place ++ r)
+      (contents-more (place + blockLength b j) js i ∙ ap (λ (p : ℕ). contentsAnew b (place + blockLength b j) js ++ entryAnew b i p) (add-assoc place (blockLength b j) (blocksLength b js)))
       ∙ sym (append-assoc (entryAnew b j place) (contentsAnew b (place + blockLength b j) js) (entryAnew b i (place + blocksLength b (j ∷ js))))
 
   pub blocks-more : (l : List ℕ) (i : ℕ) → blocksAnew b (l ++ (i ∷ [])) ≡ blocksAnew b l ++ blockBytes b i
@@ -62,7 +63,7 @@ module _ (b : List ℕ) where
         blocks-length is (a .1),
       )
 
-  -- the blocks before k, block k and those behind it
+  -- the blocks before k, block k and those after it
   pub blocks-split : (l : List ℕ) (k : ℕ) → k < length l → blocksLength b l ≡ blocksLength b (take k l) + blockLength b (getD l k 0) + blocksLength b (drop (suc k) l)
   blocks-split [] k h = absurd (omega arith)
   blocks-split (i ∷ is) zero h = omega arith
@@ -85,14 +86,20 @@ module _ (b : List ℕ) where
     place-further = rw further (blocks-longer (take k kept) (getD kept k 0))
 
     -- one more entry of the contents is written
-    pub entry-written : (out₀ : List ℕ) {out after : List ℕ} {place : ℕ} → bookLength b kept ≤ length out₀ → place ≡ entryAt (length kept) + blocksLength b (take k kept) → out ≡ withText out₀ 8 (contentsAnew b (entryAt (length kept)) (take k kept)) → after ≡ withText out (8 + 24 * k) (entryAnew b (getD kept k 0) place) → after ≡ withText out₀ 8 (contentsAnew b (entryAt (length kept)) (take (k + 1) kept))
+    pub entry-written : (out₀ : List ℕ) {out after : List ℕ} {place : ℕ} → bookLength b kept ≤ length out₀
+        → place ≡ entryAt (length kept) + blocksLength b (take k kept) → out ≡ withText out₀ 8 (contentsAnew b (entryAt (length kept)) (take k kept))
+        → after ≡ withText out (8 + 24 * k) (entryAnew b (getD kept k 0) place) → after ≡ withText out₀ 8 (contentsAnew b (entryAt (length kept)) (take (k + 1) kept))
     entry-written out₀ {out} {after} {place} room p o a =
-        let long : length (contentsAnew b (entryAt (length kept)) (take k kept)) ≡ 24 * k = contents-length (entryAt (length kept)) (take k kept) (sound-take b k kept sound) ∙ ap (λ (n : ℕ). 24 * n) front in
+        let long : length (contentsAnew b (entryAt (length kept)) (take k kept)) ≡ 24 * k =
+        contents-length (entryAt (length kept)) (take k kept) (sound-take b k kept sound) ∙ ap (λ (n : ℕ). 24 * n) front in
         let wide = entry-length (getD kept k 0) place (sound-at b kept sound k lt .inside) in
-        rw (further, contents-more (entryAt (length kept)) (take k kept) (getD kept k 0), ← p) (joined out₀ (contentsAnew b (entryAt (length kept)) (take k kept)) (entryAnew b (getD kept k 0) place) 8 (8 + 24 * k) o a (omega arith) (omega arith))
+        rw (further, contents-more (entryAt (length kept)) (take k kept) (getD kept k 0), ← p)
+        (joined out₀ (contentsAnew b (entryAt (length kept)) (take k kept)) (entryAnew b (getD kept k 0) place) 8 (8 + 24 * k) o a (omega arith) (omega arith))
 
     -- one more block is written
-    pub block-written : (out₀ : List ℕ) {out after : List ℕ} {place : ℕ} → bookLength b kept ≤ length out₀ → place ≡ entryAt (length kept) + blocksLength b (take k kept) → out ≡ withText out₀ (entryAt (length kept)) (blocksAnew b (take k kept)) → after ≡ withText out place (blockBytes b (getD kept k 0)) → after ≡ withText out₀ (entryAt (length kept)) (blocksAnew b (take (k + 1) kept))
+    pub block-written : (out₀ : List ℕ) {out after : List ℕ} {place : ℕ} → bookLength b kept ≤ length out₀
+        → place ≡ entryAt (length kept) + blocksLength b (take k kept) → out ≡ withText out₀ (entryAt (length kept)) (blocksAnew b (take k kept))
+        → after ≡ withText out place (blockBytes b (getD kept k 0)) → after ≡ withText out₀ (entryAt (length kept)) (blocksAnew b (take (k + 1) kept))
     block-written out₀ {out} {after} {place} room p o a =
         let long = blocks-length (take k kept) (sound-take b k kept sound) in
         let wide : length (blockBytes b (getD kept k 0)) ≡ blockLength b (getD kept k 0) = part-length b _ _ (sound-at b kept sound k lt .block) in

@@ -1,4 +1,4 @@
--- Texts written at places of a buffer, one behind the other. Assumes nothing.
+-- Texts written at places of a buffer, one after the other. Assumes nothing.
 use Prim.Native.Nat.{ℕ, suc, _+_, _/_, _%_, _≤_}
 use mathlib.Core.List.{List, [], _∷_, _++_, append-assoc, append-nil}
 use mathlib.Core.Path.{_≡_, refl, sym, ap, _∙_}
@@ -46,7 +46,8 @@ pub le32-length : (n : ℕ) → length (le32 n) ≡ 4
 unfolding le32
 le32-length n = refl
 
-pub four-bytes : (d : List ℕ) (at n : ℕ) → at + 4 ≤ length d → set (set (set (set d at (n % 256)) (at + 1) (n / 256 % 256)) (at + 2) (n / 256 / 256 % 256)) (at + 3) (n / 256 / 256 / 256 % 256) ≡ withText d at (le32 n)
+pub four-bytes : (d : List ℕ) (at n : ℕ) → at + 4 ≤ length d
+    → set (set (set (set d at (n % 256)) (at + 1) (n / 256 % 256)) (at + 2) (n / 256 / 256 % 256)) (at + 3) (n / 256 / 256 / 256 % 256) ≡ withText d at (le32 n)
 unfolding le32
 four-bytes d at n h =
     let one : at + 1 ≡ suc at = omega arith in

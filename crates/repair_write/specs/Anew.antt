@@ -1,4 +1,4 @@
--- Document 02, R-10: the book that is written from the entries kept, after document 01, "The ephemeris book".
+-- Document 02, R-10: the book that is written from the kept entries, in the form of document 01, "The ephemeris book".
 use Prim.Native.Nat.{ℕ, _+_, _/_, _%_}
 use mathlib.Core.List.{List, [], _∷_, _++_}
 use lib.ListN.{length, take, drop}
@@ -20,7 +20,7 @@ blocksLength b (i ∷ is) = blockLength b i + blocksLength b is
 abbrev pub bookLength : List ℕ → List ℕ → ℕ
 bookLength b kept = entryAt (length kept) + blocksLength b kept
 
--- entry i with its block at another place: body and n, the offset anew, start and span; no other byte of it is altered
+-- entry i with its block at another place: only the offset is new, the other bytes stay
 abbrev pub entryAnew : List ℕ → ℕ → ℕ → List ℕ
 entryAnew b i place = part b (entryAt i) 4 ++ le32 place ++ part b (entryAt i + 8) 16
 
@@ -29,7 +29,7 @@ abbrev pub contentsAnew : List ℕ → ℕ → List ℕ → List ℕ
 contentsAnew b place [] = []
 contentsAnew b place (i ∷ is) = entryAnew b i place ++ contentsAnew b (place + blockLength b i) is
 
--- "no coefficient is altered": the blocks' bytes as they are
+-- "no coefficient is altered": the bytes of the blocks stay
 abbrev pub blockBytes : List ℕ → ℕ → List ℕ
 blockBytes b i = part b (offsetOf b i) (blockLength b i)
 
@@ -42,7 +42,7 @@ unfoldable pub bookAnew : List ℕ → List ℕ → List ℕ
 bookAnew b kept =
     le32 (bookLength b kept) ++ le32 (length kept) ++ contentsAnew b (entryAt (length kept)) kept ++ blocksAnew b kept
 
--- where the block of the kept entry with the new number k stands in that book
+-- the place of the block of the kept entry with the new number k in that book
 abbrev pub placeAnew : List ℕ → List ℕ → ℕ → ℕ
 placeAnew b kept k = entryAt (length kept) + blocksLength b (take k kept)
 

@@ -1,4 +1,4 @@
-// The blocks, one behind the other: the input's bytes.
+// The blocks, one after the other: the bytes of the input.
 
 use crate::bytes::copy;
 use book::inner::offset_of;

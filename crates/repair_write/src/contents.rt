@@ -1,4 +1,4 @@
-// The contents: each entry as it was, but for the place of its block.
+// The contents: each entry unchanged, except for the place of its block.
 
 use crate::bytes::copy;
 use crate::bytes::put_u32;

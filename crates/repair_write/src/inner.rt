@@ -1,4 +1,4 @@
-// For entries that are known to be sound and a book of them that fits. This is no public call.
+// For entries that are known to be sound and a book of them that fits. Not a public call.
 
 use crate::blocks::write_blocks;
 use crate::bytes::put_u32;

@@ -1,4 +1,5 @@
-// The book of the entries kept, written into the lent output. Every byte of an entry and a block is the input's, but for the offset.
+// Writes the book of the kept entries into the caller's output. Every byte of an entry and a block is that of the
+// input, except for the offset.
 
 mod blocks;
 mod bytes;

@@ -30,7 +30,8 @@ reach c =
 met : (c : tie.At-match-came Inv-loop μ-loop) →
     ((next : ℕ) →
     (c .match .low < c .match .high → (c .match .low ≤ next) × (next < c .match .high)) →
-    Narrowed (now (c .before .before .before .before .before .args .book)) (c .before .before .before .before .before .args .body) (c .before .before .before .before .before .args .moment) (c .match .low) (c .match .high) next)
+    Narrowed (now (c .before .before .before .before .before .args .book)) (c .before .before .before .before .before .args .body)
+    (c .before .before .before .before .before .args .moment) (c .match .low) (c .match .high) next)
     × (c .match .low ≤ c .match .high)
     × (c .match .high - c .match .low < c .before .before .before .loop .high - c .before .before .before .loop .low)
 met c =

@@ -1,4 +1,4 @@
--- `bookcheck::known::times_allowed` meets its contract: s + L is held against the limit without a sum that could wrap. Assumes nothing.
+-- `book_check::inner::times_allowed` meets its contract: s + L is compared with the limit without a sum that could wrap. Assumes nothing.
 use native.Mathlib.Omega.{arith}
 use borrow.Author.Tests.{lt-leb, le-leb, leb-true, leb-false}
 use Prim.Native.Nat.{ℕ, _+_, _-_, _≤_, _<_}
