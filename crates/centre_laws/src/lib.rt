@@ -1,1 +1,1 @@
-// Nothing to run: this crate holds demand 3 for journeys in which moves to other centres stand at named moments.
+// No code: this crate has demand 3 for journeys with moves to other centres at named moments.

@@ -7,7 +7,8 @@ use Rattle.base.specs.Choice.{if_then_else_, _=?_}
 use Rattle.base.specs.Floats.{zero64}
 use Rattle.conic_checks.specs.declared.Orbit.{Orbit}
 
--- the refusal of a figure, 0 for none: 7 where it is not finite, and its own number where it is zero, 0 if it may be
+-- the refusal number of a figure: 7 if it is not finite, its own number if it is zero, else 0. The own number is 0 if the figure may be
+-- zero.
 unfoldable pub unfit : Float → ℕ → ℕ
 unfit x own = if not (finite x) then 7 else if eq x zero64 then own else 0
 

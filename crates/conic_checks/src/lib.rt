@@ -1,9 +1,9 @@
-// The figures of a conic, and the tests that they have to pass, in their order.
+// The figures of a conic, and their tests in the right order.
 
 ghost use mathlib.Core.Path.{_≡_};
 ghost use Rattle.conic_checks.specs.Refusal.{unfit, _before_, refusal};
 
-// The figures in the order in which they are tested; `last` is the ellipse's far distance or the hyperbola's v.
+// The figures in the order of their tests. `last` is the far distance of an ellipse or the v of a hyperbola.
 pub struct Orbit {
     pub n: f64,
     pub v2: f64,
@@ -17,7 +17,7 @@ pub struct Orbit {
     pub last: f64,
 }
 
-// The number found so far, or where that is 0 the figure's: 7 if it is not finite, its own if it is zero.
+// The number found so far; if that is 0, the number of this figure: 7 if it is not finite, its own if it is zero.
 fn tested(number: u64, x: f64, own: u64) -> u64
     ensures { λ r. ⌜ r ≡ number before unfit x own ⌝ }
 {
@@ -33,7 +33,7 @@ fn tested(number: u64, x: f64, own: u64) -> u64
     number
 }
 
-// 0 where every figure passes. A figure that may be zero has 0 as its own number.
+// 0 if every figure passes. A figure that may be zero has 0 as its own number.
 pub fn refusal_of(o: Orbit) -> u64
     ensures { λ r. ⌜ r ≡ refusal o ⌝ }
 {

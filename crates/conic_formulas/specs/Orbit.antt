@@ -21,7 +21,7 @@ cross p v =
 unfoldable pub eccentricity : Float → Float
 eccentricity e2 = if below0 e2 then zero64 else rootOf e2
 
--- "far distance a·(1 + e)" of an ellipse, "root of c3" of a hyperbola
+-- "far distance a·(1 + e)" for an ellipse, "root of c3" for a hyperbola
 unfoldable pub lastFigure : Float → Float → Float → Float
 lastFigure c3 a e = if below0 c3 then a ⊗ (whole 1 ⊕ e) else rootOf c3
 

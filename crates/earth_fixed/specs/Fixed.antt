@@ -13,7 +13,7 @@ use Rattle.earth_fixed.specs.declared.EarthFixed.{EarthFixed}
 use Rattle.earth_fixed.specs.declared.FixedAnswer.{FixedAnswer}
 use Rattle.earth_fixed.specs.declared.FixedAnswer.the-variants.{Fixed, Refused}
 
--- "Velocity x gains w·y and velocity y loses w·x, with x, y the turned position" (so of the product)
+-- "Velocity x gains w·y and velocity y loses w·x, with x, y the turned position" (the position after the product of the tables)
 unfoldable pub turned : Rotation → State → EarthFixed
 turned by state =
     let p = times (by .table) (position state) in
@@ -39,13 +39,13 @@ finiteAnswer rule dut state =
     if not (finiteFixed fixed) then Refused 7 else
     Fixed fixed
 
--- an answer that comes after the hour angle's refusals
+-- an answer after the refusals of the hour angle
 abbrev pub afterHour : HourAnswer → FixedAnswer → FixedAnswer
 afterHour (HourAnswer.Parts parts) answer = answer
 afterHour (HourAnswer.Refused number) answer = Refused number
 
--- "4 (DUT), 3", and 4 of a rule other than the two, "then 7 (state, then result)"; R-6: "Earth-fixed takes centre 1 alone, else 14", directly
--- after 4: the hour angle then refuses by 3 alone
+-- "4 (DUT), 3", and 4 for a rule other than the two, "then 7 (state, then result)". R-6: "Earth-fixed takes centre 1 alone, else 14",
+-- directly after 4. After that the hour angle can only refuse with 3.
 unfoldable pub fixedAnswer : ℕ → ℕ → State → FixedAnswer
 fixedAnswer rule dut state =
     if not (isDUT dut) then Refused 4 else

@@ -1,4 +1,4 @@
--- Document 02, R-2, over document 000's section ROTEQ: the table that takes 1950.0 coordinates to the mean equator of date.
+-- Document 02, R-2, and document 000, section ROTEQ: the table that takes 1950.0 coordinates to the mean equator of date.
 use mathlib.Core.List.{List, [], _∷_}
 use Prim.Native.Nat.{ℕ, _+_}
 use lib.Ieee.{Float, neg}
@@ -57,6 +57,6 @@ precessionBy T =
     ∷ (neg (a13 T) ∷ a23 T ∷ a33 T ∷ [])
     ∷ []
 
--- at a moment of the state, which is ephemeris time
+-- at the moment of the state, which is ephemeris time
 unfoldable pub precession : ℕ → Table
 precession moment = precessionBy (centuries moment)

@@ -1,4 +1,4 @@
-// Inner functions: the caller knows that the moment is one of document 01's.
+// Inner functions: the caller knows that the moment is in range.
 
 ghost use mathlib.Core.Path.{_≡_};
 ghost use Prim.Native.Nat.{_<_};

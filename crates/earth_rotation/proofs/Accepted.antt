@@ -1,4 +1,4 @@
--- What an hour angle that is not refused tells of the moment, of DUT and of itself. Assumes nothing.
+-- What follows for the moment, DUT and the hour angle if the hour angle is not refused. Assumes nothing.
 use mathlib.Core.Bool.{Bool, true, false, not}
 use mathlib.Core.Path.{_≡_, refl, sym}
 use Prim.Native.Nat.{ℕ, _≤_, _<_}

@@ -1,5 +1,5 @@
-// The table that is applied to 1950.0 coordinates at a moment whose hour angle is `parts`, and the Earth's rate then. No public
-// calls: what the crates above use.
+// The table that is applied to 1950.0 coordinates at a moment whose hour angle is `parts`, and the Earth's rate then.
+// For the crates above; not public calls.
 
 use sine::SineCosine;
 use state::Vector;
@@ -36,7 +36,7 @@ pub fn table_times(table: [[f64; 3]; 3], v: Vector) -> Vector
     }
 }
 
-// The columns on the right, each from its top, are the vectors that the row is multiplied by.
+// The row is multiplied by the columns of the right table, each from the top.
 fn row_product(row: [f64; 3], right: [[f64; 3]; 3]) -> [f64; 3]
     ensures { λ r. ⌜ r ≡ rowProduct row right ⌝ }
 {
@@ -72,7 +72,7 @@ fn table_product(left: [[f64; 3]; 3], right: [[f64; 3]; 3]) -> [[f64; 3]; 3]
     ]
 }
 
-// How fast the Earth turns on the UT day d, in radians a second.
+// The rate of the Earth on the UT day d, in radians per second.
 fn turning_rate(d: u64) -> f64
     requires { ⌜ d ≤ lastDay ⌝ }
     ensures { λ r. ⌜ r ≡ rate d ⌝ }

@@ -1,3 +1,3 @@
-// How the Earth stands at a moment, and how fast it turns.
+// The orientation of the Earth at a moment, and its rate.
 
 pub mod inner;

@@ -1,4 +1,4 @@
--- The checks of an injection: a number that is not 0 is its refusal, and 0 leaves the conversion. Assumes nothing.
+-- The checks of an injection: a number other than 0 is the refusal; after 0 the conversion remains. Assumes nothing.
 use mathlib.Core.Bool.{Bool, true, false, not}
 use mathlib.Core.Path.{_≡_, refl}
 use Prim.Native.Nat.{ℕ}

@@ -1,10 +1,10 @@
--- An angle with a sign, as it lies in 64 bits.
+-- An angle with a sign, as 64 bits.
 use Prim.Native.Nat.{ℕ, _-_}
 use mathlib.Core.Bool.{true, false}
 use Rattle.base.specs.Choice.{if_then_else_, _<?_}
 use Rattle.launch.specs.declared.Signed.{Signed}
 
--- as C has a number with a sign
+-- a signed number as in C
 abbrev pub signedOf : ℕ → Signed
 signedOf bits =
     if bits <? 0x8000_0000_0000_0000

@@ -55,7 +55,7 @@ injectionAnswer s rule moment dut =
     if not (sizesAllowed s) then Refused 7 else
     if finiteInjection (injected s rule moment dut) then Injected (injected s rule moment dut) else Refused 7
 
--- an answer that comes after the hour angle's refusals, 4 (DUT, rule) and 3
+-- an answer after the refusals of the hour angle, 4 (DUT, rule) and 3
 abbrev pub afterHour : HourAnswer → SphereAnswer → SphereAnswer
 afterHour (HourAnswer.Parts parts) answer = answer
 afterHour (HourAnswer.Refused number) answer = Refused number

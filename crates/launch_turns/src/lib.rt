@@ -1,4 +1,4 @@
-// (02, R-4) The turns of an injection as launch crews speak it, each by itself.
+// (02, R-4) The turns of an injection as launch crews speak it, one function for each.
 
 use earth_rotation::inner::table_times;
 use sine::SineCosine;

@@ -1,4 +1,4 @@
--- What the loop over the steps keeps: the guesses from step to step, and where it stands.
+-- The state of the loop over the steps: the guesses from step to step, and how far it has come.
 use mathlib.Core.Bool.{Bool, true, false}
 use mathlib.Core.List.{List}
 use mathlib.Core.Path.{_≡_}
@@ -34,7 +34,7 @@ guessesFrom setting entries given =
 abbrev pub countedBy : ℕ → Reached → Reached
 countedBy n r = record { outcome = r .outcome; steps = n + r .steps; state = r .state }
 
--- what a run that passed its checks may lean on
+-- what a run that passed its checks may rely on
 pub record MayWalk (b : List ℕ) (setting : Setting) (s : State) (h target : ℕ) : Type 0 where
   pub pass : passes b ≡ true
   pub centred : centreAllowed setting (s .centre) ≡ true
@@ -42,7 +42,7 @@ pub record MayWalk (b : List ℕ) (setting : Setting) (s : State) (h target : �
   pub reachable : withinSteps (s .moment) h target ≡ true
   pub ends : target < endOfTime
 
--- where the loop stands after n steps: the rest of the run starts from now
+-- the loop after n steps: the rest of the run starts from `now`
 pub record Walking (b : List ℕ) (setting : Setting) (start : State) (h target budget : ℕ) (given : Guesses) (now : State) (guesses : Guesses) (n : ℕ) : Type 0 where
   pub within : n ≤ budget
   pub rest : runTo (step b setting h) target budget start ≡ countedBy n (runTo (step b setting h) target (budget - n) now)

@@ -16,7 +16,7 @@ use Rattle.run.specs.declared.Outcome.{Outcome}
 use Rattle.run.specs.declared.Outcome.the-variants.{Arrived, Going, Refused}
 use Rattle.run.specs.declared.RunAnswer.{RunAnswer}
 
--- what a run comes to: its outcome, the steps done and the state reached
+-- the result of a run: its outcome, the steps done and the state reached
 pub record Reached : Type 0 where
   pub outcome : Outcome
   pub steps : ℕ
@@ -31,7 +31,7 @@ counted r = record { outcome = r .outcome; steps = r .steps + 1; state = r .stat
 abbrev pub atTarget : ℕ → State → Bool
 atTarget target s = s .moment =? target
 
--- a step done counts; a step refused ends the run where it stands
+-- a step done counts; a refused step ends the run at the state before it
 abbrev pub afterwards : (State → Reached) → State → Moved → Reached
 afterwards rest s (On next) = counted (rest next)
 afterwards rest s (Off k) = ended (Refused k) s

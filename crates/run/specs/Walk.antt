@@ -7,7 +7,7 @@ abbrev pub onward : (State → Moved) → Moved → Moved
 onward f (On s) = f s
 onward f (Off k) = Off k
 
--- n steps from s: one step from where n - 1 lead
+-- n steps from s: one step after the first n - 1
 unfoldable pub walk : (State → Moved) → ℕ → State → Moved
 walk f zero s = On s
 walk f (suc n) s = onward f (walk f n s)

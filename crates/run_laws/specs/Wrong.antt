@@ -1,5 +1,5 @@
--- Document 01, "What the desk may hold each call to": "Try these against the promises". The six wrong runs that it names, each as what
--- such a run would do on every input.
+-- Document 01, "What the desk may hold each call to": "Try these against the promises". The six wrong runs that it names, each defined by
+-- its answer to every input.
 use mathlib.Core.List.{List, [], _∷_}
 use mathlib.Core.Path.{_≡_}
 use Prim.Native.Nat.{ℕ, _+_, _*_, _≤_}
@@ -37,7 +37,7 @@ AnswersAConstant call =
     (c : RunAnswer)
     × ((b : List ℕ) (setting : Setting) (s : State) (h target budget : ℕ) (given : Guesses) → call b setting s h target budget given ≡ c)
 
--- "one handing its state back as 'arrived'", wherever the checks pass
+-- "one handing its state back as 'arrived'", whenever the checks pass
 abbrev pub OwnStateAsArrived : RunCall → Type 0
 OwnStateAsArrived call =
     (b : List ℕ) (setting : Setting) (s : State) (h target budget : ℕ) (given : Guesses) → startRefusal b setting s h target ≡ 0
@@ -49,7 +49,8 @@ OwnStateAsGoing call =
     (b : List ℕ) (setting : Setting) (s : State) (h target budget : ℕ) (given : Guesses) → startRefusal b setting s h target ≡ 0
     → call b setting s h target budget given ≡ handedBack Going 0 s given
 
--- "one that walks its first step and afterwards only moves the clock": two steps and more leave what the first one left
+-- "one that walks its first step and afterwards only moves the clock": after two steps or more, position and velocity are those after the
+-- first
 abbrev pub OnlyTheClock : RunCall → Type 0
 OnlyTheClock call =
     (b : List ℕ) (setting : Setting) (s first : State) (h target budget : ℕ) (given : Guesses) → step b setting h s ≡ On first
@@ -68,8 +69,8 @@ pub record InventsACount (call : RunCall) : Type 0 where
   pub given : Guesses
   pub invented : call b setting s h target budget given .state .moment ≡ s .moment + call b setting s h target budget given .steps * h → ⊥
 
--- document 01's own example, from which each of them is contradicted: "Earth 8, others 0, moment 0, position (2, 0, 0), velocity
--- (0, 4, 0), h 1000, DUT 0 .. and the book 08 00 00 00 00 00 00 00"
+-- document 01's own example, which contradicts each of them: "Earth 8, others 0, moment 0, position (2, 0, 0), velocity (0, 4, 0), h 1000,
+-- DUT 0 .. and the book 08 00 00 00 00 00 00 00"
 abbrev pub exampleBook : List ℕ
 exampleBook = 8 ∷ 0 ∷ 0 ∷ 0 ∷ 0 ∷ 0 ∷ 0 ∷ 0 ∷ []
 

@@ -1,1 +1,1 @@
-// Nothing to run: this crate holds demand 3 and the laws around it, over the definitions and the laws of the crates below.
+// No code: this crate has demand 3 and the laws around it, about the definitions of the crates below.

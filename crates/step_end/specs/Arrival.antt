@@ -10,12 +10,12 @@ use Rattle.gravity_stored.specs.declared.InjectionAnswer.{InjectionAnswer}
 use Rattle.gravity_stored.specs.declared.InjectionAnswer.the-variants as injection
 use Rattle.step_sums.specs.Slopes.{stepH, along, weighed, half, sixth}
 
--- what a step gives: the state one step on, or the number by which it is refused
+-- the result of a step: the new state, or the number of its refusal
 pub data Moved : Type 0 where
   On : State → Moved
   Off : ℕ → Moved
 
--- "A new component that is not finite gives 7"; `ends` is what becomes of the position and velocity one step on
+-- "A new component that is not finite gives 7"; `ends` computes the result from the new position and velocity
 abbrev pub arrive : (Injection → Moved) → ℕ → ℕ → Vector → Vector → Moved
 arrive ends t centre p v = if finiteVector p && finiteVector v then ends (injectionAt t centre p v) else Off 7
 

@@ -5,7 +5,7 @@ pub mod inner;
 use gravity::Guesses;
 use state::State;
 
-// A step done, with the entries in which the bodies were found at its end, or the number by which it is refused.
+// A step done, with the entries of the bodies at its end, or the number of its refusal.
 pub enum Stepped {
     On(State, Guesses),
     Off(u64),

@@ -1,4 +1,4 @@
--- Document 01, "The step and the run": the length of a step, a point along a slope, and the slopes of the four stages weighed.
+-- Document 01, "The step and the run": the length of a step, a point along a slope, and the weighted slopes of the four stages.
 use Prim.Native.Nat.{ℕ}
 use lib.Ieee.{Float}
 use Rattle.base.specs.Floats.{_⊕_, _⊗_, _⊘_, whole, decimal}

@@ -1,4 +1,4 @@
-// The sums of a step: its length in seconds, a point along a slope, and the slopes of four stages weighed.
+// The sums of a step: its length in seconds, a point along a slope, and the weighted slopes of four stages.
 
 use state::Vector;
 ghost use mathlib.Core.Path.{_≡_};

@@ -1,4 +1,4 @@
--- `orbitcheck::refusal_of` meets its contract: the tests stand in the order of the definition. Assumes nothing.
+-- `conic_checks::refusal_of` meets its contract: the tests are in the order of the definition. Assumes nothing.
 use mathlib.Core.Path.{_≡_, refl}
 use Prim.Native.Nat.{ℕ}
 use Rattle.conic_checks.specs.Refusal.{refusal, _before_}

@@ -1,4 +1,4 @@
--- `orbit::orbit_of` meets its contract: each figure is its formula of the figures before it. Assumes nothing.
+-- `conic_formulas::orbit_of` meets its contract: each figure is the formula applied to the figures before it. Assumes nothing.
 use lib.Ieee.{ofBits, ofInt}
 use Rattle.conic_formulas.specs.Orbit.{orbit}
 use Rattle.conic_formulas.proofs.orbit_of.Statement.{statement}
