@@ -1,4 +1,5 @@
-// Two listings read side by side, a block of each: what is reported of their states, in portions that fit a lent buffer.
+// Two listings read side by side, a block of each: the report on their states, in portions that fit a caller's
+// buffer.
 
 pub mod inner;
 
@@ -8,8 +9,8 @@ use listing_read::last_row;
 ghost use mathlib.Core.Path.{_≡_};
 ghost use Rattle.compare_blocks.specs.Sides.{opened, onward, goingOn};
 
-// Where the reading of a listing stands: the next state, if it is known; how far its line is read; the place in its block; and
-// whether the text is over: then no state comes behind the next.
+// The stage of reading a listing: the next state, if it is known; how far its line is read; the place in its block.
+// Also whether the text is over: then no state follows the next.
 pub struct Reading {
     pub found: Found,
     pub scan: Scan,
@@ -17,14 +18,14 @@ pub struct Reading {
     pub over: bool,
 }
 
-// What the report waits for: more of the first listing, or of the second; or it is over. Where it is none of these, it goes on.
+// What the report waits for: more of the first listing, or of the second; or it is over. Otherwise it continues.
 pub struct Halt {
     pub first: bool,
     pub second: bool,
     pub over: bool,
 }
 
-// The bytes written, where both readings stand behind them, and why no more is written.
+// The bytes written, both readings after them, and why no more is written.
 pub struct Portion {
     pub first: Reading,
     pub second: Reading,
@@ -44,7 +45,7 @@ pub fn opening() -> Reading
     }
 }
 
-// A reading that waits, before its next block, of so many bytes: none are the end of the text.
+// A reading that waits, before its next block, of that many bytes. 0 means the end of the text.
 fn next_block(r: Reading, n: usize) -> Reading
     ensures { λ s. ⌜ s ≡ onward r n ⌝ }
 {

@@ -1,1 +1,2 @@
-// Nothing to run: this crate holds the laws of the report on two listings, over the definitions of listing, reader, parting and sides.
+// No code: this crate has the laws of the report on two listings, about the definitions of `listing_write`,
+// `listing_read` and `compare_report`.

@@ -12,7 +12,7 @@ use Rattle.listing_read.specs.Form.{foundRows}
 use Rattle.compare_report.specs.declared.Side.{Side}
 use Rattle.compare_report.specs.Report.{Difference, only, atOne, textOf}
 
--- a text is written that takes no more than some room
+-- a text is written that is not longer than some limit
 pub record Put (before : List ℕ) (at : ℕ) (text after : List ℕ) (r room : ℕ) : Type 0 where
   pub wrote : Wrote before at text after r
   pub short : r ≤ at + room
@@ -20,7 +20,7 @@ pub record Put (before : List ℕ) (at : ℕ) (text after : List ℕ) (r room : 
 abbrev pub onlyText : ℕ → ℕ → List ℕ
 onlyText listing moment = textOf (only listing moment ∷ [])
 
--- whose state is the next in moment order: the first listing's, the second's, both, or neither's where none is left
+-- which listing has the next state in moment order: the first, the second, both, or neither if none is left
 abbrev pub takes : Bool → Bool → Side
 takes first second = record { first = first; second = second }
 
@@ -32,7 +32,7 @@ sideOf (Is r) (Is s) =
     if r .moment <? s .moment then takes true false else
     if s .moment <? r .moment then takes false true else takes true true
 
--- what is reported of it
+-- what the report says about it
 abbrev pub differencesAt : Found → Found → List Difference
 differencesAt None None = []
 differencesAt (Is r) None = only 1 (r .moment) ∷ []
@@ -41,11 +41,11 @@ differencesAt (Is r) (Is s) =
     if r .moment <? s .moment then only 1 (r .moment) ∷ [] else
     if s .moment <? r .moment then only 2 (s .moment) ∷ [] else atOne r s
 
--- the rows of a side after it was taken or not
+-- the rows of a listing after its state was taken or not
 abbrev pub left : Bool → Found → List Row → List Row
 left true f rest = rest
 left false f rest = foundRows f ++ rest
 
--- a side without a state has none behind it either
+-- a listing without a next state has none after it either
 abbrev pub Ended : Found → List Row → Type 0
 Ended f rest = f ≡ None → rest ≡ []

@@ -4,7 +4,7 @@ ghost use mathlib.Core.Path.{_≡_};
 ghost use lib.ListN.{length};
 ghost use Rattle.compare_report.specs.Report.{untilFeed, same};
 
-// How many bytes stand before the first line feed, or at all.
+// How many bytes come before the first line feed; all bytes if there is none.
 pub fn line_length(block: &[u8]) -> usize
     ensures { λ r. ⌜ r ≡ length (untilFeed (now (block .entry))) ⌝ }
 {

@@ -1,4 +1,4 @@
-// Float steps: how many floats lie from one to another.
+// Float steps: the distance between two floats, counted in floats.
 
 ghost use mathlib.Core.Path.{_≡_};
 ghost use Rattle.compare_steps.specs.Steps.{place, steps};
@@ -12,7 +12,7 @@ fn place_of(bits: u64) -> u64
     0xffff_ffff_ffff_ffff - bits
 }
 
-// The float steps from the float of some bits to that of others.
+// The float steps from the float of one bit pattern to that of another.
 pub fn steps_between(a: u64, b: u64) -> u64
     ensures { λ r. ⌜ r ≡ steps a b ⌝ }
 {

@@ -41,7 +41,7 @@ foundRows (Is r) = r ∷ []
 abbrev pub later : ℕ → ℕ → Place
 later t moment = if t <? moment then After moment else Off
 
--- at the top stands a header or a lone refusal
+-- the first line is a header or a lone refusal
 abbrev pub afterTop : Line → Place
 afterTop line.Header = First
 afterTop line.Lone = Done
@@ -49,7 +49,7 @@ afterTop (line.State r) = Off
 afterTop line.Outcome = Off
 afterTop line.Bad = Off
 
--- behind the header a state
+-- after the header: a state
 abbrev pub headed : Found → Place
 headed (Is r) = After (r .moment)
 headed None = Off
@@ -57,7 +57,7 @@ headed None = Off
 abbrev pub afterHeader : Line → Place
 afterHeader l = headed (rowOf l)
 
--- behind a state one of a later moment, or the outcome
+-- after a state: one of a later moment, or the outcome
 abbrev pub afterState : ℕ → Line → Place
 afterState t (line.State r) = later t (r .moment)
 afterState t line.Outcome = Done
@@ -65,7 +65,7 @@ afterState t line.Header = Off
 afterState t line.Lone = Off
 afterState t line.Bad = Off
 
--- where the reading stands after one line more; behind the outcome no line is of the form
+-- the stage of the reading after one more line; after the outcome no line is of the form
 abbrev pub placed : Place → Line → Place
 placed Top l = afterTop l
 placed First l = afterHeader l
@@ -80,7 +80,7 @@ isOff First = false
 isOff (After t) = false
 isOff Done = false
 
--- at the end of the text: behind the outcome all is there, else line n is missing
+-- at the end of the text: after the outcome nothing is missing, otherwise line n is
 abbrev pub missing : Place → ℕ → ℕ
 missing Done n = 0
 missing Top n = n
@@ -88,7 +88,7 @@ missing First n = n
 missing (After t) n = n
 missing Off n = n
 
--- the number of the line that is not of the form, the reading standing at a place before line n; 0 where all are of the form
+-- the number of the first line that is not of the form, if line n is next at a stage of the reading; 0 if all are of the form
 unfoldable pub refusedFrom : Place → ℕ → List Line → ℕ
 refusedFrom p n [] = missing p n
 refusedFrom p n (l ∷ ls) = if isOff (placed p l) then n else refusedFrom (placed p l) (n + 1) ls

@@ -50,7 +50,7 @@ fn refused_letter(i: usize) -> u8
     0
 }
 
-// 0 behind the last letter.
+// 0 after the last letter.
 pub fn letter(w: Word, i: usize) -> u8
     ensures { λ r. ⌜ r ≡ getD (lettersOf w) i 0 ⌝ }
 {
@@ -71,7 +71,7 @@ pub fn is_decimal(b: u8) -> bool
     b <= 57
 }
 
-// 16 for a byte that is no digit.
+// 16 for a byte that is not a digit.
 pub fn hex_value(b: u8) -> u64
     ensures { λ r. ⌜ r ≡ hexValue b ⌝ }
 {

@@ -1,4 +1,4 @@
--- How the listing of a run is written in portions: what is still to be written at a place of the run.
+-- How the listing of a run is written in portions: the text that is still to be written at a place of the run.
 use Prim.Native.Nat.{ℕ, zero, suc, _+_, _*_, _<_, _≤_}
 use mathlib.Core.Bool.{true}
 use mathlib.Core.List.{List, _++_}
@@ -40,11 +40,11 @@ pub record OnCourse (b : List ℕ) (setting : Setting) (h : ℕ) (c : Course) : 
   pub inside : c .state .moment + c .left * h < endOfTime
   pub counts : c .done + c .left < endOfTime
 
--- a line of a state is never longer
+-- no line of a state is longer
 abbrev pub longestLine : ℕ
 longestLine = 123
 
--- a portion from the place c on: the lines that stand in out afterwards, where it ended, and that the rest of out is as it was before
+-- a portion from the place c on: the lines written to out, where the portion ended, and that the rest of out is unchanged
 pub record Advanced (b : List ℕ) (setting : Setting) (h : ℕ) (c : Course) (before out : List ℕ) (p : Portion) : Type 0 where
   pub text : courseText (step b setting h) (c .left) (c .done) (c .state) ≡ take (p .written) out ++ remains (step b setting h) (p .course) (p .outcome)
   pub within : p .written ≤ length out
@@ -56,7 +56,7 @@ abbrev pub portionOf : Outcome → State → Guesses → ℕ → ℕ → ℕ →
 portionOf outcome s entries left done written =
     record { outcome = outcome; course = record { state = s; entries = entries; left = left; done = done }; written = written }
 
--- where a run of steps of h starts: nothing is known yet of where the bodies are found
+-- the start of a run with steps of h: no guesses are known yet
 abbrev pub startOf : State → ℕ → ℕ → Course
 startOf s h target =
     record { state = s; entries = record { moon = 0; sun = 0; venus = 0; mars = 0; jupiter = 0 }; left = stepsTo s h target; done = 0 }

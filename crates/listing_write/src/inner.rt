@@ -16,7 +16,7 @@ ghost use Prim.Native.Nat.{_≤_};
 ghost use Rattle.run_checks.specs.Start.{withinSteps};
 ghost use Rattle.listing_write.specs.Course.{OnCourse, Advanced, startOf, portionOf};
 
-// The place from which a run of steps of h starts.
+// The start of a run with steps of h.
 pub fn start(state: State, h: u32, target: u64) -> Course
     requires { ⌜ (2 ≤ h) × (withinSteps (state .moment) h target ≡ true) ⌝ }
     ensures { λ r. ⌜ r ≡ startOf state h target ⌝ }
@@ -75,7 +75,7 @@ pub fn portion(book: &[u8], setting: Setting, h: u32, from: Course, out: &mut [u
         if left == 0 {
             return portion_of(Outcome::Arrived, now, entries, left, done, at);
         }
-        // where each body was found last is where to look for it first
+        // the last entry of each body is the first guess for the next step
         let stepped = step_under(book, setting, now, h, entries, calm);
         match stepped {
             Stepped::On(next, seen) => {

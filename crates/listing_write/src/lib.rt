@@ -7,7 +7,7 @@ use gravity::Guesses;
 use run::Outcome;
 use state::State;
 
-// A place of a run: the state, the entries in which to look for the bodies first, the steps left to the target and the steps done.
+// A place of a run: the state, the guesses, the steps left to the target and the steps done.
 pub struct Course {
     pub state: State,
     pub entries: Guesses,
@@ -15,7 +15,7 @@ pub struct Course {
     pub done: u64,
 }
 
-// What a portion came to, where it ended, and how many bytes it wrote.
+// The outcome of a portion, where it ended, and how many bytes it wrote.
 pub struct Portion {
     pub outcome: Outcome,
     pub course: Course,

@@ -1,5 +1,5 @@
-// The lines of a listing, each written at a place of a lent buffer; the answer is the place after it. These are inner
-// functions: the caller knows that the room is there.
+// The lines of a listing. Each function writes at a place of a caller's buffer and returns the place after it. They
+// are inner functions: the caller knows that there is room.
 
 use run::Outcome;
 use state::State;

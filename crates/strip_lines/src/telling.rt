@@ -1,4 +1,4 @@
-// What each of the two programs tells on standard error, by its own name.
+// The messages of the two programs on standard error, each with its own name.
 
 use libc::STDERR_FILENO;
 use strip_order::Form;

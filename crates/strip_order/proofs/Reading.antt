@@ -1,4 +1,4 @@
--- What an order that was read says of the input. Assumes nothing.
+-- What follows for the input if an order was read. Assumes nothing.
 use Prim.Native.Nat.{ℕ, _≤_}
 use mathlib.Core.Bool.{Bool, true, false}
 use mathlib.Core.List.{List}

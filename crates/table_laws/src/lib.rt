@@ -1,1 +1,2 @@
-// Nothing to run: this crate holds the laws of a table, over the definitions of reader, rows and tabling.
+// No code: this crate has the laws of a table, about the definitions of `listing_read`, `table_rows` and
+// `table_blocks`.

@@ -7,12 +7,12 @@ use Rattle.base.specs.Choice.{if_then_else_, _<?_}
 abbrev pub apart : ℕ → ℕ → ℕ
 apart a b = (a - b) + (b - a)
 
--- q is the whole number nearest to the fraction n / d: twice its distance, in parts of d, is at most d, and at a tie q is even
+-- q is the whole number nearest to the fraction n / d. Twice the distance, in parts of d, is at most d, and at a tie q is even.
 pub record Nearest (n d q : ℕ) : Type 0 where
   pub near : 2 * apart n (q * d) ≤ d
   pub tie : 2 * apart n (q * d) ≡ d → q % 2 ≡ 0
 
--- the whole number nearest to n / d: the quotient, or the next one up, by how twice the remainder compares with d
+-- the whole number nearest to n / d: the quotient or the next one up. Twice the remainder is compared with d.
 abbrev pub nearestTo : ℕ → ℕ → ℕ
 nearestTo n d =
     if 2 * (n % d) <? d then n / d else

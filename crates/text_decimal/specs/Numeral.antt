@@ -1,5 +1,5 @@
 -- Document 02, R-13: a float "in decimal with three and six places, each the exact float rounded to nearest, a tie to the even last digit;
--- zero after rounding has no sign". A float `fin s m e` is m·2^e, negative where s is true, and 2^e is `up e / down e`.
+-- zero after rounding has no sign". A float `fin s m e` is m·2^e, negative if s is true, and 2^e is `up e / down e`.
 use Prim.Native.Nat.{ℕ, _+_, _*_, _/_, _^_}
 use mathlib.Core.Bool.{Bool, true, false, _&&_}
 use mathlib.Core.List.{List, [], _∷_, _++_}
@@ -19,13 +19,13 @@ count Six = 6
 abbrev pub unitOf : Places → ℕ
 unitOf places = 10 ^ count places
 
--- the size of a float in units of the last place, `unit` of which are one, rounded to nearest
+-- the size of a float in units of the last place, rounded to nearest; `unit` of them make 1
 unfoldable pub unitsIn : ℕ → Float → ℕ
 unitsIn unit nan = 0
 unitsIn unit (inf s) = 0
 unitsIn unit (fin s m e) = nearestTo (m * up e * unit) (down e)
 
--- q units are the size of a finite float, rounded to nearest: one q alone
+-- q units are the size of a finite float, rounded to nearest; there is only one such q
 abbrev pub Rounded : ℕ → Float → ℕ → Type 0
 Rounded unit nan q = ⊥
 Rounded unit (inf s) q = ⊥
@@ -40,7 +40,7 @@ isNegative (fin s m e) = s
 unfoldable pub signOf : Bool → ℕ → List ℕ
 signOf negative q = if negative && (0 <? q) then 45 ∷ [] else []
 
--- the numeral of q units, of which there are so many places behind the point
+-- the numeral of q units, with that many places after the point
 unfoldable pub unitsText : Bool → Places → ℕ → List ℕ
 unitsText negative places q = signOf negative q ++ decimalOf (q / unitOf places) ++ (46 ∷ []) ++ digits 10 (count places) q
 

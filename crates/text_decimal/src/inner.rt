@@ -1,5 +1,5 @@
-// Numerals for a buffer with room for them, of floats below 10^12 in size. The writers put a text at a place of the buffer and
-// answer the place after it.
+// Numerals of floats below 10^12 in size, for a buffer with room for them. The writers put a text at a place of the
+// buffer and return the place after it.
 
 use crate::Places;
 use text_write::inner::put_bytes;
@@ -18,8 +18,8 @@ ghost use Rattle.text_decimal.specs.Numeral.{count, unitOf, unitsIn, sig
 // 2^52, the leading digit of a float's 53.
 const LEADING: u64 = 0x10_0000_0000_0000;
 
-// m·unit / 2^(13 + shift) rounded to nearest. m·unit is high·2^12 and the last 12 digits of low; h is that by 2^(12 + shift), so
-// that its last digit is the half.
+// m·unit / 2^(13 + shift) rounded to nearest. m·unit is high·2^12 plus the last 12 binary digits of low. h is that
+// divided by 2^(12 + shift), so its last digit is the half.
 fn scaled(m: u64, shift: u64, unit: u64) -> u64
     requires { ⌜ (m < 2 ^ 53) × (shift < 64) × (unit ≤ 1_000_000) ⌝ }
     ensures { λ r. ⌜ Nearest (m * unit) (2 ^ 13 * 2 ^ shift) r ⌝ }
@@ -40,8 +40,8 @@ fn scaled(m: u64, shift: u64, unit: u64) -> u64
     q + q % 2
 }
 
-// The size of the float of some bits, in units of which `unit` are one, rounded to nearest. A float of a field below 999 is less
-// than 2^-76, and so less than half a unit.
+// The size of a float, given by its bits, rounded to nearest, in units; `unit` of them make 1. If its exponent field
+// is below 999, a float is less than 2^-76, so less than half a unit.
 pub fn units(bits: u64, unit: u64) -> u64
     requires { ⌜ (isLarge (ofBits binary64 bits) ≡ false) × (unit ≤ 1_000_000) ⌝ }
     ensures { λ r. ⌜ r ≡ unitsIn unit (ofBits binary64 bits) ⌝ }
@@ -109,7 +109,7 @@ fn put_sign(out: &mut [u8], at: usize, bits: u64, q: u64) -> usize
     at + 1
 }
 
-// The numeral of the float of some bits: 21 bytes at most.
+// The numeral of a float, given by its bits: 21 bytes at most.
 pub fn put_numeral(out: &mut [u8], at: usize, bits: u64, places: Places) -> usize
     requires { ⌜ isLarge (ofBits binary64 bits) ≡ false ⌝ }
     requires { ⌜ at + 21 ≤ length (now out) ⌝ }

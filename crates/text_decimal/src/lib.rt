@@ -6,16 +6,16 @@ ghost use mathlib.Core.Path.{_≡_};
 ghost use lib.Ieee.{binary64, ofBits};
 ghost use Rattle.text_decimal.specs.Numeral.{isLarge};
 
-// How many places stand behind the point.
+// How many places follow the point.
 pub enum Places {
     Three,
     Six,
 }
 
-// The bits of 10^12. Without its sign a float's bits are in the order of sizes.
+// The bits of 10^12. Without the sign, the bits of floats are in the order of their sizes.
 const LIMIT: u64 = 0x426d_1a94_a200_0000;
 
-// Whether the float of some bits has "a magnitude of 10^12 or more"; an infinity and a NaN too have no numeral.
+// Whether the float with these bits has "a magnitude of 10^12 or more". An infinity and a NaN have no numeral either.
 pub fn is_large(bits: u64) -> bool
     ensures { λ r. ⌜ r ≡ isLarge (ofBits binary64 bits) ⌝ }
 {

@@ -1,4 +1,4 @@
--- The pattern of 64 bits that a float is held in.
+-- The 64 bits of a float.
 use lib.Ieee.{Float, nan, inf, fin, binary64, toBits}
 use Rattle.text_read.specs.declared.Bits.{Bits}
 use Rattle.text_read.specs.declared.Bits.the-variants.{Pattern, NaN}

@@ -12,7 +12,7 @@ pub enum Field {
     Bad,
 }
 
-// A float's bits. Which bits a NaN has is not told.
+// The bits of a float. For a NaN the contract does not say which bits.
 pub enum Bits {
     Pattern(u64),
     NaN,
@@ -27,7 +27,7 @@ pub fn bits_of(x: f64) -> Bits
     Bits::NaN
 }
 
-// Every NaN's pattern gives a NaN.
+// The bits of every NaN give a NaN.
 pub fn float_of_bits(bits: u64) -> f64
     ensures { λ r. ⌜ r ≡ ofBits binary64 bits ⌝ }
 {

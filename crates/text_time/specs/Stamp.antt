@@ -23,10 +23,10 @@ point = 46 ∷ []
 unfoldable pub dateText : Calendar → List ℕ
 dateText date = digits 10 4 (date .year) ++ dash ++ digits 10 2 (date .month) ++ dash ++ digits 10 2 (date .day)
 
--- 00:00:00.000, of the milliseconds of a day
+-- 00:00:00.000, from the milliseconds of a day
 unfoldable pub timeText : ℕ → List ℕ
 timeText t = digits 10 2 (t / 3_600_000) ++ colon ++ digits 10 2 (t / 60_000 % 60) ++ colon ++ digits 10 2 (t / 1_000 % 60) ++ point ++ digits 10 3 (t % 1_000)
 
--- the moment's day and its time of day
+-- the day of the moment and its time of day
 unfoldable pub stampText : ℕ → List ℕ
 stampText moment = dateText (dateOf (moment / dayLength)) ++ tee ++ timeText (moment % dayLength)

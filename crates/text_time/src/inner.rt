@@ -1,4 +1,5 @@
-// Stamps for a buffer with room for them. The writers put a text at a place of the buffer and answer the place after it.
+// Stamps for a buffer with room for them. The writers put a text at a place of the buffer and return the place after
+// it.
 
 use calendar::Calendar;
 use calendar::DateAnswer;

@@ -30,7 +30,8 @@ pub byte : (out : List ℕ) (r b : ℕ) → r < length out → Wrote out r (b �
 byte out r b h = record { next = refl; bytes = rw add-one (take-suc-set out r b h); rest = drop-set-lt (r + 1) out r b (omega arith) }
 
 -- the next byte of a word
-pub next-byte : (out₀ out word : List ℕ) (at i : ℕ) → Wrote out₀ at (take i word) out (at + i) → i < length word → at + i < length out → Wrote out₀ at (take (i + 1) word) (set out (at + i) (getD word i 0)) (at + (i + 1))
+pub next-byte : (out₀ out word : List ℕ) (at i : ℕ) → Wrote out₀ at (take i word) out (at + i) → i < length word → at + i < length out
+    → Wrote out₀ at (take (i + 1) word) (set out (at + i) (getD word i 0)) (at + (i + 1))
 next-byte out₀ out word at i w h g = rw (add-one i, take-suc word i 0 h, ← add-one i, ← add-assoc at i 1) (both w (byte out (at + i) (getD word i 0) g))
 
 -- what was written lies inside the buffer

@@ -20,7 +20,7 @@ digits base (suc k) n = digits base k (n / base) ++ (glyph (n % base) ∷ [])
 abbrev pub hex16 : ℕ → List ℕ
 hex16 bits = digits 16 16 bits
 
--- n without a zero in front, 0 itself as one digit; n divisions by ten are enough to come below ten
+-- n without a leading zero, 0 itself as one digit; n divisions by ten are enough to get below ten
 unfoldable pub shortest : ℕ → ℕ → List ℕ
 shortest zero n = glyph n ∷ []
 shortest (suc divisions) n = if n <? 10 then glyph n ∷ [] else shortest divisions (n / 10) ++ (glyph (n % 10) ∷ [])

@@ -1,7 +1,7 @@
-// Numbers as text, written into a lent buffer.
+// Numbers as text, written into a caller's buffer.
 //
-// The writers put a text at a place of the buffer and answer the place after it. They are inner functions: the caller
-// knows that the room is there.
+// The writers put a text at a place of the buffer and return the place after it. They are inner functions: the caller
+// knows that there is room.
 
 use text_read::Bits;
 use text_read::bits_of;
@@ -23,7 +23,7 @@ pub fn put_bytes(out: &mut [u8], at: usize, word: &[u8]) -> usize
     at + i
 }
 
-// A letter stands 39 places further on than a digit would. Without a branch, so that many digits are worked out side by side.
+// A letter is 39 higher than a digit would be. There is no branch, so that many digits are computed side by side.
 fn digit_byte(d: u64) -> u8
     requires { ⌜ d < 16 ⌝ }
     ensures { λ r. ⌜ r ≡ glyph d ⌝ }
@@ -31,7 +31,7 @@ fn digit_byte(d: u64) -> u8
     (48 + d + (d + 6) / 16 * 39) as u8
 }
 
-// The last two digits of n in a base. Four and eight are twice as many, the higher half first.
+// The last two digits of n in a base. Functions for four and eight call it twice, the higher half first.
 fn put_two(out: &mut [u8], at: usize, base: u64, n: u64) -> usize
     requires { ⌜ (1 ≤ base) × (base ≤ 16) × (at + 2 ≤ length (now out)) ⌝ }
     ensures { λ r. ⌜ Wrote (now (out .entry)) at (digits base 2 n) (now (out .exit)) r ⌝ }
@@ -85,7 +85,7 @@ fn put_first(out: &mut [u8], at: usize, n: u64) -> usize
     put_four(out, at, 10, n)
 }
 
-// Four digits at a time behind those of n / 10,000.
+// Writes four digits at a time after those of n / 10,000.
 pub fn put_decimal(out: &mut [u8], at: usize, n: u64) -> usize
     requires { ⌜ at + length (decimalOf n) ≤ length (now out) ⌝ }
     ensures { λ r. ⌜ Wrote (now (out .entry)) at (decimalOf n) (now (out .exit)) r ⌝ }

@@ -1,4 +1,4 @@
-// Numbers as text: writing them into a lent buffer (`known`), and reading them from bytes.
+// Numbers as text: writing them into a caller's buffer (`inner`), and reading them from bytes.
 
 pub mod inner;
 

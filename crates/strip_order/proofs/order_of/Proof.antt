@@ -20,7 +20,8 @@ u64-at-requires : tie.Need-u64-at-requires
 u64-at-requires c κs = let all = plain-there (c .before .before .before .before .before .args .form) _ (c .before .before .before .before .before .pre) in omega arith
 
 returns : tie.Need-returns
-returns c = rw (c .before .before .before .setting-of .ensures, c .before .before .before .before .terms-of .ensures, c .before .before .injection-of .ensures, c .before .u32-at .ensures, c .u64-at .ensures)
+returns c =
+    rw (c .before .before .before .setting-of .ensures, c .before .before .before .before .terms-of .ensures, c .before .before .injection-of .ensures, c .before .u32-at .ensures, c .u64-at .ensures)
 
 pub order-of-spec : {M : Type 1} → statement M
 order-of-spec =
