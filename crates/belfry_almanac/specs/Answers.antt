@@ -1,4 +1,4 @@
--- What an exported call returns, and what it leaves in the memory that it was lent, for each answer of the call below it.
+-- What an exported call returns and writes to the caller's memory, for each answer of the call below it.
 use Prim.Native.Nat.{ℕ}
 use mathlib.Core.List.{List}
 use lib.Ieee.{Float}

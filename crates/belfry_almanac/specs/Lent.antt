@@ -1,4 +1,4 @@
--- How groups of numbers are written to lent memory.
+-- How groups of numbers are written to the caller's memory.
 use Prim.Native.Nat.{ℕ}
 use mathlib.Core.List.{List, [], _∷_}
 use lib.Ieee.{Float}

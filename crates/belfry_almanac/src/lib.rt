@@ -1,6 +1,6 @@
-// The calls of document 01 that take no state, for C and Rust, over numbers and memory that the caller lends: calendar, hour angle,
-// root, sine and cosine, the check of a book and where a body stands. Each returns 0 where it is accepted, else the number of the
-// refusal.
+// The calls of document 01 that take no state, for C and Rust: calendar, hour angle, root, sine and cosine, the check
+// of a book and the position of a body. They take numbers and the caller's memory. Each returns 0 if the input is
+// accepted, else the refusal number.
 
 use book::PositionAnswer;
 use calendar::Calendar;

@@ -1,1 +1,1 @@
-// Nothing to run: this crate holds what the calls for C and Rust hand back, as one value for each.
+// No code: this crate defines the result of each call for C and Rust as one value.

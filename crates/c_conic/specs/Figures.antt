@@ -1,4 +1,4 @@
--- How a conic lies in lent memory, and what the call about it leaves there.
+-- The layout of a conic in the caller's memory, and what its call writes there.
 use Prim.Native.Nat.{ℕ}
 use mathlib.Core.List.{List, [], _∷_}
 use lib.Ieee.{Float}
@@ -8,7 +8,7 @@ use Rattle.conic.specs.declared.CentredConic.{CentredConic}
 use Rattle.conic.specs.declared.ConicAnswer.{ConicAnswer}
 use Rattle.c_answer.specs.Handed.{Answer, Accepted, Refused}
 
--- written: a conic's kind, 1 for an ellipse and 2 for a hyperbola, behind the number of its centre
+-- written: the number of the centre of a conic, then its kind, 1 for an ellipse and 2 for a hyperbola
 abbrev pub kindOf : Conic → ℕ
 kindOf (Ellipse a e p q far) = 1
 kindOf (Hyperbola a e p q v) = 2

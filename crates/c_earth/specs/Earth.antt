@@ -1,5 +1,5 @@
--- How an injection as launch crews speak it and Earth-fixed coordinates lie in lent memory, and what such a call leaves there. Every array
--- has the length that its type says, so that nan and 0 never come in where an element is read.
+-- The layout of an injection as launch crews speak it and of Earth-fixed coordinates in the caller's memory, and what such a call writes
+-- there. Every array has the length that its type says, so reading an element never gives the defaults nan and 0.
 use Prim.Native.Nat.{ℕ}
 use mathlib.Core.List.{List, [], _∷_}
 use lib.ListN.{getD}

@@ -1,4 +1,4 @@
--- What a call for the acceleration or an injection returns, and what it leaves in the memory that it was lent.
+-- What a call for the acceleration or an injection returns and writes to the caller's memory.
 use mathlib.Core.List.{List}
 use lib.Ieee.{Float}
 use Rattle.gravity.specs.declared.AccelerationAnswer.{AccelerationAnswer}
@@ -10,7 +10,7 @@ abbrev pub ofAcceleration : AccelerationAnswer → Answer (List Float)
 ofAcceleration (AccelerationAnswer.Is a) = Accepted (vectorIn a)
 ofAcceleration (AccelerationAnswer.Refused k) = Refused k
 
--- an injection leaves the moment as it was, and its centre was given
+-- an injection does not change the moment, and its centre was given
 abbrev pub ofInjection : InjectionAnswer → Answer (List Float)
 ofInjection (InjectionAnswer.Injected s) = Accepted (wholeIn s)
 ofInjection (InjectionAnswer.Refused k) = Refused k

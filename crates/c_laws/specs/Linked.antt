@@ -8,7 +8,7 @@ use Rattle.run_laws.specs.Journey.{Call}
 use Rattle.c_run.specs.Lent.{settingOf, noExtras, injectionOf, stateOf, guessesOf}
 use Rattle.c_run.specs.Answers.{RunMemory, ofRun, ofFlight}
 
--- one call, with its guesses as they lie in memory
+-- one call, with its guesses as in memory
 pub record LinkedCall : Type 0 where
   pub budget : ℕ
   pub guesses : List ℕ
@@ -16,7 +16,7 @@ pub record LinkedCall : Type 0 where
 abbrev pub asCall : LinkedCall → Call
 asCall call = record { budget = call .budget; guesses = guessesOf (call .guesses) }
 
--- what each call leaves, under the coefficients m, the extras (J, A, K), DUT and the rule, about a centre: a run stays about it
+-- the result of each call, under the coefficients m, the extras (J, A, K), DUT and the rule, about a centre; a run keeps its centre
 abbrev pub linkedJourney : List ℕ → List Float → List Float → ℕ → ℕ → ℕ → ℕ → ℕ → ℕ → List Float → List LinkedCall → List RunMemory
 linkedJourney b m extras dut rule centre h target moment coordinates [] = []
 linkedJourney b m extras dut rule centre h target moment coordinates (call ∷ calls) =

@@ -1,4 +1,4 @@
--- (02, R-14) A pane in memory that is fed by flights through the calls for C and Rust.
+-- (02, R-14) A pane in memory, fed with flights through the calls for C and Rust.
 use mathlib.Core.List.{List, [], _∷_}
 use mathlib.Core.Bool.{Bool, _||_}
 use Prim.Native.Nat.{ℕ}
@@ -8,14 +8,14 @@ use Rattle.c_run.specs.Lent.{stateOf}
 use Rattle.c_run.specs.Answers.{RunMemory}
 use Rattle.belfry_pane.specs.Lent.{Kept, paneOf, flownTo, unchanged, left, late, empty}
 
--- the pane's memory after flights about a centre, one after the other: each is fed as it left its memory
+-- the memory of the pane after flights about a centre, one after the other: each flight's memory is fed
 abbrev pub fedIn : ℕ → Kept → List RunMemory → Kept
 fedIn centre kept [] = kept
 fedIn centre kept (m ∷ ms) =
     let flown = flownTo (m .returned) (stateOf (m .moment) centre (m .coordinates)) in
     fedIn centre (left kept (feed (paneOf (kept .numbers) (kept .places)) flown) .memory) ms
 
--- what a state that is offered returns: 0 where it is taken, 18 where it is refused; a run's answer also 101
+-- what the call returns for an offered state: 0 if it is taken, 18 if it is refused; for a run's answer also 101
 abbrev pub takenOr18 : ℕ → Bool
 takenOr18 k = k =? 0 || k =? 18
 

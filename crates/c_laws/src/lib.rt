@@ -1,1 +1,2 @@
-// Nothing to run: this crate holds the laws of the calls for C and Rust, over the definitions and promises of `almanaclink` and `link`.
+// No code: this crate has the laws of the calls for C and Rust, about the definitions and contracts of
+// `belfry_almanac` and `belfry_earth`.

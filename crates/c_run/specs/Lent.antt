@@ -1,5 +1,5 @@
--- How groups of numbers lie in lent memory. Every array has the length that its type says, so that 0 never comes in where an element is
--- read.
+-- The layout of groups of numbers in the caller's memory. Every array has the length that its type says, so reading an element never gives
+-- the default 0.
 use Prim.Native.Nat.{ℕ}
 use mathlib.Core.List.{List, [], _∷_}
 use lib.ListN.{getD}

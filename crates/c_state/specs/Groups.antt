@@ -1,5 +1,5 @@
--- How a setting, a vector, an injection and a state lie in lent memory. Every array has the length that its type says, so that nan never
--- comes in where an element is read.
+-- The layout of a setting, a vector, an injection and a state in the caller's memory. Every array has the length that its type says, so
+-- reading an element never gives the default nan.
 use Prim.Native.Nat.{ℕ}
 use mathlib.Core.List.{List, [], _∷_}
 use lib.ListN.{getD}
@@ -11,7 +11,7 @@ use Rattle.state.specs.declared.State.{State}
 use Rattle.state.specs.declared.Injection.{Injection}
 use Rattle.state.specs.declared.Setting.{Setting}
 
--- read: six coefficients "by body number from 1", (02, R-7) J, A and K, beside DUT and (02, R-9) the rule
+-- read: six coefficients "by body number from 1", (02, R-7) J, A and K, together with DUT and (02, R-9) the rule
 abbrev pub settingOf : List Float → List Float → ℕ → ℕ → Setting
 settingOf m extras dut rule =
     record {
@@ -28,14 +28,14 @@ settingOf m extras dut rule =
       rule = rule;
     }
 
--- J, A and K of a call that takes none
+-- J, A and K for a call that takes none
 abbrev pub noExtras : List Float
 noExtras = zero64 ∷ zero64 ∷ zero64 ∷ []
 
 abbrev pub vectorOf : List Float → Vector
 vectorOf v = record { x = getD v 0 nan; y = getD v 1 nan; z = getD v 2 nan }
 
--- read: the coordinates of an injection are its position and then its velocity, beside its moment and (02, R-6) its centre
+-- read: the coordinates of an injection are its position and then its velocity; its moment and (02, R-6) its centre are given separately
 abbrev pub injectionOf : ℕ → ℕ → List Float → Injection
 injectionOf moment centre c =
     record {
@@ -49,12 +49,12 @@ injectionOf moment centre c =
       vz = getD c 5 nan;
     }
 
--- read: (02, R-8) those of a state have its acceleration behind them
+-- read: (02, R-8) those of a state have its acceleration after them
 abbrev pub stateOf : ℕ → ℕ → List Float → State
 stateOf moment centre c =
     carrying (injectionOf moment centre c) (record { x = getD c 6 nan; y = getD c 7 nan; z = getD c 8 nan })
 
--- read: a call that does not read the acceleration is lent none, and zero stands for it
+-- read: for a call that does not read the acceleration, it is zero
 abbrev pub unkeptOf : ℕ → ℕ → List Float → State
 unkeptOf moment centre c = carrying (injectionOf moment centre c) nowhere
 
@@ -65,7 +65,7 @@ vectorIn v = v .x ∷ v .y ∷ v .z ∷ []
 abbrev pub startIn : Injection → List Float
 startIn i = i .x ∷ i .y ∷ i .z ∷ i .vx ∷ i .vy ∷ i .vz ∷ []
 
--- written: a state's coordinates for an old call, which has no place for the acceleration, and the whole of them
+-- written: the coordinates of a state for an old call, which has no place for the acceleration, and all of them
 abbrev pub coordinatesIn : State → List Float
 coordinatesIn s = s .x ∷ s .y ∷ s .z ∷ s .vx ∷ s .vy ∷ s .vz ∷ []
 

@@ -1,4 +1,4 @@
-// A setting, a vector, an injection and a state, from the numbers that a caller lends.
+// A setting, a vector, an injection and a state, from the caller's numbers.
 
 use state::Injection;
 use state::Setting;

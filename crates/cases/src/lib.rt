@@ -1,1 +1,1 @@
-// Nothing to run: this crate holds document 01's table of proved cases, over the definitions of the crates below.
+// No code: this crate has document 01's table of proved cases, about the definitions of the crates below.

@@ -1,5 +1,5 @@
-// Prints document 01's figures for the calendar, the hour angle, the root and sine and cosine, as the library works them out,
-// and beside each published square root of standard input the library's own.
+// Prints document 01's figures for the calendar, the hour angle, the root and sine and cosine, as the library
+// computes them. It reads published square roots from standard input, and prints the library's own next to each.
 
 use calendar::Calendar;
 use calendar::DateAnswer;
@@ -117,7 +117,7 @@ fn root_of(bits: u64) {
     }
 }
 
-// A line of two patterns: the argument, what the library makes of it, and what was published.
+// A line of bit patterns: the argument, the library's result, and the published one.
 fn published(line: &[u8]) {
     let Field::Value(x, at) = text_write::read_hex16(line, 0) else {
         return;

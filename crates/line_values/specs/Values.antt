@@ -1,5 +1,5 @@
--- The numbers of a call's fields as the values that the crates below take. There are always thirty of them, so that 0 never comes in where one
--- is read at a place below that.
+-- The numbers of a call's fields as the values that the crates below take. There are always thirty numbers, so reading one below that place
+-- never gives the default 0.
 use Prim.Native.Nat.{ℕ, _+_, _%_}
 use mathlib.Core.List.{List}
 use lib.ListN.{getD}
@@ -18,7 +18,7 @@ use Rattle.launch.specs.declared.Sphere.{Sphere}
 abbrev pub number : List ℕ → ℕ → ℕ
 number v i = getD v i 0
 
--- a float stands as its bits
+-- a float is kept as its bits
 abbrev pub nthFloat : List ℕ → ℕ → Float
 nthFloat v i = ofBits binary64 (number v i)
 
@@ -36,11 +36,11 @@ injectionFrom v moment centre i =
 abbrev pub stateFrom : List ℕ → ℕ → State
 stateFrom v i = carrying (injectionFrom v (number v i) (number v (i + 1)) (i + 2)) (vectorFrom v (i + 8))
 
--- a call that does not read the acceleration has none, about the Earth, and zero stands for it
+-- for a call that does not read the acceleration: about the Earth, with acceleration zero
 abbrev pub unkeptFrom : List ℕ → ℕ → ℕ → State
 unkeptFrom v moment i = carrying (injectionFrom v moment 1 i) nowhere
 
--- a number of 32 bits; the reader has seen that it has no more of them
+-- a number of 32 bits; the reader has checked its size
 abbrev pub narrow : ℕ → ℕ
 narrow number = number % 0x1_0000_0000
 
@@ -61,7 +61,7 @@ settingWith v j a k rule =
       rule = rule;
     }
 
--- an old line's setting is C1 .. C6 DUT: "J, A and K zero, rule 0"
+-- the setting of an old line is C1 .. C6 DUT: "J, A and K zero, rule 0"
 abbrev pub oldSetting : List ℕ → Setting
 oldSetting v = settingWith v zero64 zero64 zero64 0
 
