@@ -1,9 +1,10 @@
--- Bounds of floats go through one rounding: where the exact result of an operation is at most n / d in size, and n / d is itself a float, so is the rounded result.
--- One law for each operation. Assumes nothing.
+-- Bounds of floats go through one rounding. If the exact result of an operation is at most n / d in size, and n / d is itself a float, the
+-- rounded result is too. One law for each operation. Assumes nothing.
 use mathlib.Core.Path.{_≡_, refl, sym, ap, _∙_, subst}
 use mathlib.Core.Bool.{Bool, true, false, _&&_, _||_, Bool·beq, cond, true≢false}
 use Prim.Native.Nat.{ℕ, zero, suc, _+_, _-_, _*_, _^_, _≤_, _<_}
-use native.Mathlib.Nat.{le-trans, le-of-eq, le-of-mul-le-mul-right, add-le-add, zero-lt-suc, mul-comm, mul-assoc, mul-one, one-mul, mul-right-comm, mul-mul-mul-comm, mul-le-mul, mul-le-mul-right, mul-pos, add-mul}
+use native.Mathlib.Nat.{le-trans, le-of-eq, le-of-mul-le-mul-right, add-le-add, zero-lt-suc, mul-comm, mul-assoc, mul-one, one-mul, mul-right-comm}
+use native.Mathlib.Nat.{mul-mul-mul-comm, mul-le-mul, mul-le-mul-right, mul-pos, add-mul}
 use native.Mathlib.Omega.{arith}
 use lib.Dec.{T, ltb, eqb, ltb→lt, eqb→eq, lit≤}
 use lib.Pow.{pow-pos, pow-add, pow-lt, shl-lt}
@@ -124,7 +125,8 @@ round-within s a c n d C b h =
 chain : (num den b a n m : ℕ) → 0 < b → num * b ≤ a * den → a * m ≤ n * b → num * m ≤ n * den
 chain num den b a n m B h k =
     le-of-mul-le-mul-right
-    (le-trans (le-of-eq (mul-right-comm num m b)) (le-trans (mul-le-mul-right m h) (le-trans (le-of-eq (mul-right-comm a den m)) (le-trans (mul-le-mul-right den k) (le-of-eq (mul-right-comm n b den))))))
+    (le-trans (le-of-eq (mul-right-comm num m b))
+    (le-trans (mul-le-mul-right m h) (le-trans (le-of-eq (mul-right-comm a den m)) (le-trans (mul-le-mul-right den k) (le-of-eq (mul-right-comm n b den))))))
     B
 
 -- ±A / c and ±B / c: the sum, or the difference, is at most (A + B) / c
@@ -148,7 +150,7 @@ neg-within n d nan h = h
 neg-within n d (inf s) h = h
 neg-within n d (fin s m e) h = h
 
--- |x| ≤ a / b and |y| ≤ c / d: the product is at most (a·c) / (b·d), and what is held from there on bounds it rounded
+-- |x| ≤ a / b and |y| ≤ c / d: the product is at most (a·c) / (b·d), and a float above that bounds the rounded product
 pub mul-within : (a b c d n m : ℕ) (x y : Float) → Within a b x → Within c d y → Held n m → 0 < b → 0 < d → a * c * m ≤ n * (b * d)
     → Within n m (mul binary64 x y)
 unfolding mul

@@ -1,7 +1,7 @@
 // What every crate above shares: the limits of time, and the test for a finite float.
 
 ghost use mathlib.Core.Path.{_≡_};
-ghost use mathlib.Core.Bool.{not};
+ghost use mathlib.Core.Bool.{not, _&&_};
 ghost use lib.Ieee.Scale.{finite};
 ghost use Rattle.base.specs.Choice.{if_then_else_};
 
@@ -26,9 +26,16 @@ pub fn is_finite(x: f64) -> bool
     false
 }
 
-// A check before later ones: its number where it fails, else what they come to.
+// A check before later ones: its number if it fails, else the result of the later ones.
 pub fn unless(ok: bool, number: u64, later: u64) -> u64
     ensures { λ r. ⌜ r ≡ (if not ok then number else later) ⌝ }
 {
     if ok { later } else { number }
+}
+
+// Two tests that both have to hold.
+pub fn both(a: bool, b: bool) -> bool
+    ensures { λ r. ⌜ r ≡ (a && b) ⌝ }
+{
+    if a { b } else { false }
 }

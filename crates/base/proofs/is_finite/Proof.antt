@@ -1,7 +1,7 @@
 -- `base::is_finite` meets its contract: an infinity or a NaN fails one of the two tests against the infinities. Assumes nothing.
 use mathlib.Core.Bool.{true, false}
 use mathlib.Core.Path.{_≡_, refl, sym}
-use lib.Ieee.{Float, nan, inf, fin, binary64, ofBits, neg, lt, nanBits}
+use lib.Ieee.{Float, nan, inf, fin, ofBits, neg, lt, nanBits}
 use lib.Ieee.Scale.{finite}
 use borrow.Author.Needs.{needs}
 use Rattle.base.proofs.is_finite.Statement.{statement}
