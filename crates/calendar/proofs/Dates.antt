@@ -1,4 +1,4 @@
--- Days and dates: there and back, both ways, and their ranges. Assumes nothing.
+-- Days and dates: each conversion undoes the other; and their ranges. Assumes nothing.
 use mathlib.Core.Bool.{Bool, true, false, false≢true, _&&_}
 use mathlib.Core.Path.{_≡_, refl, ap, sym, _∙_}
 use Prim.Native.Nat.{ℕ, zero, suc, _+_, _-_, _≤_, _<_}
@@ -11,7 +11,8 @@ use Rattle.calendar.specs.declared.DateAnswer.{DateAnswer}
 use Rattle.calendar.specs.declared.DayAnswer.{DayAnswer}
 use Rattle.calendar.specs.Answers.{dateAnswer, dayAnswerOf}
 use Rattle.calendar.specs.Gregorian.{ymd, isLeap, monthLength, daysBeforeMonth, daysOfYears, isDate, dayOf, dayAfter, dateOf}
-use Rattle.lengths.proofs.Lengths.{length-of, days-of-years, daysOfMonths, lengthOfMonth, lengthOfYear, month-step, year-step, month-within, next-month, january-starts, december-ends, month-has-days}
+use Rattle.calendar_lengths.proofs.Lengths.{length-of, days-of-years, daysOfMonths, lengthOfMonth, lengthOfYear, month-step, year-step, month-within}
+use Rattle.calendar_lengths.proofs.Lengths.{next-month, january-starts, december-ends, month-has-days}
 use Rattle.calendar_lengths.proofs.Runs.{later, same-run}
 
 -- a date from 1950 on, with no last year
@@ -64,7 +65,7 @@ same-date a b pa pb e =
     (pa .month-low) (pb .month-low) (pa .day-low) (pb .day-low) (pa .day-high) high days in
     same-fields a b year (rest .0) (rest .1)
 
--- the day after a date is its day and one
+-- the day number of the date after a date is one more
 record Next (date after : Calendar) : Type 0 where
   count : dayOf after ≡ suc (dayOf date)
   proper : Proper after
@@ -171,7 +172,7 @@ date-in-range date h =
     let y : date .year ≤ 2049 = dated date h .1 in
     omega (arith, years-later (date .year - 1950) 100 (omega arith), within-year date p, hundred-years)
 
--- the calls there and back
+-- the calls undo each other
 pub day-call-and-back : (day : ℕ) → day ≤ lastDay → dayAnswerOf (dateOf day) ≡ DayAnswer.Day day
 day-call-and-back day h = rw (day-is-date day h, day-and-back day)
 

@@ -1,5 +1,5 @@
 -- The lengths of years and months of the Gregorian calendar, and where each starts. Assumes nothing.
-use mathlib.Core.Bool.{Bool, true, false, false≢true, _&&_}
+use mathlib.Core.Bool.{Bool, true, false, _&&_}
 use mathlib.Core.List.{List, [], _∷_}
 use mathlib.Core.Path.{_≡_, refl, ap, sym, _∙_}
 use Prim.Native.Nat.{ℕ, zero, suc, _+_, _-_, _*_, _/_, _%_, _≤_, _<_}
@@ -9,12 +9,9 @@ use lib.ListN.{getD, take, length}
 use borrow.Author.Tests.{leb-true, eqb-true, eqb-false, eq-eqb}
 use Rattle.base.specs.Choice.{if_then_else_, _≤?_, _=?_}
 use Rattle.base.specs.Limits.{lastDay}
+use Rattle.base.proofs.Bools.{halves}
 use Rattle.calendar_lengths.specs.Lengths.{isLeap, yearLength, monthLengths, monthLength, total, daysBeforeMonth, daysOfYears, daysBeforeYear}
 use Rattle.calendar_lengths.proofs.Runs.{later}
-
-both : (a b : Bool) → (a && b) ≡ true → (a ≡ true) × (b ≡ true)
-both true b e = (refl, e)
-both false b e = absurd (false≢true e)
 
 -- within 1950 to 2049 the years that 4 divides are leap
 leap-cases : (year : ℕ) → 1950 ≤ year → year ≤ 2049 → (by400 by100 : Bool) → (year % 400 =? 0) ≡ by400 → (year % 100 =? 0) ≡ by100
@@ -106,8 +103,8 @@ positive (x ∷ rest) = 1 ≤? x && positive rest
 positive-at : (lengths : List ℕ) → positive lengths ≡ true → (i : ℕ) → i < length lengths → 1 ≤ getD lengths i 0
 unfolding positive
 positive-at [] e i h = absurd (not-suc-le-zero h)
-positive-at (x ∷ rest) e zero h = leb-true 1 x (both (1 ≤? x) (positive rest) e .0)
-positive-at (x ∷ rest) e (suc i) h = positive-at rest (both (1 ≤? x) (positive rest) e .1) i (le-of-suc-le-suc h)
+positive-at (x ∷ rest) e zero h = leb-true 1 x (halves (1 ≤? x) (positive rest) e .0)
+positive-at (x ∷ rest) e (suc i) h = positive-at rest (halves (1 ≤? x) (positive rest) e .1) i (le-of-suc-le-suc h)
 
 pub month-has-days : (leap : Bool) (month : ℕ) → 1 ≤ month → month ≤ 12 → 1 ≤ monthLength leap month
 unfolding positive

@@ -1,17 +1,17 @@
--- A whole number as one natural number less another, for arithmetic that knows no signs. Assumes nothing.
+-- A whole number as one natural number minus another, for arithmetic without signs. Assumes nothing.
 use mathlib.Core.Bool.{Bool, true, false, not, cond}
 use mathlib.Core.Path.{_≡_, ap, sym}
-use Prim.Native.Nat.{ℕ, zero, suc, _+_, _-_, _*_, _/_, _%_, _≤_, _<_}
+use Prim.Native.Nat.{ℕ, zero, suc, _+_, _-_, _*_, _≤_, _<_}
 use lib.Dec.{T, ltb, ltb→lt, nltb→le}
 use lib.IntN.{ℤ, pos, negsuc, negℤ, subℕ, _+ℤ_, _-ℤ_, _*ℤ_}
 use native.Mathlib.Omega.{arith}
 
--- n is a less b, or -(n + 1) is
+-- n is a minus b, or -(n + 1) is
 abbrev pub Apart : ℤ → ℕ → ℕ → Type 0
 Apart (pos n) a b = n + b ≡ a
 Apart (negsuc n) a b = a + suc n ≡ b
 
--- z is a less b
+-- z is a minus b
 pub record Less (z : ℤ) (a b : ℕ) : Type 0 where
   pub apart : Apart z a b
 
@@ -77,7 +77,7 @@ less-mul {z} {y} {a} {b} {c} {d} h k = by z y (h .apart) (k .apart)
     by (negsuc n) (pos m) h k = less-neg (product (suc n) m (rw (sym h, sym k) (mixed (suc n) m a d)))
     by (negsuc n) (negsuc m) h k = record { apart = rw (sym h, sym k) (both (suc n) (suc m) a c) }
 
--- one number alone is a less b
+-- only one number is a minus b
 pub less-one : {z y : ℤ} {a b : ℕ} → Less z a b → Less y a b → z ≡ y
 less-one {z} {y} {a} {b} h k = by z y (h .apart) (k .apart)
   where

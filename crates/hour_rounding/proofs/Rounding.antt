@@ -1,9 +1,10 @@
 -- Rounding down and reducing into one circle, over any numerator, negative ones too, and any denominator above 0; and long division.
 -- Assumes nothing.
 use mathlib.Core.Path.{_≡_, refl, ap, sym, _∙_}
-use Prim.Native.Nat.{ℕ, suc, _+_, _-_, _*_, _/_, _%_, _≤_, _<_}
+use Prim.Native.Nat.{ℕ, suc, _+_, _-_, _*_, _/_, _%_, _<_}
 use lib.IntN.{ℤ, pos, negsuc, _+ℤ_, _*ℤ_}
-use native.Mathlib.Nat.{div-add-mod', mul-add-div-right, mul-add-mod-self-right, add-mul-div-right, add-mul-mod-self-right, mod-eq-of-lt, div-eq-of-lt-le, div-lt-iff-lt-mul, div-div-eq-div-mul, mod-lt, mul-comm}
+use native.Mathlib.Nat.{div-add-mod', mul-add-div-right, mul-add-mod-self-right, add-mul-div-right, add-mul-mod-self-right, mod-eq-of-lt}
+use native.Mathlib.Nat.{div-eq-of-lt-le, div-lt-iff-lt-mul, div-div-eq-div-mul, mod-lt, mul-comm}
 use native.Mathlib.Omega.{arith}
 use Rattle.base.specs.Limits.{circle}
 use Rattle.hour_rounding.specs.Fraction.{Fraction, floor, rest, intoCircle}
@@ -66,7 +67,7 @@ rounded f h =
     }
 
 module _ (n k d : ℕ) (h : 0 < d) where
-  -- n·k, with the part that d divides apart
+  -- n·k, with the part that d divides taken separately
   apart : n * k ≡ n / d * k * d + n % d * k
   apart = omega (arith, ap (λ (x : ℕ). x * k) (div-add-mod' n d))
 
@@ -77,7 +78,7 @@ module _ (n k d : ℕ) (h : 0 < d) where
   pub rest-on : n * k % d ≡ n % d * k % d
   rest-on = ap (λ (x : ℕ). x % d) apart ∙ mul-add-mod-self-right (n / d * k) d (n % d * k)
 
--- whole + n/m + x/d rounded down once, by divisions by d and by m alone: the fraction of x/d is carried in units of 1/m
+-- whole + n/m + x/d rounded down once, only by divisions by d and by m: the fraction of x/d is carried in units of 1/m
 pub rounded-once : (whole n x m d : ℕ) → 0 < m → 0 < d
     → (whole * (m * d) + n * d + x * m) / (m * d) ≡ whole + x / d + (n + x % d * m / d) / m
 rounded-once whole n x m d m-pos d-pos =

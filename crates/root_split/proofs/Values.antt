@@ -1,10 +1,9 @@
--- A float that fits is told by its value as a fraction. Assumes nothing.
-use mathlib.Core.Path.{_≡_, refl, sym, ap, _∙_, subst}
+-- Two floats that fit and have the same value as a fraction are equal. Assumes nothing.
+use mathlib.Core.Path.{_≡_, sym, ap, _∙_}
 use mathlib.Core.Bool.{Bool, cond, _&&_}
-use Prim.Native.Nat.{ℕ, zero, suc, _+_, _-_, _*_, _/_, _%_, _^_, _≤_, _<_}
-use native.Mathlib.Nat.{mul-right-comm, mul-mul-mul-comm, pow-succ', mul-pos, eq-of-mul-eq-mul-right}
+use Prim.Native.Nat.{ℕ, suc, _+_, _-_, _*_, _/_, _%_, _^_, _≤_, _<_}
+use native.Mathlib.Nat.{mul-right-comm, eq-of-mul-eq-mul-right}
 use lib.Dec.{T, eqb, leb, ltb, ltb→lt, leb→le}
-use lib.Pow.{pow-pos}
 use lib.IntN.{ℤ}
 use lib.Ieee.{Float, fin, Format, prec, emax, low, hid, top, up, down, size, fits, toBits, ofBits}
 use lib.Ieee.Fits.{down-pos, and-l, and-r}

@@ -1,6 +1,6 @@
 -- Sine and cosine are finite for every angle: a bound goes through each operation of the definition, and at the end both are at most 2 in size. Assumes nothing.
 use mathlib.Core.List.{List, [], _∷_}
-use mathlib.Core.Path.{_≡_, refl, sym, ap, _∙_}
+use mathlib.Core.Path.{_≡_, refl, sym, _∙_}
 use mathlib.Core.Bool.{Bool, true, false}
 use Prim.Native.Nat.{ℕ, zero, suc, _+_, _-_, _*_, _/_, _%_, _^_, _≤_, _<_}
 use native.Mathlib.Nat.{le-trans, le-of-eq, mul-one, one-mul, mul-le-mul-right, pow-succ'}
@@ -8,7 +8,7 @@ use native.Mathlib.Omega.{arith}
 use lib.Dec.{lit≤}
 use lib.ListN.{length}
 use lib.Pow.{pow-pos}
-use lib.Ieee.{Float, nan, inf, fin, binary64, down, div, ofInt, round}
+use lib.Ieee.{Float, nan, inf, fin, down, div, ofInt, round}
 use lib.Ieee.Scale.{finite}
 use lib.Ieee.Exact.{HasValue}
 use Rattle.base.specs.Limits.{circle}

@@ -4,12 +4,6 @@ use borrow.Author.Tests.{le-leb, lt-leb}
 use Rattle.calendar.proofs.is_date.Statement.{statement}
 use Rattle.calendar.proofs.is_date.Tie as tie
 
-returns : tie.Need-returns
-returns c = simp (lt-leb _ _ (c .if1 .taken))
-
-returns-2 : tie.Need-returns-2
-returns-2 c = simp (le-leb _ _ (c .before .if1 .left), lt-leb _ _ (c .if2 .taken))
-
 returns-3 : tie.Need-returns-3
 returns-3 c =
     simp
@@ -34,12 +28,6 @@ returns-5 c =
       lt-leb _ _ (c .if5 .taken),
     )
 
-is-leap-requires : tie.Need-is-leap-requires
-is-leap-requires c κs = search needs
-
-month-length-requires : tie.Need-month-length-requires
-month-length-requires c κs = search needs
-
 returns-6 : tie.Need-returns-6
 returns-6 c =
     let t = c .before .before in
@@ -57,11 +45,11 @@ pub is-date-spec : {M : Type 1} → statement M
 is-date-spec =
     tie.close
     (tie.spec
-    returns
-    returns-2
+    (λ c. simp (lt-leb _ _ (c .if1 .taken)))
+    (λ c. simp (le-leb _ _ (c .before .if1 .left), lt-leb _ _ (c .if2 .taken)))
     returns-3
     returns-4
     returns-5
-    is-leap-requires
-    month-length-requires
+    (λ c κs. search needs)
+    (λ c κs. search needs)
     returns-6)

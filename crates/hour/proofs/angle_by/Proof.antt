@@ -7,15 +7,9 @@ use Rattle.hour.specs.Hour.{siderealAngle}
 use Rattle.hour.proofs.angle_by.Statement.{statement}
 use Rattle.hour.proofs.angle_by.Tie as tie
 
-angle-requires : tie.Need-angle-requires
-angle-requires c κs = search needs
-
 returns : tie.Need-returns
 unfolding siderealAngle
 returns c = let a = c .before .before .args in c .angle .ensures ∙ ap (λ (x : ℕ). siderealAngle x (a .d) (a .t)) (sym (c .before .if1 .taken))
-
-angle-1982-requires : tie.Need-angle-1982-requires
-angle-1982-requires c κs = search needs
 
 returns-2 : tie.Need-returns-2
 unfolding siderealAngle
@@ -25,4 +19,4 @@ returns-2 c =
     c .angle-1982 .ensures ∙ ap (λ (x : ℕ). siderealAngle x (a .args .d) (a .args .t)) one
 
 pub angle-by-spec : {M : Type 1} → statement M
-angle-by-spec = tie.close (tie.spec angle-requires returns angle-1982-requires returns-2)
+angle-by-spec = tie.close (tie.spec (λ c κs. search needs) returns (λ c κs. search needs) returns-2)

@@ -3,11 +3,8 @@ use borrow.Author.Needs.{needs}
 use Rattle.hour.proofs.hour_angle.Statement.{statement}
 use Rattle.hour.proofs.hour_angle.Tie as tie
 
-sidereal-requires : tie.Need-sidereal-requires
-sidereal-requires c κs = search needs
-
 returns : tie.Need-returns
 returns c = c .sidereal .ensures
 
 pub hour-angle-spec : {M : Type 1} → statement M
-hour-angle-spec = tie.close (tie.spec sidereal-requires returns)
+hour-angle-spec = tie.close (tie.spec (λ c κs. search needs) returns)

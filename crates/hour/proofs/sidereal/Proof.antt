@@ -13,9 +13,6 @@ returns-2 c = simp (le-leb _ _ (c .before .if1 .left), lt-leb _ _ (c .if2 .taken
 returns-3 : tie.Need-returns-3
 returns-3 c = simp (le-leb _ _ (c .before .before .if1 .left), le-leb _ _ (c .before .if2 .left), le-ltb _ _ (c .if3 .taken))
 
-angle-by-requires : tie.Need-angle-by-requires
-angle-by-requires c κs = search needs
-
 returns-4 : tie.Need-returns-4
 returns-4 c =
     simp (
@@ -32,4 +29,4 @@ returns-5 c =
     (le-leb _ _ (c .before .before .before .if1 .left), le-leb _ _ (c .before .before .if2 .left), lt-ltb _ _ (c .before .if3 .left), lt-ltb _ _ (c .if4 .left))
 
 pub sidereal-spec : {M : Type 1} → statement M
-sidereal-spec = tie.close (tie.spec returns returns-2 returns-3 angle-by-requires returns-4 returns-5)
+sidereal-spec = tie.close (tie.spec returns returns-2 returns-3 (λ c κs. search needs) returns-4 returns-5)

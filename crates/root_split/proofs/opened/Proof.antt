@@ -30,17 +30,21 @@ opens : (x : Float) (a m h : ℕ) → HasValue x false a (2 ^ low binary64) → 
 opens x a m h v s = record { least = s .least; most = s .most; top = s .top; value = λ p. squared x 1022 (low binary64) a m h (λ i. 1074) v (s .same) }
 
 opens-subnormal : (x : Float) (m h : ℕ) → T (fits binary64 x) → toBits binary64 x < 2 ^ 52 → Split (toBits binary64 x) 1022 m h → Opened x m h
-opens-subnormal x m h p l s = opens x (toBits binary64 x) m h (subst (λ (y : Float). HasValue y false (toBits binary64 x) (2 ^ low binary64)) (ofBits-toBits binary64 x p) (subnormal-value (toBits binary64 x) l)) s
+opens-subnormal x m h p l s =
+    opens x (toBits binary64 x) m h (subst (λ (y : Float). HasValue y false (toBits binary64 x) (2 ^ low binary64)) (ofBits-toBits binary64 x p) (subnormal-value (toBits binary64 x) l)) s
 
 -- the exponent of a normal number, counted from that of the subnormals
 normal : (q i e m h : ℕ) → e ≡ i + 1022 → Split q e m h → Split (q * 2 ^ i) 1022 m h
-normal q i e m h f s = record { least = s .least; most = s .most; top = s .top; same = s .same ∙ ap (λ (z : ℕ). q * z) (ap (λ (z : ℕ). 2 ^ z) f ∙ pow-add 2 i 1022) ∙ sym (mul-assoc q (2 ^ i) (2 ^ 1022)) }
+normal q i e m h f s =
+    record { least = s .least; most = s .most; top = s .top; same = s .same ∙ ap (λ (z : ℕ). q * z) (ap (λ (z : ℕ). 2 ^ z) f ∙ pow-add 2 i 1022) ∙ sym (mul-assoc q (2 ^ i) (2 ^ 1022)) }
 
-opens-normal : (x : Float) (b q e m h : ℕ) → Split q e m h → T (fits binary64 x) → b ≡ toBits binary64 x → (b / 2 ^ 52 ≡ 0 → ⊥) → b / 2 ^ 52 < 2047 → q ≡ b % 2 ^ 52 + 2 ^ 52 → e ≡ b / 2 ^ 52 + 1021 → Opened x m h
+opens-normal : (x : Float) (b q e m h : ℕ) → Split q e m h → T (fits binary64 x) → b ≡ toBits binary64 x → (b / 2 ^ 52 ≡ 0 → ⊥) → b / 2 ^ 52 < 2047
+    → q ≡ b % 2 ^ 52 + 2 ^ 52 → e ≡ b / 2 ^ 52 + 1021 → Opened x m h
 opens-normal x b q e m h s p B N l Q E =
     let i = b / 2 ^ 52 - 1 in
     opens x (q * 2 ^ i) m h
-    (subst (λ (y : Float). HasValue y false (q * 2 ^ i) (2 ^ low binary64)) (ap (ofBits binary64) B ∙ ofBits-toBits binary64 x p) (normal-value b i q (omega arith) (omega arith) (omega arith) (omega arith)))
+    (subst (λ (y : Float). HasValue y false (q * 2 ^ i) (2 ^ low binary64)) (ap (ofBits binary64) B ∙ ofBits-toBits binary64 x p)
+    (normal-value b i q (omega arith) (omega arith) (omega arith) (omega arith)))
     (normal q i e m h (omega arith) s)
 
 unopened : (x : Float) → (T (positive x) → ⊥) → Opened x (2 ^ 52) 0
@@ -52,49 +56,23 @@ beyond x p l q = subst T (ap positive (sym (ofBits-toBits binary64 x p)) ∙ non
 not-above : (x : Float) → lt (ofBits binary64 0) x ≡ false → T (positive x) → ⊥
 not-above x h q = false≢true (sym h ∙ positive-above x q)
 
-float-to-bits-bits : tie.Need-float-to-bits-bits
-float-to-bits-bits c = above-no-nan (c .before .args .x) (c .if1 .taken)
-
-subnormal-requires : tie.Need-subnormal-requires
-subnormal-requires c κs = (above-bits (c .before .before .args .x) (subst T (sym (c .before .before .good .0 .1)) tt) (c .before .if1 .taken), omega arith)
-
-returns : tie.Need-returns
-returns c = opens-subnormal (c .before .before .before .args .x) _ _ (subst T (sym (c .before .before .before .good .0 .1)) tt) (omega arith) (c .subnormal .ensures)
-
-sub-split : tie.Need-sub-split
-sub-split c = search needs
-
-add-split : tie.Need-add-split
-add-split c = search needs
-
-add-split-2 : tie.Need-add-split-2
-add-split-2 c = search needs
-
-split-requires : tie.Need-split-requires
-split-requires c κs = search needs
-
 returns-2 : tie.Need-returns-2
 returns-2 c =
     let start = c .before .before .before .before in
-    opens-normal (start .args .x) (toBits binary64 (start .args .x)) _ _ _ _ (c .split .ensures) (subst T (sym (start .good .0 .1)) tt) refl (c .before .before .if2 .left) (c .before .if3 .taken) (omega arith) (omega arith)
-
-returns-3 : tie.Need-returns-3
-returns-3 c = unopened (c .before .before .before .args .x) (beyond (c .before .before .before .args .x) (subst T (sym (c .before .before .before .good .0 .1)) tt) (c .if3 .left))
-
-returns-4 : tie.Need-returns-4
-returns-4 c = unopened (c .before .args .x) (not-above (c .before .args .x) (c .if1 .left))
+    opens-normal (start .args .x) (toBits binary64 (start .args .x)) _ _ _ _ (c .split .ensures) (subst T (sym (start .good .0 .1)) tt) refl
+    (c .before .before .if2 .left) (c .before .if3 .taken) (omega arith) (omega arith)
 
 pub opened-spec : {M : Type 1} → statement M
 opened-spec =
     tie.close
     (tie.spec
-    float-to-bits-bits
-    subnormal-requires
-    returns
-    sub-split
-    add-split
-    add-split-2
-    split-requires
+    (λ c. above-no-nan (c .before .args .x) (c .if1 .taken))
+    (λ c κs. (above-bits (c .before .before .args .x) (subst T (sym (c .before .before .good .0 .1)) tt) (c .before .if1 .taken), omega arith))
+    (λ c. opens-subnormal (c .before .before .before .args .x) _ _ (subst T (sym (c .before .before .before .good .0 .1)) tt) (omega arith) (c .subnormal .ensures))
+    (λ c. search needs)
+    (λ c. search needs)
+    (λ c. search needs)
+    (λ c κs. search needs)
     returns-2
-    returns-3
-    returns-4)
+    (λ c. unopened (c .before .before .before .args .x) (beyond (c .before .before .before .args .x) (subst T (sym (c .before .before .before .good .0 .1)) tt) (c .if3 .left)))
+    (λ c. unopened (c .before .args .x) (not-above (c .before .args .x) (c .if1 .left))))

@@ -9,15 +9,6 @@ use Rattle.root_split.specs.Parts.{Room, Raised}
 use Rattle.root_split.proofs.raised.Statement.{statement}
 use Rattle.root_split.proofs.raised.Tie as tie
 
-shr-if1 : tie.Need-shr-if1
-shr-if1 c = search needs
-
-shl-t5 : tie.Need-shl-t5
-shl-t5 c = search needs
-
-sub-t6 : tie.Need-sub-t6
-sub-t6 c = search needs
-
 -- what is below 2^53 / 2^s, with s places more
 top-shifted : (s : ℕ) → s ≤ 32 → 2 ^ 53 / 2 ^ s ≡ 2 ^ (53 - s)
 top-shifted s h =
@@ -54,4 +45,4 @@ returns-2 c =
     (subst (λ (z : ℕ). z ≤ start .args .p .digits) (top-shifted (start .args .s) (start .pre .0)) (c .if1 .left))
 
 pub raised-spec : {M : Type 1} → statement M
-raised-spec = tie.close (tie.spec shr-if1 shl-t5 sub-t6 returns returns-2)
+raised-spec = tie.close (tie.spec (λ c. search needs) (λ c. search needs) (λ c. search needs) returns returns-2)

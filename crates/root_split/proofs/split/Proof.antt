@@ -17,12 +17,6 @@ uneven d e h p =
     let half = even d (h + h) h (λ i. h + h) in
     add-mul d d (4 ^ h) ∙ ap (λ (z : ℕ). z + z) half ∙ sym (mul-add d (2 ^ (h + h)) (2 ^ (h + h))) ∙ ap (λ (z : ℕ). d * z) (sym (two-pow-succ (h + h)) ∙ ap (λ (z : ℕ). 2 ^ z) (sym p))
 
-add-if1 : tie.Need-add-if1
-add-if1 c = search needs
-
-add-t6 : tie.Need-add-t6
-add-t6 c = search needs
-
 returns : tie.Need-returns
 returns c = record { least = omega arith; most = omega arith; top = omega arith; same = uneven _ _ _ (omega arith) }
 
@@ -30,4 +24,4 @@ returns-2 : tie.Need-returns-2
 returns-2 c = record { least = omega arith; most = omega arith; top = omega arith; same = even _ _ _ (omega arith) }
 
 pub split-spec : {M : Type 1} → statement M
-split-spec = tie.close (tie.spec add-if1 add-t6 returns returns-2)
+split-spec = tie.close (tie.spec (λ c. search needs) (λ c. search needs) returns returns-2)

@@ -1,4 +1,4 @@
--- `apart::subnormal` meets its contract: six times half as many places, and the highest digit stands at 2^52. Assumes nothing.
+-- `root_split::subnormal` meets its contract: the places halve six times, and the highest digit is then at 2^52. Assumes nothing.
 use mathlib.Core.Path.{_≡_, _∙_}
 use Prim.Native.Nat.{ℕ, _*_, _^_}
 use native.Mathlib.Omega.{arith}
@@ -8,28 +8,13 @@ use Rattle.root_split.proofs.subnormal.Tie as tie
 use lib.Dec.{lit≤}
 
 -- a subnormal has at least one digit, and none at 2^52
-raised-requires : tie.Need-raised-requires
-raised-requires c κs = (lit≤ tt, record { least = c .pre .0; most = omega arith; left = lit≤ tt })
-
-raised-requires-2 : tie.Need-raised-requires-2
-raised-requires-2 c κs = (lit≤ tt, c .raised .ensures .room)
-
-raised-requires-3 : tie.Need-raised-requires-3
-raised-requires-3 c κs = (lit≤ tt, c .raised2 .ensures .room)
-
-raised-requires-4 : tie.Need-raised-requires-4
-raised-requires-4 c κs = (lit≤ tt, c .raised3 .ensures .room)
-
-raised-requires-5 : tie.Need-raised-requires-5
-raised-requires-5 c κs = (lit≤ tt, c .raised4 .ensures .room)
-
-raised-requires-6 : tie.Need-raised-requires-6
-raised-requires-6 c κs = (lit≤ tt, c .raised5 .ensures .room)
-
 split-requires : tie.Need-split-requires
 split-requires c κs =
-    let r = c .raised6 .ensures in
-    (r .room .least, r .room .most, omega (arith, r .less, c .before .raised5 .ensures .less, c .before .before .raised4 .ensures .less, c .before .before .before .raised3 .ensures .less, c .before .before .before .before .raised2 .ensures .less, c .before .before .before .before .before .raised .ensures .less))
+    let r = c .raised6 .ensures in let c3 = c .before .before .before in let e = c .before .raised5 .ensures in let d = c .before .before .raised4 .ensures in (
+      r .room .least,
+      r .room .most,
+      omega (arith, r .less, e .less, d .less, c3 .raised3 .ensures .less, c3 .before .raised2 .ensures .less, c3 .before .before .raised .ensures .less),
+    )
 
 -- what is split is the subnormal itself, written with other digits
 written : (d e d' e' m h : ℕ) → d' * 2 ^ e' ≡ d * 2 ^ e → Split d' e' m h → Split d e m h
@@ -56,11 +41,11 @@ pub subnormal-spec : {M : Type 1} → statement M
 subnormal-spec =
     tie.close
     (tie.spec
-    raised-requires
-    raised-requires-2
-    raised-requires-3
-    raised-requires-4
-    raised-requires-5
-    raised-requires-6
+    (λ c κs. (lit≤ tt, record { least = c .pre .0; most = omega arith; left = lit≤ tt }))
+    (λ c κs. (lit≤ tt, c .raised .ensures .room))
+    (λ c κs. (lit≤ tt, c .raised2 .ensures .room))
+    (λ c κs. (lit≤ tt, c .raised3 .ensures .room))
+    (λ c κs. (lit≤ tt, c .raised4 .ensures .room))
+    (λ c κs. (lit≤ tt, c .raised5 .ensures .room))
     split-requires
     returns)

@@ -4,12 +4,9 @@ use borrow.Author.Needs.{needs}
 use Rattle.state.proofs.centre_is_allowed.Statement.{statement}
 use Rattle.state.proofs.centre_is_allowed.Tie as tie
 
-coefficient-of-requires : tie.Need-coefficient-of-requires
-coefficient-of-requires c κs = search needs
-
 returns : tie.Need-returns
 unfolding centreAllowed
 returns c = rw (c .coefficient-of .ensures)
 
 pub centre-is-allowed-spec : {M : Type 1} → statement M
-centre-is-allowed-spec = tie.close (tie.spec coefficient-of-requires returns)
+centre-is-allowed-spec = tie.close (tie.spec (λ c κs. search needs) returns)

@@ -4,27 +4,16 @@ use borrow.Author.Needs.{needs}
 use Rattle.state.proofs.injection_is_finite.Statement.{statement}
 use Rattle.state.proofs.injection_is_finite.Tie as tie
 
-starting-position-requires : tie.Need-starting-position-requires
-starting-position-requires c κs = search needs
-
-vector-is-finite-requires : tie.Need-vector-is-finite-requires
-vector-is-finite-requires c κs = search needs
-
-vector-is-finite-requires-2 : tie.Need-vector-is-finite-requires-2
-vector-is-finite-requires-2 c κs = search needs
-
 returns : tie.Need-returns
-returns c = let f = sym (c .before .before .vector-is-finite .ensures) ∙ c .before .if1 .taken in c .vector-is-finite2 .ensures ∙ sym (rw (rw (c .before .before .before .starting-position .ensures) at f))
-
-returns-2 : tie.Need-returns-2
-returns-2 c = let f = sym (c .before .vector-is-finite .ensures) ∙ c .if1 .left in sym (rw (rw (c .before .before .starting-position .ensures) at f))
+returns c =
+    let f = sym (c .before .before .vector-is-finite .ensures) ∙ c .before .if1 .taken in c .vector-is-finite2 .ensures ∙ sym (rw (rw (c .before .before .before .starting-position .ensures) at f))
 
 pub injection-is-finite-spec : {M : Type 1} → statement M
 injection-is-finite-spec =
     tie.close
     (tie.spec
-    starting-position-requires
-    vector-is-finite-requires
-    vector-is-finite-requires-2
+    (λ c κs. search needs)
+    (λ c κs. search needs)
+    (λ c κs. search needs)
     returns
-    returns-2)
+    (λ c. let f = sym (c .before .vector-is-finite .ensures) ∙ c .if1 .left in sym (rw (rw (c .before .before .starting-position .ensures) at f))))

@@ -6,19 +6,18 @@ use borrow.Author.Needs.{needs}
 use Rattle.state.proofs.setting_is_allowed.Statement.{statement}
 use Rattle.state.proofs.setting_is_allowed.Tie as tie
 
-coefficients-are-allowed-requires : tie.Need-coefficients-are-allowed-requires
-coefficients-are-allowed-requires c κs = search needs
-
-terms-are-allowed-requires : tie.Need-terms-are-allowed-requires
-terms-are-allowed-requires c κs = search needs
-
 returns : tie.Need-returns
 unfolding settingAllowed
-returns c = rw (sym (c .before .before .before .before .before .before .coefficients-are-allowed .ensures) ∙ c .before .before .before .before .before .if1 .taken, sym (c .before .before .before .before .terms-are-allowed .ensures) ∙ c .before .before .before .if2 .taken, le-leb _ _ (c .before .if3 .taken))
+returns c =
+    let at = c .before .before .before .before in
+    rw (sym (at .before .before .coefficients-are-allowed .ensures) ∙ at .before .if1 .taken)
+    (rw (sym (at .terms-are-allowed .ensures) ∙ c .before .before .before .if2 .taken, le-leb _ _ (c .before .if3 .taken)))
 
 returns-2 : tie.Need-returns-2
 unfolding settingAllowed
-returns-2 c = rw (sym (c .before .before .before .before .before .coefficients-are-allowed .ensures) ∙ c .before .before .before .before .if1 .taken, sym (c .before .before .before .terms-are-allowed .ensures) ∙ c .before .before .if2 .taken, lt-leb _ _ (c .if3 .left))
+returns-2 c =
+    let at = c .before .before .before .before in
+    rw (sym (at .before .coefficients-are-allowed .ensures) ∙ at .if1 .taken, sym (c .before .before .before .terms-are-allowed .ensures) ∙ c .before .before .if2 .taken, lt-leb _ _ (c .if3 .left))
 
 returns-3 : tie.Need-returns-3
 unfolding settingAllowed
@@ -32,8 +31,8 @@ pub setting-is-allowed-spec : {M : Type 1} → statement M
 setting-is-allowed-spec =
     tie.close
     (tie.spec
-    coefficients-are-allowed-requires
-    terms-are-allowed-requires
+    (λ c κs. search needs)
+    (λ c κs. search needs)
     returns
     returns-2
     returns-3

@@ -5,18 +5,11 @@ use borrow.Author.Needs.{needs}
 use Rattle.state.proofs.vectors_agree.Statement.{statement}
 use Rattle.state.proofs.vectors_agree.Tie as tie
 
-bits-agree-requires : tie.Need-bits-agree-requires
-bits-agree-requires c κs = search needs
-
-bits-agree-requires-2 : tie.Need-bits-agree-requires-2
-bits-agree-requires-2 c κs = search needs
-
-bits-agree-requires-3 : tie.Need-bits-agree-requires-3
-bits-agree-requires-3 c κs = search needs
-
 returns : tie.Need-returns
 unfolding sameVector
-returns c = let x = sym (c .before .before .before .before .bits-agree .ensures) ∙ c .before .before .before .if1 .taken in let y = sym (c .before .before .bits-agree2 .ensures) ∙ c .before .if2 .taken in c .bits-agree3 .ensures ∙ sym (rw (x, y))
+returns c =
+    let x = sym (c .before .before .before .before .bits-agree .ensures) ∙ c .before .before .before .if1 .taken in
+    let y = sym (c .before .before .bits-agree2 .ensures) ∙ c .before .if2 .taken in c .bits-agree3 .ensures ∙ sym (rw (x, y))
 
 returns-2 : tie.Need-returns-2
 unfolding sameVector
@@ -30,9 +23,9 @@ pub vectors-agree-spec : {M : Type 1} → statement M
 vectors-agree-spec =
     tie.close
     (tie.spec
-    bits-agree-requires
-    bits-agree-requires-2
-    bits-agree-requires-3
+    (λ c κs. search needs)
+    (λ c κs. search needs)
+    (λ c κs. search needs)
     returns
     returns-2
     returns-3)

@@ -4,12 +4,6 @@ use borrow.Author.Tests.{le-leb, lt-leb}
 use Rattle.calendar.proofs.Calendar.twice_julian_date.Statement.{statement}
 use Rattle.calendar.proofs.Calendar.twice_julian_date.Tie as tie
 
-mul-t3 : tie.Need-mul-t3
-mul-t3 c = search needs
-
-add-t4 : tie.Need-add-t4
-add-t4 c = search needs
-
 returns : tie.Need-returns
 returns c = simp (le-leb _ _ (c .if1 .taken))
 
@@ -17,4 +11,4 @@ returns-2 : tie.Need-returns-2
 returns-2 c = simp (lt-leb _ _ (c .if1 .left))
 
 pub twice-julian-date-spec : {M : Type 1} → statement M
-twice-julian-date-spec = tie.close (tie.spec mul-t3 add-t4 returns returns-2)
+twice-julian-date-spec = tie.close (tie.spec (λ c. search needs) (λ c. search needs) returns returns-2)

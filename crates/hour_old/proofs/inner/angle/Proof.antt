@@ -16,55 +16,19 @@ turned c = turned-bounds (c .before .args .d) (c .before .args .t) (c .before .p
 carried : (c : tie.After-fraction) → c .fraction .result < 10_000_000
 carried c = fraction-below (turned (c .before .before) .0) (c .fraction .ensures)
 
-mul-divisor : tie.Need-mul-divisor
-mul-divisor c = search needs
-
-add-divisor : tie.Need-add-divisor
-add-divisor c = search needs
-
-fourth-term-requires : tie.Need-fourth-term-requires
-fourth-term-requires c κs = search needs
-
-mul-whole : tie.Need-mul-whole
-mul-whole c = search needs
-
-add-whole : tie.Need-add-whole
-add-whole c = search needs
-
-add-whole-2 : tie.Need-add-whole-2
-add-whole-2 c = omega (arith, turned (c .before))
-
-mul-fractions : tie.Need-mul-fractions
-mul-fractions c = omega (arith, square (c .before .before))
-
-mul-fractions-2 : tie.Need-mul-fractions-2
-mul-fractions-2 c = omega (arith, square (c .before .before))
-
-fraction-requires : tie.Need-fraction-requires
-fraction-requires c κs = omega (arith, turned (c .before))
-
-add-fractions : tie.Need-add-fractions
-add-fractions c = omega (arith, square (c .before .before .before), carried c)
-
-add-result : tie.Need-add-result
-add-result c = omega (arith, turned (c .before .before), square (c .before .before .before), carried c)
-
-returns : tie.Need-returns
-returns c = let a = c .before .before .before .args in angle-of (a .d) (a .t) (c .before .before .fourth-term .ensures) (c .fraction .ensures)
-
 pub angle-spec : {M : Type 1} → statement M
 angle-spec =
     tie.close
     (tie.spec
-    mul-divisor
-    add-divisor
-    fourth-term-requires
-    mul-whole
-    add-whole
-    add-whole-2
-    mul-fractions
-    mul-fractions-2
-    fraction-requires
-    add-fractions
-    add-result
-    returns)
+    (λ c. search needs)
+    (λ c. search needs)
+    (λ c κs. search needs)
+    (λ c. search needs)
+    (λ c. search needs)
+    (λ c. omega (arith, turned (c .before)))
+    (λ c. omega (arith, square (c .before .before)))
+    (λ c. omega (arith, square (c .before .before)))
+    (λ c κs. omega (arith, turned (c .before)))
+    (λ c. omega (arith, square (c .before .before .before), carried c))
+    (λ c. omega (arith, turned (c .before .before), square (c .before .before .before), carried c))
+    (λ c. let a = c .before .before .before .args in angle-of (a .d) (a .t) (c .before .before .fourth-term .ensures) (c .fraction .ensures)))

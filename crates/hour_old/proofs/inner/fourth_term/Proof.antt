@@ -8,21 +8,6 @@ use Rattle.hour_old.proofs.LongDivision.{started}
 use Rattle.hour_old.proofs.inner.fourth_term.Statement.{statement}
 use Rattle.hour_old.proofs.inner.fourth_term.Tie as tie
 
-mul-divide : tie.Need-mul-divide
-mul-divide c = search needs
-
-divide-requires : tie.Need-divide-requires
-divide-requires c κs = search needs
-
-three-digits-on-requires : tie.Need-three-digits-on-requires
-three-digits-on-requires c κs = omega (arith, started 3700 (c .divide .ensures) (omega arith) (omega arith))
-
-three-digits-on-requires-2 : tie.Need-three-digits-on-requires-2
-three-digits-on-requires-2 c κs = omega (arith, started 3700 (c .before .divide .ensures) (omega arith) (omega arith))
-
-three-digits-on-requires-3 : tie.Need-three-digits-on-requires-3
-three-digits-on-requires-3 c κs = omega (arith, started 3700 (c .before .before .divide .ensures) (omega arith) (omega arith))
-
 returns : tie.Need-returns
 returns c =
     c .three-digits-on3 .ensures .continues _
@@ -35,9 +20,9 @@ pub fourth-term-spec : {M : Type 1} → statement M
 fourth-term-spec =
     tie.close
     (tie.spec
-    mul-divide
-    divide-requires
-    three-digits-on-requires
-    three-digits-on-requires-2
-    three-digits-on-requires-3
+    (λ c. search needs)
+    (λ c κs. search needs)
+    (λ c κs. omega (arith, started 3700 (c .divide .ensures) (omega arith) (omega arith)))
+    (λ c κs. omega (arith, started 3700 (c .before .divide .ensures) (omega arith) (omega arith)))
+    (λ c κs. omega (arith, started 3700 (c .before .before .divide .ensures) (omega arith) (omega arith)))
     returns)

@@ -8,18 +8,6 @@ use Rattle.hour_old.proofs.LongDivision.{started}
 use Rattle.hour_old.proofs.inner.fraction.Statement.{statement}
 use Rattle.hour_old.proofs.inner.fraction.Tie as tie
 
-mul-divide : tie.Need-mul-divide
-mul-divide c = search needs
-
-divide-requires : tie.Need-divide-requires
-divide-requires c κs = search needs
-
-three-digits-on-requires : tie.Need-three-digits-on-requires
-three-digits-on-requires c κs = omega (arith, started 10 (c .divide .ensures) (omega arith) (omega arith))
-
-three-digits-on-requires-2 : tie.Need-three-digits-on-requires-2
-three-digits-on-requires-2 c κs = omega (arith, started 10 (c .before .divide .ensures) (omega arith) (omega arith))
-
 returns : tie.Need-returns
 returns c =
     ap (λ (p : Division). p .quotient)
@@ -32,8 +20,8 @@ pub fraction-spec : {M : Type 1} → statement M
 fraction-spec =
     tie.close
     (tie.spec
-    mul-divide
-    divide-requires
-    three-digits-on-requires
-    three-digits-on-requires-2
+    (λ c. search needs)
+    (λ c κs. search needs)
+    (λ c κs. omega (arith, started 10 (c .divide .ensures) (omega arith) (omega arith)))
+    (λ c κs. omega (arith, started 10 (c .before .divide .ensures) (omega arith) (omega arith)))
     returns)

@@ -9,12 +9,9 @@ returns : tie.Need-returns
 unfolding within
 returns c = simp (eq-eqb _ _ (c .if1 .taken))
 
-sub-result : tie.Need-sub-result
-sub-result c = search needs
-
 returns-2 : tie.Need-returns-2
 unfolding within
 returns-2 c = simp (ne-eqb _ _ (c .if1 .left))
 
 pub from-axis-spec : {M : Type 1} → statement M
-from-axis-spec = tie.close (tie.spec returns sub-result returns-2)
+from-axis-spec = tie.close (tie.spec returns (λ c. search needs) returns-2)

@@ -3,7 +3,6 @@ use mathlib.Core.Path.{_≡_, sym, ap, _∙_}
 use Prim.Native.Nat.{ℕ, suc, _≤_, _<_, zero-le}
 use native.Mathlib.Omega.{arith}
 use lib.Ieee.{Float}
-use Rattle.sine.specs.declared.SineCosine.{SineCosine}
 use Rattle.sine.specs.Sine.{column}
 use Rattle.sine.proofs.inner.of_octant.Statement.{statement}
 use Rattle.sine.proofs.inner.of_octant.Tie as tie
