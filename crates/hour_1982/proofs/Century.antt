@@ -1,13 +1,13 @@
 -- The 1982 rule within 64 bits: the digits of base span spell what the document says, and the carries round it down once. Assumes nothing.
 use mathlib.Core.Path.{_≡_, refl, ap, sym, _∙_}
 use Prim.Native.Nat.{ℕ, _+_, _-_, _*_, _/_, _%_, _^_, _≤_, _<_}
-use lib.IntN.{ℤ, pos, _+ℤ_, _-ℤ_, _*ℤ_}
+use lib.IntN.{ℤ, pos}
 use native.Mathlib.Nat.{div-add-mod', mul-le-mul, mod-lt, add-assoc}
 use native.Mathlib.Omega.{arith}
 use Rattle.base.specs.Limits.{circle}
 use Rattle.hour_1982.specs.declared.Spans.{Spans}
 use Rattle.hour_1982.specs.declared.DaySpans.{DaySpans}
-use Rattle.rule1982.specs.Century.{Spelled, Digits, RateSpelled, DaySpelled, spelled, daySpelled, rateFrom, secondsFrom}
+use Rattle.hour_1982.specs.Century.{Spelled, RateSpelled, DaySpelled, spelled, daySpelled, rateFrom, secondsFrom}
 use Rattle.hour_1982.specs.Sidereal.{span, centuries, secondsOf, rateOf, secondsSum, sidereal1982}
 use Rattle.hour_rounding.specs.Fraction.{intoCircle}
 use Rattle.hour_rounding.proofs.Less.{Less, less-pos, less-add, less-minus, less-mul, less-as}
@@ -78,15 +78,15 @@ pub rate-spelled : (s : ℕ) (bend : Spans) → s ≤ 109_573 → Spelled (s * (
 unfolding rateFrom
 rate-spelled s bend h e =
     record {
-      told = omega (arith, e .told);
+      spells = omega (arith, e .spells);
       digits = record { first-below = e .digits .first-below; second-below = e .digits .second-below };
-      whole-small = omega (arith, e .told, rate-small s h);
+      whole-small = omega (arith, e .spells, rate-small s h);
     }
 
 pub bend-small : (s : ℕ) → s ≤ 109_573 → s * (931_226 * span - 62 * s) ≤ 7_500_000_000_000_000
 bend-small s h = let x : 931_226 * span - 62 * s ≤ 68_026_059_300 = omega arith in omega (arith, mul-le-mul h x)
 
--- what the code makes of the digits of the bend
+-- what the code computes from the digits of the bend
 module _ (s : ℕ) (bend : Spans) (small : s ≤ 109_573) (e : Spelled (s * (931_226 * span - 62 * s)) bend) where
   abbrev pub slope : ℕ
   slope = 86_401_846_266_394 + bend .whole
@@ -101,7 +101,7 @@ module _ (s : ℕ) (bend : Spans) (small : s ≤ 109_573) (e : Spelled (s * (931
   first = s * (slope % span) + second / span
 
   pub slope-small : slope ≤ 86_401_850_000_000
-  slope-small = omega (arith, e .told, bend-small s small)
+  slope-small = omega (arith, e .spells, bend-small s small)
 
   pub digit-small : (x : ℕ) → x < span → s * x ≤ 8_004_307_650
   digit-small x h = let le : x ≤ 73_050 = omega arith in mul-le-mul small le
@@ -127,7 +127,7 @@ module _ (s : ℕ) (bend : Spans) (small : s ≤ 109_573) (e : Spelled (s * (931
   unfolding secondsFrom
   day-spelled =
       record {
-        told = omega (arith, ap (λ (x : ℕ). s * x) (div-add-mod' slope span), ap (λ (x : ℕ). s * x) (e .told));
+        spells = omega (arith, ap (λ (x : ℕ). s * x) (div-add-mod' slope span), ap (λ (x : ℕ). s * x) (e .spells));
         first-below = mod-lt first (omega arith);
         second-below = mod-lt second (omega arith);
         third-below = mod-lt third (omega arith);
@@ -180,4 +180,4 @@ module _ (t : ℕ) (rate : Spans) (day : DaySpans) where
       ∙ ap (λ (x : ℕ). x % circle) rounded-by-carries)
     where
       spelt : 10 ^ 12 * secondsFrom (2 * d + 36_525) + t * span * rateFrom (2 * d + 36_525) ≡ 10 ^ 12 * daySpelled day + t * span * spelled rate
-      spelt = rw (sym (r .told), sym (e .told)) refl
+      spelt = rw (sym (r .spells), sym (e .spells)) refl

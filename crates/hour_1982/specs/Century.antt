@@ -1,5 +1,5 @@
--- The 1982 rule within 64 bits: what the private functions promise. They count in s = 2d + 36,525, so that T is s/span - 1, and from 100 circles
--- on, so that nothing is negative; a number's fraction stands in digits of base span.
+-- The 1982 rule within 64 bits: the contracts of the private functions. They count in s = 2d + 36,525, so that T is s/span - 1. They start
+-- from 100 circles, so that nothing is negative. The fraction of a number is kept as digits of base span.
 use mathlib.Core.Path.{_≡_}
 use Prim.Native.Nat.{ℕ, _+_, _-_, _*_, _^_, _≤_, _<_}
 use Rattle.hour_1982.specs.Sidereal.{span}
@@ -15,7 +15,7 @@ pub record Digits (n : Spans) : Type 0 where
   pub second-below : n .second < span
 
 pub record Spelled (n : ℕ) (r : Spans) : Type 0 where
-  pub told : spelled r ≡ n
+  pub spells : spelled r ≡ n
   pub digits : Digits r
 
 -- the rate in units of its last place, over span²
@@ -23,7 +23,7 @@ unfoldable pub rateFrom : ℕ → ℕ
 rateFrom s = 10_027_379_092_917_831 * span ^ 2 + s * (590_178 * span - 59 * s)
 
 pub record RateSpelled (s : ℕ) (r : Spans) : Type 0 where
-  pub told : spelled r ≡ rateFrom s
+  pub spells : spelled r ≡ rateFrom s
   pub digits : Digits r
   pub whole-small : r .whole ≤ 10_027_380_000_000_000
 
@@ -35,7 +35,7 @@ abbrev pub daySpelled : DaySpans → ℕ
 daySpelled n = ((n .whole * span + n .first) * span + n .second) * span + n .third
 
 pub record DaySpelled (s : ℕ) (r : DaySpans) : Type 0 where
-  pub told : daySpelled r ≡ secondsFrom s
+  pub spells : daySpelled r ≡ secondsFrom s
   pub first-below : r .first < span
   pub second-below : r .second < span
   pub third-below : r .third < span

@@ -1,6 +1,6 @@
 -- `state_tests::bits_agree` meets its contract. Assumes nothing.
 use mathlib.Core.Bool.{true, not, true≢false}
-use mathlib.Core.Path.{_≡_, refl, sym, ap, subst, _∙_}
+use mathlib.Core.Path.{_≡_, sym, _∙_}
 use lib.Dec.{T}
 use lib.Ieee.{Float, nan, inf, fin, isNan}
 use lib.Ieee.Scale.{finite}
@@ -14,35 +14,20 @@ number nan h = absurd (true≢false (sym h))
 number (inf s) h = tt
 number (fin s m e) h = tt
 
-is-finite-requires : tie.Need-is-finite-requires
-is-finite-requires c κs = search needs
-
-is-finite-requires-2 : tie.Need-is-finite-requires-2
-is-finite-requires-2 c κs = search needs
-
-float-to-bits-result : tie.Need-float-to-bits-result
-float-to-bits-result c = number (c .before .before .before .before .args .x) (sym (c .before .before .before .is-finite .ensures) ∙ c .before .before .if1 .taken)
-
-float-to-bits-result-2 : tie.Need-float-to-bits-result-2
-float-to-bits-result-2 c = number (c .before .before .before .before .args .y) (sym (c .before .is-finite2 .ensures) ∙ c .if2 .taken)
-
 returns : tie.Need-returns
 returns c = let fx = sym (c .before .before .before .is-finite .ensures) ∙ c .before .before .if1 .taken in let fy = sym (c .before .is-finite2 .ensures) ∙ c .if2 .taken in sym (rw (fx, fy))
 
 returns-2 : tie.Need-returns-2
 returns-2 c = let fx = sym (c .before .before .before .is-finite .ensures) ∙ c .before .before .if1 .taken in let fy = sym (c .before .is-finite2 .ensures) ∙ c .if2 .left in sym (rw (fx, fy))
 
-returns-3 : tie.Need-returns-3
-returns-3 c = let fx = sym (c .before .is-finite .ensures) ∙ c .if1 .left in sym (rw fx)
-
 pub bits-agree-spec : {M : Type 1} → statement M
 bits-agree-spec =
     tie.close
     (tie.spec
-    is-finite-requires
-    is-finite-requires-2
-    float-to-bits-result
-    float-to-bits-result-2
+    (λ c κs. search needs)
+    (λ c κs. search needs)
+    (λ c. number (c .before .before .before .before .args .x) (sym (c .before .before .before .is-finite .ensures) ∙ c .before .before .if1 .taken))
+    (λ c. number (c .before .before .before .before .args .y) (sym (c .before .is-finite2 .ensures) ∙ c .if2 .taken))
     returns
     returns-2
-    returns-3)
+    (λ c. let fx = sym (c .before .is-finite .ensures) ∙ c .if1 .left in sym (rw fx)))

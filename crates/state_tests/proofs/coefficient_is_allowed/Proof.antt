@@ -10,11 +10,8 @@ use Rattle.state_tests.proofs.coefficient_is_allowed.Tie as tie
 returns : tie.Need-returns
 returns c = sym (andFalse (finite (c .before .args .m)) _ (ap not (c .if1 .taken)))
 
-is-finite-requires : tie.Need-is-finite-requires
-is-finite-requires c κs = search needs
-
 returns-2 : tie.Need-returns-2
 returns-2 c = c .is-finite .ensures ∙ sym (andTrue (finite (c .before .before .args .m)) _ (ap not (c .before .if1 .left)))
 
 pub coefficient-is-allowed-spec : {M : Type 1} → statement M
-coefficient-is-allowed-spec = tie.close (tie.spec returns is-finite-requires returns-2)
+coefficient-is-allowed-spec = tie.close (tie.spec returns (λ c κs. search needs) returns-2)

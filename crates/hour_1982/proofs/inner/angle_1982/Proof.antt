@@ -1,7 +1,7 @@
 -- `hour_1982::inner::angle_1982` meets its contract: the carries of `Century` at the code's sums. Assumes nothing.
 use Prim.Native.Nat.{ℕ, _+_, _*_, _/_, _%_, _^_, _≤_, _<_}
 use borrow.Author.Needs.{needs}
-use native.Mathlib.Nat.{mul-le-mul, mod-lt}
+use native.Mathlib.Nat.{mul-le-mul}
 use native.Mathlib.Omega.{arith}
 use Rattle.hour_1982.proofs.Century.{angle-1982-of}
 use Rattle.hour_1982.proofs.inner.angle_1982.Statement.{statement}
@@ -28,24 +28,6 @@ in-all : {a b c d : ℕ} → a ≤ 130_000_000_000_000 → b ≤ 8_663_656_320_0
     → 10_000 * a + b + (c + d) / 100_000_000 < 2 ^ 64
 in-all h k l m = omega arith
 
-mul-s : tie.Need-mul-s
-mul-s c = search needs
-
-add-s : tie.Need-add-s
-add-s c = search needs
-
-rate-in-spans-requires : tie.Need-rate-in-spans-requires
-rate-in-spans-requires c κs = omega (arith, c .pre .0)
-
-day-in-spans-requires : tie.Need-day-in-spans-requires
-day-in-spans-requires c κs = omega (arith, c .before .pre .0)
-
-mul-third : tie.Need-mul-third
-mul-third c = omega (arith, c .before .day-in-spans .ensures .third-below)
-
-mul-second : tie.Need-mul-second
-mul-second c = omega (arith, c .before .before .day-in-spans .ensures .second-below)
-
 mul-second-2 : tie.Need-mul-second-2
 mul-second-2 c =
     let b = c .before .before .before .before in
@@ -61,9 +43,6 @@ add-second-2 c =
     let b = c .before .before .before .before in
     let e = c .before .before .before .day-in-spans .ensures in
     omega (arith, digit (b .before .pre .1) (b .rate-in-spans .ensures .digits .second-below), e .second-below, e .third-below)
-
-mul-first : tie.Need-mul-first
-mul-first c = omega (arith, c .before .before .before .before .day-in-spans .ensures .first-below)
 
 mul-first-2 : tie.Need-mul-first-2
 mul-first-2 c =
@@ -103,9 +82,6 @@ add-low c =
       e .third-below,
     )
 
-mul-high : tie.Need-mul-high
-mul-high c = omega (arith, c .before .before .before .before .before .before .before .day-in-spans .ensures .whole-small)
-
 mul-high-2 : tie.Need-mul-high-2
 mul-high-2 c =
     let b = c .before .before .before .before .before .before .before .before .before in
@@ -138,22 +114,22 @@ pub angle-1982-spec : {M : Type 1} → statement M
 angle-1982-spec =
     tie.close
     (tie.spec
-    mul-s
-    add-s
-    rate-in-spans-requires
-    day-in-spans-requires
-    mul-third
-    mul-second
+    (λ c. search needs)
+    (λ c. search needs)
+    (λ c κs. omega (arith, c .pre .0))
+    (λ c κs. omega (arith, c .before .pre .0))
+    (λ c. omega (arith, c .before .day-in-spans .ensures .third-below))
+    (λ c. omega (arith, c .before .before .day-in-spans .ensures .second-below))
     mul-second-2
     add-second
     add-second-2
-    mul-first
+    (λ c. omega (arith, c .before .before .before .before .day-in-spans .ensures .first-below))
     mul-first-2
     add-first
     add-first-2
     mul-low
     add-low
-    mul-high
+    (λ c. omega (arith, c .before .before .before .before .before .before .before .day-in-spans .ensures .whole-small))
     mul-high-2
     add-high
     add-result

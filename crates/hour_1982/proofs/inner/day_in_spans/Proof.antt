@@ -5,20 +5,8 @@ use Rattle.hour_1982.proofs.Century.{bend-small, slope-small, third-sma
 use Rattle.hour_1982.proofs.inner.day_in_spans.Statement.{statement}
 use Rattle.hour_1982.proofs.inner.day_in_spans.Tie as tie
 
-mul-in-spans : tie.Need-mul-in-spans
-mul-in-spans c = search needs
-
-mul-in-spans-2 : tie.Need-mul-in-spans-2
-mul-in-spans-2 c = search needs
-
-sub-in-spans : tie.Need-sub-in-spans
-sub-in-spans c = search needs
-
 mul-in-spans-3 : tie.Need-mul-in-spans-3
 mul-in-spans-3 c = omega (arith, bend-small (c .args .s) (c .pre))
-
-in-spans-requires : tie.Need-in-spans-requires
-in-spans-requires c κs = search needs
 
 add-slope : tie.Need-add-slope
 add-slope c = let a = c .before .before in let g = c .before .in-spans in omega (arith, slope-small (a .args .s) (g .result) (a .pre) (g .ensures))
@@ -59,7 +47,13 @@ add-t10 c =
 add-t11 : tie.Need-add-t11
 add-t11 c =
     let a = c .before .before .before .before in let g = c .before .before .before .in-spans in
-    omega (arith, turns-small (a .args .s) (g .result) (a .pre) (g .ensures), first-small (a .args .s) (g .result) (a .pre) (g .ensures), second-small (a .args .s) (g .result) (a .pre) (g .ensures), third-small (a .args .s) (g .result) (a .pre) (g .ensures))
+    omega (
+      arith,
+      turns-small (a .args .s) (g .result) (a .pre) (g .ensures),
+      first-small (a .args .s) (g .result) (a .pre) (g .ensures),
+      second-small (a .args .s) (g .result) (a .pre) (g .ensures),
+      third-small (a .args .s) (g .result) (a .pre) (g .ensures),
+    )
 
 returns : tie.Need-returns
 returns c =
@@ -69,4 +63,5 @@ returns c =
 pub day-in-spans-spec : {M : Type 1} → statement M
 day-in-spans-spec =
     tie.close
-    (tie.spec mul-in-spans mul-in-spans-2 sub-in-spans mul-in-spans-3 in-spans-requires add-slope mul-third mul-second add-second mul-first add-first mul-t7 add-t10 add-t11 returns)
+    (tie.spec (λ c. search needs) (λ c. search needs) (λ c. search needs) mul-in-spans-3
+    (λ c κs. search needs) add-slope mul-third mul-second add-second mul-first add-first mul-t7 add-t10 add-t11 returns)
