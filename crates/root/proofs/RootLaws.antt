@@ -1,9 +1,10 @@
--- The laws of the root: `rootOf` meets `IsRoot`, which at most one float does, and each zero is its own root.
--- Assumes nothing.
+-- The laws of the root: `rootOf` meets `IsRoot`, and at most one float does. Each zero is its own root. Assumes nothing.
 use mathlib.Core.Path.{_≡_, refl, sym, ap, _∙_, subst}
 use mathlib.Core.Bool.{Bool, true, false}
 use Prim.Native.Nat.{ℕ, zero, suc, _+_, _-_, _*_, _/_, _^_, _≤_, _<_}
-use native.Mathlib.Nat.{le-refl, le-trans, le-of-eq, le-antisymm, lt-of-lt-of-le, lt-of-le-of-lt, lt-of-not-le, not-le-of-lt, zero-lt-suc, mul-one, one-mul, mul-assoc, mul-left-comm, mul-right-comm, mul-le-mul, mul-le-mul-right, mul-lt-mul-of-pos-right, le-of-mul-le-mul-right, lt-of-mul-lt-mul-right, eq-of-mul-eq-mul-right, mul-div-cancel, pow-succ'}
+use native.Mathlib.Nat.{le-refl, le-trans, le-of-eq, le-antisymm, lt-of-lt-of-le, lt-of-le-of-lt, lt-of-not-le, not-le-of-lt, zero-lt-suc, mul-one}
+use native.Mathlib.Nat.{one-mul, mul-assoc, mul-left-comm, mul-right-comm, mul-le-mul, mul-le-mul-right, mul-lt-mul-of-pos-right}
+use native.Mathlib.Nat.{le-of-mul-le-mul-right, lt-of-mul-lt-mul-right, eq-of-mul-eq-mul-right, mul-div-cancel, pow-succ'}
 use native.Mathlib.Omega.{arith}
 use lib.Dec.{T, lit<, lit≤}
 use lib.Pow.{pow-pos, pow-add, pow-mono, pow-lt}
@@ -13,7 +14,8 @@ use lib.Ieee.Digits.{size-lt, size-le, size-reaches}
 use lib.Ieee.Fits.{down-pos, odd-fits, nan-fits}
 use lib.Ieee.Exact.{odd-sign}
 use lib.Ieee.Positive.{positive}
-use Rattle.root.specs.Root.{NearestRoot, IsRoot, nearestRoot, rootOfUnits, positiveRoot, rootOf}
+use Rattle.root.specs.Root.{NearestRoot, IsRoot, TakesRoots, rootOf}
+use Rattle.root.specs.Computed.{nearestRoot, rootSize, rootOfUnits, positiveRoot}
 use Rattle.root_digits.proofs.WholeRoots.{nearest-unique, nearestRoot-is}
 use Rattle.root_digits.proofs.Powers.{four-pow, four-pos}
 use Rattle.root_split.proofs.Values.{value-unique, value-cross, Fitting, fits-says}
@@ -72,7 +74,7 @@ record Kept (N k n : ℕ) : Type 0 where
 four-sum : (a k : ℕ) → 2 ^ (a + (k + k)) ≡ 2 ^ a * 4 ^ k
 four-sum a k = pow-add 2 a (k + k) ∙ ap (λ (z : ℕ). 2 ^ a * z) (pow-add 2 k k ∙ sym (four-pow k))
 
-kept : (m j z k : ℕ) → 0 < m → m < 2 ^ 53 → 104 ≤ j → m * 2 ^ j < 2 ^ z → ((i : ℕ) → i < z → 2 ^ i ≤ m * 2 ^ j) → k ≡ (z - 105) / 2 → Kept (m * 2 ^ j) k (m * 2 ^ j / 4 ^ k)
+kept : (m j z k : ℕ) → 0 < m → m < 2 ^ 53 → 104 ≤ j → m * 2 ^ j < 2 ^ z → ((i : ℕ) → i < z → 2 ^ i ≤ m * 2 ^ j) → k ≡ (z + 1) / 2 - 53 → Kept (m * 2 ^ j) k (m * 2 ^ j / 4 ^ k)
 kept m j z k M D J hi lo K =
     let N = m * 2 ^ j in
     let lower : 2 ^ 104 ≤ N = le-trans (pow-mono J) (le-trans (le-of-eq (sym (one-mul (2 ^ j)))) (mul-le-mul-right (2 ^ j) M)) in
@@ -97,7 +99,7 @@ rootOfUnits-is : (l m : ℕ) (e : ℤ) (j : ℕ) → 104 ≤ j → 0 < m → m <
 unfolding rootOfUnits
 rootOfUnits-is l m e j J M D h =
     let N = m * 2 ^ j in
-    let k = (size N - 105) / 2 in
+    let k = rootSize N - 53 in
     let i = kept m j (size N) k M D J (size-lt N) (size-reaches N) refl in
     record {
       n = N / 4 ^ k;
@@ -131,10 +133,10 @@ nearest-le n q i h = omega (arith, lt-of-not-le (λ (g : suc (2 ^ 53) ≤ q). cl
         let b : 2 ^ 54 ≤ 2 * q - 1 = omega arith in
         omega (arith, i .from, mul-le-mul b b)
 
-few : (l N : ℕ) → N < 2 ^ 1024 * 4 ^ l → (size N - 105) / 2 ≤ l + 460
+few : (l N : ℕ) → N < 2 ^ 1024 * 4 ^ l → rootSize N - 53 ≤ l + 460
 few l N h = let s : size N ≤ 1024 + (l + l) = size-le N (1024 + (l + l)) (subst (λ (z : ℕ). N < z) (sym (four-sum 1024 l)) h) in half (size N) s
   where
-    half : (z : ℕ) → z ≤ 1024 + (l + l) → (z - 105) / 2 ≤ l + 460
+    half : (z : ℕ) → z ≤ 1024 + (l + l) → (z + 1) / 2 - 53 ≤ l + 460
     half z s = omega arith
 
 room : (l q k : ℕ) → q ≤ 2 ^ 53 → k ≤ l + 460 → q * 2 ^ k < 2 ^ (l + 1024)
@@ -150,10 +152,11 @@ positiveRoot-fits m e M t =
     let j = u .0 in
     let a = units-at l m e j (u .1) in
     let N = m * 2 ^ j in
-    let k = (size N - 105) / 2 in
+    let k = rootSize N - 53 in
     let i = kept m j (size N) k M (t .digits) (le-trans (lit≤ tt) (u .2)) (size-lt N) (size-reaches N) refl in
     let q = nearest-le (N / 4 ^ k) (nearestRoot (N / 4 ^ k)) (nearestRoot-is (N / 4 ^ k) (i .most)) (i .most) in
-    let b : N < 2 ^ 1024 * 4 ^ l = lt-of-mul-lt-mul-right (down e) (lt-of-le-of-lt (le-of-eq (sym a)) (lt-of-lt-of-le (mul-lt-mul-of-pos-right (t .most) (four-pos l)) (le-of-eq (mul-right-comm (2 ^ 1024) (down e) (4 ^ l))))) in
+    let b : N < 2 ^ 1024 * 4 ^ l =
+    lt-of-mul-lt-mul-right (down e) (lt-of-le-of-lt (le-of-eq (sym a)) (lt-of-lt-of-le (mul-lt-mul-of-pos-right (t .most) (four-pos l)) (le-of-eq (mul-right-comm (2 ^ 1024) (down e) (4 ^ l))))) in
     subst (λ (y : Float). T (fits binary64 y)) (sym (positiveRoot-at l m e j a))
     (odd-fits binary64 54 false (nearestRoot (N / 4 ^ k)) k (lt-of-le-of-lt q (lit< tt)) q (room l (nearestRoot (N / 4 ^ k)) k q (few l N b)))
 
@@ -178,3 +181,12 @@ root-fits (fin false (suc m) e) t = positiveRoot-fits (suc m) e (zero-lt-suc m) 
 pub root-zero : (s : Bool) → rootOf (fin s 0 (pos 0)) ≡ fin s 0 (pos 0)
 unfolding rootOf
 root-zero s = refl
+
+-- `rootOf` is the root by squares, and the only one
+pub root-law : TakesRoots rootOf
+root-law =
+    record {
+      by-squares = root-is;
+      only = λ x y fx above fy is. root-unique x y (rootOf x) fy (root-fits x fx) is (root-is x fx above);
+      of-zero = root-zero;
+    }

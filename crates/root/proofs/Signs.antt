@@ -1,17 +1,18 @@
--- Signs: a sum of squares is not negative, so that its root is never refused while it is finite; and the root of what is finite and not negative is finite and not negative.
--- Assumes nothing.
+-- Signs: a sum of squares is not negative, so its root is never refused if it is finite. The root of a float that is finite and not
+-- negative is too. Assumes nothing.
 use mathlib.Core.Path.{_≡_, refl, sym, _∙_}
 use mathlib.Core.Bool.{Bool, true, false, _||_}
 use Prim.Native.Nat.{ℕ, zero, suc, _+_, _-_, _*_, _/_, _^_}
 use native.Mathlib.Omega.{arith}
 use lib.Dec.{T}
 use lib.IntN.{ℤ}
-use lib.Ieee.{Float, nan, inf, fin, Format, binary64, up, down, size, odd, add, mul, lt, ofBits, low}
+use lib.Ieee.{Float, nan, inf, fin, Format, binary64, up, down, odd, add, mul, lt, ofBits, low}
 use lib.Ieee.Scale.{finite}
 use borrow.Author.Tests.{le-ltb}
 use Rattle.base.proofs.Clear.{clear, odd-clear, round-clear}
 use Rattle.root.specs.declared.RootAnswer.the-variants.{Value, Refused}
-use Rattle.root.specs.Root.{nearestRoot, rootOfUnits, positiveRoot, rootOf, negative, rootAnswer}
+use Rattle.root.specs.Root.{rootOf, negative, rootAnswer}
+use Rattle.root.specs.Computed.{nearestRoot, rootSize, rootOfUnits, positiveRoot}
 use Rattle.root_split.proofs.Tests.{number-below}
 
 pub clear-not-negative : (x : Float) → T (clear x) → negative x ≡ false
@@ -60,7 +61,7 @@ squares-not-negative f x y z =
 
 rootOfUnits-plain : (l N : ℕ) → (finite (rootOfUnits l N) ≡ true) × T (clear (rootOfUnits l N))
 unfolding rootOfUnits
-rootOfUnits-plain l N = let k = (size N - 105) / 2 in let q = nearestRoot (N / 4 ^ k) in (odd-finite 54 q k l, odd-clear 54 q k l)
+rootOfUnits-plain l N = let k = rootSize N - 53 in let q = nearestRoot (N / 4 ^ k) in (odd-finite 54 q k l, odd-clear 54 q k l)
 
 positiveRoot-plain : (l m : ℕ) (e : ℤ) → (finite (positiveRoot l m e) ≡ true) × T (clear (positiveRoot l m e))
 unfolding positiveRoot

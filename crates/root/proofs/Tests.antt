@@ -1,7 +1,7 @@
 -- The roots of the floats that are not finite and above zero. Assumes nothing.
 use mathlib.Core.Path.{_≡_, refl, sym, _∙_}
 use mathlib.Core.Bool.{true, false, true≢false, false≢true}
-use Prim.Native.Nat.{ℕ, zero, suc, _+_, _*_, _<_}
+use Prim.Native.Nat.{zero, suc, _+_, _*_}
 use native.Mathlib.Omega.{arith}
 use lib.Ieee.{Float, nan, inf, fin, binary64, up, down, ofBits, lt, sub}
 use borrow.Author.Tests.{ltb-true}

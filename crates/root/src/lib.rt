@@ -11,15 +11,18 @@ pub enum RootAnswer {
     Refused(u64),
 }
 
-pub struct TwoRoots {
-    pub a: f64,
-    pub b: f64,
-}
-
 pub struct ThreeRoots {
     pub a: f64,
     pub b: f64,
     pub c: f64,
+}
+
+pub struct FiveRoots {
+    pub a: f64,
+    pub b: f64,
+    pub c: f64,
+    pub d: f64,
+    pub e: f64,
 }
 
 // The root of a finite float that is not negative, or refusal 11.

@@ -1,16 +1,16 @@
-// The digits of roots that are known to have 53 of them, found from the highest down: of one number, of two and of three side by side.
+// Roots of 53 binary digits, found from the highest digit down: one root, or three or five side by side.
 
+use crate::FiveNumbers;
 use crate::LEADING;
 use crate::Lane;
 use crate::ThreeNumbers;
-use crate::TwoNumbers;
 ghost use mathlib.Core.Path.{_≡_};
 ghost use Prim.Native.Nat.{_*_, _^_, _≤_, _<_};
 ghost use Rattle.root_digits.specs.Nearest.{nearestRoot};
 ghost use Rattle.root_digits.specs.Digits.{LaneOf, Turning, TurnsTo, Turned, EndsAt};
 
-// The lane with the digit of weight g / 2 found. The digit is set where the difference does not wrap;
-// asked by its sign, the compiler makes no branch of it.
+// The lane with the digit of weight g / 2 found. The digit is 1 if the difference does not wrap. The test is on the
+// sign, because the compiler makes no branch of it.
 fn turn(s: Lane, g: u64) -> Lane
     requires { ⌜ Turning 2 g (s .v) (s .t) ⌝ }
     ensures { λ r. ⌜ TurnsTo 2 g (s .v) (s .t) (r .v) (r .t) ⌝ }
@@ -47,7 +47,7 @@ fn first(m: u64) -> Lane
     }
 }
 
-// The whole root that the digits make, or the next number where that is nearer.
+// The whole root that the digits make, or the next number if that is nearer.
 fn last(s: Lane) -> u64
     requires { ⌜ Turned (s .v) (s .t) ⌝ }
     ensures { λ r. ⌜ EndsAt (s .v) (s .t) r ⌝ }
@@ -71,26 +71,7 @@ pub fn nearest_root(m: u64) -> u64
     last(s)
 }
 
-// The same of two numbers, in one loop whose lanes do not wait for one another.
-pub fn two_nearest_roots(a: u64, b: u64) -> TwoNumbers
-    requires { ⌜ (2 ^ 52 ≤ a) × (a < 2 ^ 54) × (2 ^ 52 ≤ b) × (b < 2 ^ 54) ⌝ }
-    ensures { λ r. ⌜ (r .a ≡ nearestRoot (a * 2 ^ 52)) × (r .b ≡ nearestRoot (b * 2 ^ 52)) ⌝ }
-{
-    let mut s = first(a);
-    let mut t = first(b);
-    let mut g: u64 = LEADING;
-    while 1 < g {
-        s = two_turns(s, g);
-        t = two_turns(t, g);
-        g = g >> 2;
-    }
-    TwoNumbers {
-        a: last(s),
-        b: last(t),
-    }
-}
-
-// The same of three numbers, in one loop whose lanes do not wait for one another.
+// The same for three numbers, in one loop. The lanes do not wait for each other.
 pub fn three_nearest_roots(a: u64, b: u64, c: u64) -> ThreeNumbers
     requires { ⌜ (2 ^ 52 ≤ a) × (a < 2 ^ 54) × (2 ^ 52 ≤ b) × (b < 2 ^ 54) × (2 ^ 52 ≤ c) × (c < 2 ^ 54) ⌝ }
     ensures { λ r. ⌜ (r .a ≡ nearestRoot (a * 2 ^ 52)) × (r .b ≡ nearestRoot (b * 2 ^ 52)) × (r .c ≡ nearestRoot (c * 2 ^ 52)) ⌝ }
@@ -109,5 +90,35 @@ pub fn three_nearest_roots(a: u64, b: u64, c: u64) -> ThreeNumbers
         a: last(s),
         b: last(t),
         c: last(u),
+    }
+}
+
+// The same of five numbers, in one loop whose lanes do not wait for one another.
+pub fn five_nearest_roots(a: u64, b: u64, c: u64, d: u64, e: u64) -> FiveNumbers
+    requires { ⌜ (2 ^ 52 ≤ a) × (a < 2 ^ 54) × (2 ^ 52 ≤ b) × (b < 2 ^ 54) × (2 ^ 52 ≤ c) × (c < 2 ^ 54) × (2 ^ 52 ≤ d) × (d < 2 ^ 54)
+        × (2 ^ 52 ≤ e) × (e < 2 ^ 54) ⌝ }
+    ensures { λ r. ⌜ (r .a ≡ nearestRoot (a * 2 ^ 52)) × (r .b ≡ nearestRoot (b * 2 ^ 52)) × (r .c ≡ nearestRoot (c * 2 ^ 52))
+        × (r .d ≡ nearestRoot (d * 2 ^ 52)) × (r .e ≡ nearestRoot (e * 2 ^ 52)) ⌝ }
+{
+    let mut v = first(a);
+    let mut w = first(b);
+    let mut x = first(c);
+    let mut y = first(d);
+    let mut z = first(e);
+    let mut g: u64 = LEADING;
+    while 1 < g {
+        v = two_turns(v, g);
+        w = two_turns(w, g);
+        x = two_turns(x, g);
+        y = two_turns(y, g);
+        z = two_turns(z, g);
+        g = g >> 2;
+    }
+    FiveNumbers {
+        a: last(v),
+        b: last(w),
+        c: last(x),
+        d: last(y),
+        e: last(z),
     }
 }

@@ -10,13 +10,16 @@ pub struct Lane {
     pub t: u64,
 }
 
-pub struct TwoNumbers {
-    pub a: u64,
-    pub b: u64,
-}
-
 pub struct ThreeNumbers {
     pub a: u64,
     pub b: u64,
     pub c: u64,
+}
+
+pub struct FiveNumbers {
+    pub a: u64,
+    pub b: u64,
+    pub c: u64,
+    pub d: u64,
+    pub e: u64,
 }

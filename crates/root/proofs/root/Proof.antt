@@ -6,14 +6,8 @@ use Rattle.root.proofs.Signs.{not-refused, refused-negative, refused-in
 use Rattle.root.proofs.root.Statement.{statement}
 use Rattle.root.proofs.root.Tie as tie
 
-is-finite-requires : tie.Need-is-finite-requires
-is-finite-requires c κs = search needs
-
 returns : tie.Need-returns
 returns c = sym (refused-negative (c .before .before .before .args .x) (c .if2 .taken))
-
-square-root-requires : tie.Need-square-root-requires
-square-root-requires c κs = search needs
 
 returns-2 : tie.Need-returns-2
 returns-2 c =
@@ -24,4 +18,4 @@ returns-3 : tie.Need-returns-3
 returns-3 c = sym (refused-infinite (c .before .before .args .x) (sym (c .before .is-finite .ensures) ∙ c .if1 .left))
 
 pub root-spec : {M : Type 1} → statement M
-root-spec = tie.close (tie.spec is-finite-requires returns square-root-requires returns-2 returns-3)
+root-spec = tie.close (tie.spec (λ c κs. search needs) returns (λ c κs. search needs) returns-2 returns-3)

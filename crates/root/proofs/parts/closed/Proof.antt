@@ -6,7 +6,8 @@ use lib.Dec.{T}
 use lib.Ieee.{Float, binary64, low, ofBits, fits, nanBits}
 use lib.Ieee.Bits.{ofBits-fits}
 use lib.Ieee.Positive.{positive}
-use Rattle.root.specs.Root.{NearestRoot, nearestRoot, rootOf}
+use Rattle.root.specs.Root.{NearestRoot, rootOf}
+use Rattle.root.specs.Computed.{nearestRoot}
 use Rattle.root_split.specs.Parts.{Opened}
 use Rattle.root_digits.proofs.WholeRoots.{nearestRoot-is, nearestRoot-least, nearestRoot-most}
 use Rattle.root.proofs.RootLaws.{root-is, root-fits, root-unique}

@@ -5,12 +5,6 @@ use borrow.Author.Needs.{needs}
 use Rattle.root_digits.proofs.inner.first.Statement.{statement}
 use Rattle.root_digits.proofs.inner.first.Tie as tie
 
-sub-w : tie.Need-sub-w
-sub-w c = search needs
-
-add-t3 : tie.Need-add-t3
-add-t3 c = search needs
-
 returns : tie.Need-returns
 returns c = record {
   q = 2 ^ 52;
@@ -23,4 +17,4 @@ returns c = record {
 }
 
 pub first-spec : {M : Type 1} → statement M
-first-spec = tie.close (tie.spec sub-w add-t3 returns)
+first-spec = tie.close (tie.spec (λ c. search needs) (λ c. search needs) returns)

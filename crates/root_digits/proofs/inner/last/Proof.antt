@@ -27,9 +27,6 @@ up n v t h l p = sym (by n v t h l ∙ ap (λ (b : Bool). if b then t / 4 + 1 el
 down : (n v t : ℕ) → n < 4 ^ 53 → LaneOf n 1 v t → v / 2 ≤ t / 4 → t / 4 ≡ nearestRoot n
 down n v t h l p = sym (by n v t h l ∙ ap (λ (b : Bool). if b then t / 4 + 1 else t / 4) (le-ltb (t / 4) (v / 2) p))
 
-add-result : tie.Need-add-result
-add-result c = search needs
-
 returns : tie.Need-returns
 returns c = λ n h l. up n _ _ h l (c .if1 .taken)
 
@@ -37,4 +34,4 @@ returns-2 : tie.Need-returns-2
 returns-2 c = λ n h l. down n _ _ h l (c .if1 .left)
 
 pub last-spec : {M : Type 1} → statement M
-last-spec = tie.close (tie.spec add-result returns returns-2)
+last-spec = tie.close (tie.spec (λ c. search needs) returns returns-2)

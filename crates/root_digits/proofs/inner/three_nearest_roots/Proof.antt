@@ -54,8 +54,12 @@ returns : tie.Need-returns Inv-loop μ-loop
 returns c =
     let left = c .before .before .before in
     let i = left .before .loop .inv in
-    let p = left .before .before .before .before .before .pre in
-    (found (c .before .before .last .ensures) (p .1) (i .1) (i .0) (left .loop-test .left), found (c .before .last2 .ensures) (p .3) (i .2) (i .0) (left .loop-test .left), found (c .last3 .ensures) (p .5) (i .3) (i .0) (left .loop-test .left))
+    let p = left .before .before .before .before .before .pre in (
+      found (c .before .before .last .ensures) (p .1) (i .1) (i .0) (left .loop-test .left),
+      found (c .before .last2 .ensures) (p .3) (i .2) (i .0)
+          (left .loop-test .left),
+      found (c .last3 .ensures) (p .5) (i .3) (i .0) (left .loop-test .left),
+    )
 
 pub three-nearest-roots-spec : {M : Type 1} → statement M
 three-nearest-roots-spec =

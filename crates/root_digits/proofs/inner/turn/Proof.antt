@@ -1,4 +1,5 @@
--- `wholeroot::known::turn` meets its contract. With h half of g, the digit of weight h is set where (q + h)² is within n, which is where 4q + g ≤ 4w. Assumes nothing.
+-- `root_digits::inner::turn` meets its contract. With h half of g, the digit of weight h is 1 if (q + h)² is at most n, which is 4q + g ≤
+-- 4w. Assumes nothing.
 use mathlib.Core.Path.{_≡_, sym, ap, _∙_}
 use Prim.Native.Nat.{ℕ, _+_, _-_, _*_, _/_, _%_, _^_, _≤_, _<_}
 use native.Mathlib.Nat.{add-mul, mul-add, mul-comm}
@@ -49,12 +50,6 @@ positive d v t e a b s = omega arith
 half-le : (g t : ℕ) → g ≤ t → g / 2 ≤ t
 half-le g t h = omega arith
 
-add-v : tie.Need-add-v
-add-v c = search needs
-
-wrapping-sub-u64-requires : tie.Need-wrapping-sub-u64-requires
-wrapping-sub-u64-requires c κs = search needs
-
 sub-t7 : tie.Need-sub-t7
 sub-t7 c = half-le _ _ (bounds _ _ _ (c .before .before .before .before .pre) .within)
 
@@ -63,12 +58,6 @@ returns c =
     let b = bounds _ _ _ (c .before .before .before .before .pre) in
     λ n l. unset n _ _ _ _ (b .half) l (negative _ _ _ (c .before .before .wrapping-sub-u64 .ensures) (c .before .before .wrapping-sub-u64 .ok) (b .small) (b .trial) (c .before .if1 .taken))
 
-add-t8 : tie.Need-add-t8
-add-t8 c = search needs
-
-add-t9 : tie.Need-add-t9
-add-t9 c = search needs
-
 returns-2 : tie.Need-returns-2
 returns-2 c =
     let b = bounds _ _ _ (c .before .before .before .before .pre) in
@@ -76,4 +65,4 @@ returns-2 c =
 
 pub turn-spec : {M : Type 1} → statement M
 turn-spec =
-    tie.close (tie.spec add-v wrapping-sub-u64-requires sub-t7 returns add-t8 add-t9 returns-2)
+    tie.close (tie.spec (λ c. search needs) (λ c κs. search needs) sub-t7 returns (λ c. search needs) (λ c. search needs) returns-2)
