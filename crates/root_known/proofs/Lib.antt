@@ -1,0 +1,2 @@
+pub mod OneFloat
+pub mod Pairs
