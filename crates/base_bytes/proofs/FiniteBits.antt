@@ -1,4 +1,4 @@
--- A float is finite exactly where its bits without the sign are below an infinity's, and then they are no NaN's. Assumes nothing.
+-- A float is finite exactly if its bits without the sign are below those of infinity; then they are not a NaN's. Assumes nothing.
 use Prim.Native.Nat.{ℕ, zero, suc, _+_, _/_, _%_, _<_}
 use mathlib.Core.Bool.{Bool, true, false, not, cond}
 use mathlib.Core.Path.{_≡_, refl, sym, subst, _∙_}
@@ -8,11 +8,6 @@ use lib.Ieee.Bits.{nanBits-is}
 use lib.Ieee.Scale.{finite}
 use native.Mathlib.Omega.{arith}
 use borrow.Author.Tests.{lt-ltb, le-ltb, eqb-true, eqb-false}
-use mathlib.Core.List.{List}
-use Prim.Native.Nat.{_*_}
-use Rattle.bookcheck.specs.Bytes.{u64At}
-use Rattle.bookcheck.specs.Check.{floatsBelow, floatsFinite}
-use Rattle.bookcheck.proofs.Below.{alike}
 
 finite-not-nan : (x : Float) → finite x ≡ true → T (not (isNan x))
 unfolding isNan
@@ -47,7 +42,6 @@ below-infinity m false lt h = let q : m / 0x10_0000_0000_0000 ≡ 2047 → ⊥ =
 
 pub finite-bits : (n : ℕ) → finite (ofBits binary64 n) ≡ ltb (n % 0x8000_0000_0000_0000) 0x7ff0_0000_0000_0000
 unfolding ofBits
-finite-bits n = fields (leb (top binary64) n) (n % top binary64 / hid binary64) (n % hid binary64) ∙ sym (below-infinity (n % 0x8000_0000_0000_0000) (eqb (n % 0x8000_0000_0000_0000 / 0x10_0000_0000_0000) 2047) (omega arith) refl)
-
-pub finite-below : (b : List ℕ) (at n : ℕ) → floatsBelow 0x7ff0_0000_0000_0000 b at n ≡ floatsFinite b at n
-finite-below b at n = alike n _ _ (λ k. sym (finite-bits (u64At b (at + 8 * k))))
+finite-bits n =
+    fields (leb (top binary64) n) (n % top binary64 / hid binary64) (n % hid binary64)
+    ∙ sym (below-infinity (n % 0x8000_0000_0000_0000) (eqb (n % 0x8000_0000_0000_0000 / 0x10_0000_0000_0000) 2047) (omega arith) refl)

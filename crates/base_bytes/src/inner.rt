@@ -1,11 +1,11 @@
-// Little-endian numbers in a book or an order. Inner functions: the caller knows that the bytes are there.
+// The readers. Each requires that its bytes lie inside the slice.
 
 ghost use mathlib.Core.Bool.{true};
 ghost use mathlib.Core.Path.{_≡_};
 ghost use Prim.Native.Nat.{_+_, _≤_};
 ghost use lib.ListN.{length};
 ghost use lib.Ieee.Scale.{finite};
-ghost use Rattle.bookcheck.specs.Bytes.{u16At, u32At, u64At, floatAt};
+ghost use Rattle.base_bytes.specs.Bytes.{u16At, u32At, u64At, floatAt};
 
 pub fn u16_at(book: &[u8], at: usize) -> u16
     requires { ⌜ at + 2 ≤ length (now book) ⌝ }
@@ -28,7 +28,7 @@ pub fn u64_at(book: &[u8], at: usize) -> u64
     (u32_at(book, at) as u64) + 4_294_967_296 * (u32_at(book, at + 4) as u64)
 }
 
-// A pattern that is no NaN's, as every coefficient of a book that passes.
+// Requires bits that are not a NaN's. Every coefficient of a book that passes meets this.
 pub fn float_at(book: &[u8], at: usize) -> f64
     requires { ⌜ at + 8 ≤ length (now book) ⌝ }
     requires { ⌜ finite (floatAt (now book) at) ≡ true ⌝ }

@@ -1,4 +1,5 @@
--- The lookup in a book that passes: at most one entry of a body covers a moment, and an entry that does not serve tells of all before it or all after it. Assumes nothing.
+-- The lookup in a book that passes. At most one entry of a body covers a moment. An entry that does not serve rules out all before it or
+-- all after it. Assumes nothing.
 use Prim.Native.Nat.{ℕ, zero, suc, _+_, _<_, _≤_}
 use mathlib.Core.Bool.{Bool, true, false}
 use mathlib.Core.List.{List}
@@ -15,7 +16,7 @@ use Rattle.book.specs.Stands.{Stands, Narrowed}
 use Rattle.book.specs.declared.Lookup.{Lookup}
 use Rattle.book.specs.declared.Lookup.the-variants.{Entry, Nothing}
 use Rattle.book.specs.declared.search.Stand.the-variants.{Past, Before}
-use Rattle.bookcheck.proofs.Below.{both, left, right, is-false}
+use Rattle.base.proofs.Bools.{both, left, right, is-false}
 use Rattle.book_check.proofs.Passing.{Passing}
 
 -- ---- the first number that meets a test
@@ -172,6 +173,6 @@ nothing-left b body t low high probe n l = missing b body t (λ i m. by i m (ltb
     by i m true h = n .none-below i (ltb-true i low h)
     by i m false h = let le : low ≤ i = ltb-false i low h in n .none-from i (omega arith) m
 
--- what the position of an entry that was looked up asks
+-- what the position of an entry that was looked up requires
 pub covered : (b : List ℕ) (body t i : ℕ) → lookup b body t ≡ Entry i → (i < entryCount b) × (covers b i t ≡ true)
 covered b body t i h = let a = looked-up b body t i h in (a .below, serving-covers b body t i (a .meets))

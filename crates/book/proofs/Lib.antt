@@ -1,4 +1,3 @@
-pub use Rattle.bookcheck.proofs.FiniteBits
 pub use Rattle.book_check.proofs.Below
 pub use Rattle.book_check.proofs.Passing
 pub use Rattle.book_check.proofs.Checked

@@ -2,20 +2,19 @@
 use Prim.Native.Nat.{ℕ, zero, suc, _+_, _-_, _*_, _/_, _%_, _^_, _≤_, _<_}
 use mathlib.Core.Bool.{Bool, true, false, true≢false}
 use mathlib.Core.List.{List, [], _∷_}
-use mathlib.Core.Path.{_≡_, refl, sym, ap, _∙_, subst}
-use native.Mathlib.Nat.{le-trans, le-of-eq, mul-one, one-mul, mul-comm, mul-le-mul}
+use mathlib.Core.Path.{_≡_, refl, sym, ap, _∙_}
+use native.Mathlib.Nat.{le-trans, le-of-eq, mul-one, mul-le-mul}
 use native.Mathlib.Omega.{arith}
-use lib.Dec.{T, ltb, eqb, lit≤, ltb→lt}
-use lib.IntN.{ℤ, pos, negsuc, _-ℤ_, _*ℤ_}
-use lib.ListN.{length}
+use lib.Dec.{T, ltb, eqb, lit≤}
+use lib.IntN.{ℤ, pos, negsuc}
 use lib.Pow.{pow-add, pow-mono}
-use lib.Ieee.{Float, binary64, ofBits, ofFields, ofInt, odd, hid, top, low, neg, sub, round}
+use lib.Ieee.{Float, binary64, ofBits, ofFields, ofInt, odd, hid, low, neg, sub, round}
 use lib.Ieee.Exact.{odd-sign}
 use lib.Ieee.Scale.{finite}
 use borrow.Author.Tests.{ne-eqb, ltb-true}
 use Rattle.base.specs.Floats.{_⊕_, _⊖_, _⊗_, _⊘_, whole}
-use Rattle.basis.proofs.Bounds.{Within, Held, power-held, whole-is, whole-held, wider, value-within, within-finite, round-within, neg-within, mul-within, add-within, div-within}
-use Rattle.bookcheck.specs.Bytes.{u64At}
+use Rattle.base.proofs.Bounds.{Within, power-held, whole-is, whole-held, wider, value-within, within-finite, round-within, neg-within, mul-within, add-within, div-within}
+use Rattle.base_bytes.specs.Bytes.{u64At}
 use Rattle.book_check.specs.Contents.{entryCount, offsetOf, sizeOf, startOf, spanOf, coefficient}
 use Rattle.book_check.specs.Passes.{allBelow, passes}
 use Rattle.book_check.specs.Check.{bitsBelow, floatsBelow}
@@ -23,7 +22,8 @@ use Rattle.book.specs.Calm.{calmLimit, calm, Ready}
 use Rattle.book.specs.Lookup.{covers}
 use Rattle.book_series.specs.Series.{Pair, twice, turn, clenshaw, slopeTurn, slopes, lastSlope, slope, speed, listed, InSpan, argument, velocity}
 use Rattle.book.specs.Position.{finiteVelocity}
-use Rattle.bookcheck.proofs.Below.{every, both}
+use Rattle.base.proofs.Bools.{both}
+use Rattle.book_check.proofs.Below.{every}
 use Rattle.book_check.proofs.Passing.{passing}
 use Rattle.book.proofs.Found.{covering}
 use Rattle.book_series.proofs.Numerator.{size, span-size}
@@ -174,7 +174,8 @@ unfolding ofFields
 fields-small s zero t l h = value-within s (t * 2 ^ 0) (2 ^ 1074) (2 ^ 512) (odd 53 s t 0 1074) (lit≤ tt) (odd-sign 53 s t 0 1074) (product t 0 (omega arith) (lit≤ tt))
 fields-small s (suc x) t l h =
     rw (ne-eqb (suc x) 2047 (λ e. absurd (omega arith)))
-    (value-within s ((hid binary64 + t) * 2 ^ x) (2 ^ 1074) (2 ^ 512) (odd 53 s (hid binary64 + t) x 1074) (lit≤ tt) (odd-sign 53 s (hid binary64 + t) x 1074) (product (hid binary64 + t) x (omega arith) (omega arith)))
+    (value-within s ((hid binary64 + t) * 2 ^ x) (2 ^ 1074) (2 ^ 512) (odd 53 s (hid binary64 + t) x 1074) (lit≤ tt)
+    (odd-sign 53 s (hid binary64 + t) x 1074) (product (hid binary64 + t) x (omega arith) (omega arith)))
 
 bits-small : (bits : ℕ) → bitsBelow calmLimit bits ≡ true → Upto 512 (ofBits binary64 bits)
 unfolding ofBits
@@ -208,13 +209,15 @@ module _ (b : List ℕ) (i t : ℕ) (pass : passes b ≡ true) (calmly : calm b 
       let v = covering b i t c in
       let within : InSpan (startOf b i) (spanOf b i) t = omega arith in
       let e = listed-reach (coefficient b i) k (sizeOf b i) in
-      speed-finite _ (argument-small (startOf b i) (spanOf b i) t (a .span-low) within) (spanOf b i) (listed (coefficient b i) k (sizeOf b i)) (a .span-low) (let z = a .ends in omega arith) (omega arith)
-      (listed-small (coefficient b i) k (sizeOf b i) (λ j m. bits-small (u64At b (offsetOf b i + 8 * j)) (every (3 * sizeOf b i) (λ k. bitsBelow calmLimit (u64At b (offsetOf b i + 8 * k))) (calm-at b calmly i l) j (omega arith))))
+      speed-finite _ (argument-small (startOf b i) (spanOf b i) t (a .span-low) within) (spanOf b i) (listed (coefficient b i) k (sizeOf b i))
+      (a .span-low) (let z = a .ends in omega arith) (omega arith)
+      (listed-small (coefficient b i) k (sizeOf b i)
+      (λ j m. bits-small (u64At b (offsetOf b i + 8 * j)) (every (3 * sizeOf b i) (λ k. bitsBelow calmLimit (u64At b (offsetOf b i + 8 * k))) (calm-at b calmly i l) j (omega arith))))
 
   pub slow : finiteVelocity (velocity b i t) ≡ true
   unfolding velocity
   slow = both (both (axis 0 (omega arith)) (axis (sizeOf b i) (omega arith))) (axis (2 * sizeOf b i) (omega arith))
 
--- a walk that is not told that its book is calm
+-- a walk that does not know whether its book is calm
 pub untold : (b : List ℕ) → passes b ≡ true → Ready b false
 untold b pass = record { pass = pass; calmly = λ told. absurd (true≢false (sym told)) }

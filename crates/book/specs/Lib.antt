@@ -1,4 +1,3 @@
-pub use Rattle.bookcheck.specs.Bytes
 pub use Rattle.book_check.specs.Contents
 pub use Rattle.book_check.specs.Passes
 pub use Rattle.book_check.specs.Check

@@ -1,4 +1,5 @@
--- Document 01, "The ephemeris book" and "Refusal numbers": where a body stands at a moment, and the body position call; document 02, R-5: with its velocity.
+-- Document 01, "The ephemeris book" and "Refusal numbers": the position of a body at a moment, and the body position call. Document 02,
+-- R-5: with its velocity.
 use Prim.Native.Nat.{ℕ}
 use mathlib.Core.Bool.{Bool, _&&_}
 use mathlib.Core.List.{List}
@@ -10,7 +11,6 @@ use Rattle.book.specs.Lookup.{lookup}
 use Rattle.book_series.specs.Series.{place, velocity}
 use Rattle.book_series.specs.declared.Place.{Place}
 use Rattle.book_series.specs.declared.Velocity.{Velocity}
-use Rattle.book.specs.declared.Motion.{Motion}
 use Rattle.book.specs.declared.Lookup.{Lookup}
 use Rattle.book.specs.declared.Lookup.the-variants.{Entry, Nothing}
 use Rattle.book.specs.declared.PositionAnswer.{PositionAnswer}
@@ -36,7 +36,7 @@ placeOr6 b t Nothing = Refused 6
 unfoldable pub bodyAt : List ℕ → ℕ → ℕ → PositionAnswer
 bodyAt b body t = placeOr6 b t (lookup b body t)
 
--- "Body position: 1, 3, 6, 7; a number without entries has no cover"; by R-5 the velocity's 7 comes last
+-- "Body position: 1, 3, 6, 7; a number without entries has no cover"; by R-5 the 7 for the velocity comes last
 unfoldable pub positionAnswer : List ℕ → ℕ → ℕ → PositionAnswer
 positionAnswer b body t =
     if passes b then (if isMoment t then bodyAt b body t else Refused 3) else Refused 1

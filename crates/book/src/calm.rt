@@ -1,7 +1,7 @@
 // Whether the coefficients of a book are so small that no velocity can overflow (02, R-5).
 
-use bookcheck::bytes::u16_at;
-use bookcheck::bytes::u32_at;
+use base_bytes::inner::u16_at;
+use base_bytes::inner::u32_at;
 use book_check::inner::floats_below;
 ghost use mathlib.Core.Bool.{true};
 ghost use mathlib.Core.Path.{_≡_};

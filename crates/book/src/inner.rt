@@ -1,5 +1,5 @@
-// For a book that is known to pass: what the crates above call at each stage, once `book_passes` has said so. These are no
-// public calls of the product: those that take a book require that it passes.
+// For a book that is known to pass: the calls that the crates above make at each stage, after `book_passes` has
+// returned true. They are not public calls of the product: those that take a book require that it passes.
 
 use crate::Lookup;
 use crate::Motion;
@@ -9,9 +9,9 @@ use crate::search::Stand;
 use crate::search::search;
 use crate::search::stand_at;
 use base::is_finite;
-use bookcheck::bytes::u16_at;
-use bookcheck::bytes::u32_at;
-use bookcheck::bytes::u64_at;
+use base_bytes::inner::u16_at;
+use base_bytes::inner::u32_at;
+use base_bytes::inner::u64_at;
 pub use book_check::inner::fields_allowed;
 pub use book_check::inner::floats_finite;
 pub use book_check::inner::offset_of;
@@ -33,7 +33,7 @@ ghost use Rattle.book.specs.Position.{finitePlace, finiteVelocity, bodyA
 ghost use Rattle.book.specs.Reading.{Reads};
 ghost use Rattle.book.specs.Calm.{Ready};
 
-// The guess says where to look first, and nothing else: it may be another body's, or beyond the contents.
+// The guess only says where to look first. It may be an entry of another body, or beyond the contents.
 pub fn lookup_guessed(book: &[u8], body: u64, moment: u64, guess: usize) -> Lookup
     requires { ⌜ passes (now book) ≡ true ⌝ }
     ensures { λ r. ⌜ r ≡ lookup (now (book .entry)) body moment ⌝ }
@@ -56,7 +56,7 @@ pub fn lookup_guessed(book: &[u8], body: u64, moment: u64, guess: usize) -> Look
     }
 }
 
-// What is read of an entry for a moment: where its block lies, how many floats an axis has, w and L.
+// What is read from an entry for a moment: the place of its block, the number of floats for an axis, w and L.
 pub struct Reading {
     pub offset: usize,
     pub n: usize,
@@ -125,7 +125,7 @@ fn velocity_finite(velocity: Velocity) -> bool
     all_finite(velocity.x, velocity.y, velocity.z)
 }
 
-// Whether the velocity at the moment is finite: in a calm book it is, and is not worked out.
+// Whether the velocity at the moment is finite. In a calm book it always is, so it is not computed.
 pub fn slow_at(book: &[u8], entry: usize, moment: u64, calm: bool) -> bool
     requires { ⌜ Ready (now book) calm ⌝ }
     requires { ⌜ (entry < entryCount (now book)) × (covers (now book) entry moment ≡ true) ⌝ }

@@ -1,12 +1,11 @@
 // The ephemeris book: its check, the lookup of a body's entry, and the position and velocity of a body.
 
-pub mod bytes;
 mod calm;
 pub mod inner;
 mod search;
 
 use base::END_OF_TIME;
-use bookcheck::bytes::u32_at;
+use base_bytes::inner::u32_at;
 use book_check::inner::entries_pass;
 pub use book_series::Place;
 pub use book_series::Velocity;
@@ -16,7 +15,7 @@ ghost use Rattle.book.specs.Position.{positionAnswer};
 
 pub const LONGEST_BOOK: usize = 61_440;
 
-// Where a body stands, in km from the Earth, and (02, R-5) how fast it goes, in km/s.
+// The position of a body, in km from the Earth, and (02, R-5) its velocity, in km/s.
 pub struct Motion {
     pub place: Place,
     pub velocity: Velocity,

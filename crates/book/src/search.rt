@@ -1,8 +1,9 @@
-// The search for the entry that covers a moment, in a book that passes: its entries are in order, so a half falls away by turns.
+// The search for the entry that covers a moment, in a book that passes. Its entries are in order, so each turn rules
+// out half of them.
 
 use crate::Lookup;
-use bookcheck::bytes::u16_at;
-use bookcheck::bytes::u64_at;
+use base_bytes::inner::u16_at;
+use base_bytes::inner::u64_at;
 ghost use mathlib.Core.Bool.{true};
 ghost use mathlib.Core.Path.{_≡_};
 ghost use Prim.Native.Nat.{_+_, _≤_, _<_};
@@ -12,7 +13,7 @@ ghost use Rattle.book_check.specs.Passes.{passes};
 ghost use Rattle.book.specs.Lookup.{lookup};
 ghost use Rattle.book.specs.Stands.{Stands, Narrowed};
 
-// How a body and a moment stand to an entry, in the order of the contents.
+// Where a body and a moment are relative to an entry, in the order of the contents.
 pub enum Stand {
     Past,
     Covered,
@@ -42,7 +43,7 @@ pub fn stand_at(book: &[u8], i: usize, body: u64, moment: u64) -> Stand
     }
 }
 
-// No entry below low and none from high on serves; first is looked at first.
+// No entry below low and none from high on serves. The search looks at `first` first.
 pub fn search(book: &[u8], body: u64, moment: u64, low: usize, high: usize, first: usize) -> Lookup
     requires { ⌜ passes (now book) ≡ true ⌝ }
     requires { ⌜ Narrowed (now book) body moment low high first ⌝ }

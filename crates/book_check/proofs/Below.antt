@@ -1,31 +1,16 @@
--- Tests joined by `&&`, and tests of every number below a bound. Assumes nothing.
-use Prim.Native.Nat.{ℕ, zero, suc, _<_}
-use mathlib.Core.Bool.{Bool, true, false, _&&_}
+-- Tests of every number below a bound. Assumes nothing.
+use Prim.Native.Nat.{ℕ, zero, suc, _+_, _*_, _<_}
+use mathlib.Core.Bool.{Bool, true}
 use mathlib.Core.Logic.{⊎-elim}
-use mathlib.Core.Path.{_≡_, refl}
+use mathlib.Core.List.{List}
+use mathlib.Core.Path.{_≡_, refl, sym}
 use native.Mathlib.Nat.{eq-or-lt-of-le, le-of-suc-le-suc, not-suc-le-zero}
 use native.Mathlib.Omega.{arith}
+use Rattle.base.proofs.Bools.{both, left, right}
+use Rattle.base_bytes.specs.Bytes.{u64At}
+use Rattle.base_bytes.proofs.FiniteBits.{finite-bits}
 use Rattle.book_check.specs.Passes.{allBelow, pairsBelow}
-
-pub both : {a b : Bool} → a ≡ true → b ≡ true → (a && b) ≡ true
-both p q = simp (p, q)
-
-pub left : (a b : Bool) → (a && b) ≡ true → a ≡ true
-left true b h = refl
-left false b h = h
-
-pub right : (a b : Bool) → (a && b) ≡ true → b ≡ true
-right true b h = h
-right false true h = refl
-right false false h = h
-
--- a Bool that cannot be true
-pub is-false : (a : Bool) → (a ≡ true → ⊥) → a ≡ false
-is-false true h = absurd (h refl)
-is-false false h = refl
-
-pub clash : {a : Bool} → a ≡ true → a ≡ false → ⊥
-clash p q = let z : _≡_ {A = ℕ} 0 1 = cc in omega arith
+use Rattle.book_check.specs.Check.{floatsBelow, floatsFinite}
 
 pub every : (n : ℕ) (test : ℕ → Bool) → allBelow n test ≡ true → (k : ℕ) → k < n → test k ≡ true
 every zero test h k l = absurd (not-suc-le-zero l)
@@ -49,3 +34,7 @@ every-pair n test h i j l m = every j (λ i. test i j) (every n (λ j. allBelow 
 
 pub every-pair-back : (n : ℕ) (test : ℕ → ℕ → Bool) → ((i j : ℕ) → i < j → j < n → test i j ≡ true) → pairsBelow n test ≡ true
 every-pair-back n test h = every-back n _ (λ j m. every-back j _ (λ i l. h i j l m))
+
+-- floats are finite if their bits lie below an infinity's
+pub finite-below : (b : List ℕ) (at n : ℕ) → floatsBelow 0x7ff0_0000_0000_0000 b at n ≡ floatsFinite b at n
+finite-below b at n = alike n _ _ (λ k. sym (finite-bits (u64At b (at + 8 * k))))

@@ -1,4 +1,5 @@
--- The check: it goes entry by entry, and holds each entry against the next one alone. That this comes to document 01's conditions. Assumes nothing.
+-- The check goes entry by entry and compares each entry with the next one only. These laws prove that it decides document 01's conditions.
+-- Assumes nothing.
 use Prim.Native.Nat.{ℕ, zero, suc, _+_, _*_, _<_, _≤_}
 use mathlib.Core.Bool.{Bool, true, false, _&&_}
 use mathlib.Core.List.{List}
@@ -14,11 +15,11 @@ use native.Mathlib.Omega.{arith}
 use Rattle.book_check.specs.Contents.{statedTotal, entryCount, sizeOf, offsetOf, blockLength}
 use Rattle.book_check.specs.Passes.{fieldsAllowed, blockPlace, coefficientsFinite, passes}
 use Rattle.book_check.specs.Check.{floatsFinite, entryHolds, nextInOrder}
-use Rattle.bookcheck.proofs.Below.{both, left, right, is-false}
+use Rattle.base.proofs.Bools.{both, left, right, is-false}
 use Rattle.book_check.proofs.Passing.{Allowed, InOrder, Passing, passing, passing-back, allowed-of, allowed-back, in-order, in-order-back, block-inside}
 
 module _ (b : List ℕ) where
-  -- the entries below n, each held against the next one alone
+  -- the entries below n, each compared with the next one only
   pub record Checked (n : ℕ) : Type 0 where
     pub allowed : (i : ℕ) → i < n → Allowed b i
     pub next : (i : ℕ) → i < n → suc i < entryCount b → InOrder b i (suc i)
@@ -70,7 +71,7 @@ module _ (b : List ℕ) (i place : ℕ) where
   pub held-back : Held b i place → entryHolds b i place ≡ true
   held-back t = both (both (both (t .fields) (eq-eqb _ _ (t .placed))) (le-leb _ _ (t .inside))) (t .finites)
 
-  -- where all else holds, the coefficients decide
+  -- if all else holds, the coefficients decide
   pub held-by-floats : fieldsAllowed b i ≡ true → offsetOf b i ≡ place → place + blockLength b i ≤ length b → floatsFinite b place (3 * sizeOf b i) ≡ entryHolds b i place
   held-by-floats f p inside =
       subst

@@ -1,4 +1,3 @@
-pub mod FiniteBits
 pub mod Below
 pub mod Passing
 pub mod Checked

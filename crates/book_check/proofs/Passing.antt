@@ -1,4 +1,4 @@
--- What it says of a book that it passes, as plain facts on numbers, and back. Assumes nothing.
+-- What it means that a book passes, as plain facts about numbers, and the converse. Assumes nothing.
 use Prim.Native.Nat.{ℕ, zero, suc, _+_, _%_, _<_, _≤_, zero-le}
 use mathlib.Core.Bool.{Bool, true, false, not, _&&_, _||_, and-false}
 use mathlib.Core.List.{List}
@@ -12,9 +12,11 @@ use borrow.Author.Tests.{ltb-true, ltb-false, leb-true, leb-false, eqb-true, lt-
 use native.Mathlib.Omega.{arith}
 use Rattle.base.specs.Limits.{endOfTime}
 use Rattle.book_check.specs.Contents.{statedTotal, entryCount, entryAt, bodyOf, sizeOf, offsetOf, startOf, spanOf, endOf, blockLength}
-use Rattle.bookcheck.specs.Passes.{allBelow, pairsBelow, longestBook, totalStated, withinLimit, bodyAllowed, sizeAllowed, timesAllowed, fieldsAllowed, ascends, apart, blockPlace, blockFollows, nothingAfter, coefficientsFinite, passes}
+use Rattle.book_check.specs.Passes.{allBelow, pairsBelow, longestBook, totalStated, withinLimit, bodyAllowed, sizeAllowed, timesAllowed}
+use Rattle.book_check.specs.Passes.{fieldsAllowed, ascends, apart, blockPlace, blockFollows, nothingAfter, coefficientsFinite, passes}
 use Rattle.book_check.specs.Check.{inOrder}
-use Rattle.bookcheck.proofs.Below.{both, left, right, every, every-back, every-pair, every-pair-back, clash, is-false}
+use Rattle.base.proofs.Bools.{both, left, right, clash, is-false}
+use Rattle.book_check.proofs.Below.{every, every-back, every-pair, every-pair-back}
 
 -- the fields of entry i
 pub record Allowed (b : List ℕ) (i : ℕ) : Type 0 where
@@ -186,7 +188,7 @@ module _ (b : List ℕ) where
       (eq-eqb _ _ (p .whole)))
       (every-back n (coefficientsFinite b) (p .finites))
 
-  -- ---- where the blocks lie
+  -- ---- the places of the blocks
   pub later-block : (i j : ℕ) → i ≤ j → blockPlace b i ≤ blockPlace b j
   later-block i j l = le-ind (λ (m : ℕ). blockPlace b i ≤ blockPlace b m) (le-refl _) (λ m _ h. omega (arith, h)) j l
 

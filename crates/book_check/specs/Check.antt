@@ -1,11 +1,11 @@
--- What one turn of the check tests of an entry. That it comes to document 01's conditions is a law (proofs/Checked.antt).
+-- What one turn of the check tests of an entry. The laws in proofs/Checked.antt prove that this gives document 01's conditions.
 use Prim.Native.Nat.{ℕ, _+_, _*_, _%_}
 use mathlib.Core.Bool.{Bool, true, _&&_}
 use mathlib.Core.List.{List}
 use lib.ListN.{length}
 use lib.Ieee.Scale.{finite}
 use Rattle.base.specs.Choice.{if_then_else_, _<?_, _≤?_, _=?_}
-use Rattle.bookcheck.specs.Bytes.{u64At}
+use Rattle.base_bytes.specs.Bytes.{u64At}
 use Rattle.book_check.specs.Contents.{offsetOf, floatOf, blockLength}
 use Rattle.book_check.specs.Passes.{allBelow, fieldsAllowed, ascends, apart, coefficientsFinite}
 
@@ -19,7 +19,7 @@ floatsBelow limit b at n = allBelow n (λ k. bitsBelow limit (u64At b (at + 8 * 
 abbrev pub floatsFinite : List ℕ → ℕ → ℕ → Bool
 floatsFinite b offset n = allBelow n (λ k. finite (floatOf b offset k))
 
--- entry i by itself, where its block has to begin at `place`
+-- entry i alone; its block must begin at `place`
 abbrev pub entryHolds : List ℕ → ℕ → ℕ → Bool
 entryHolds b i place =
     fieldsAllowed b i && (offsetOf b i =? place) && (place + blockLength b i ≤? length b) && coefficientsFinite b i

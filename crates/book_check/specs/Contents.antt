@@ -2,7 +2,7 @@
 use Prim.Native.Nat.{ℕ, _+_, _*_}
 use mathlib.Core.List.{List}
 use lib.Ieee.{Float}
-use Rattle.bookcheck.specs.Bytes.{u16At, u32At, u64At, floatAt}
+use Rattle.base_bytes.specs.Bytes.{u16At, u32At, u64At, floatAt}
 
 -- "First total length (u32) and entry count (u32)"
 abbrev pub statedTotal : List ℕ → ℕ

@@ -1,9 +1,9 @@
 // Whether a book passes, in one pass over its bytes.
 
-use crate::bytes::u16_at;
-use crate::bytes::u32_at;
-use crate::bytes::u64_at;
 use base::END_OF_TIME;
+use base_bytes::inner::u16_at;
+use base_bytes::inner::u32_at;
+use base_bytes::inner::u64_at;
 ghost use mathlib.Core.Bool.{true, _&&_};
 ghost use mathlib.Core.Path.{_≡_};
 ghost use Prim.Native.Nat.{_+_, _*_, _<_, _≤_};
@@ -48,7 +48,7 @@ pub fn fields_allowed(book: &[u8], i: usize) -> bool
     false
 }
 
-// With the sign off, the bits of floats are in the order of their sizes.
+// Without the sign, the bits of floats are in the order of their sizes.
 fn bits_below(bits: u64, limit: u64) -> bool
     ensures { λ r. ⌜ r ≡ bitsBelow limit bits ⌝ }
 {
@@ -85,7 +85,7 @@ pub fn floats_below(book: &[u8], at: usize, n: usize, limit: u64) -> bool
     true
 }
 
-// An infinity's bits, and a NaN's, are the greatest.
+// The bits of an infinity or a NaN are the greatest.
 pub fn floats_finite(book: &[u8], at: usize, n: usize) -> bool
     requires { ⌜ at + 8 * n ≤ length (now book) ⌝ }
     ensures { λ r. ⌜ r ≡ floatsFinite (now (book .entry)) at n ⌝ }
@@ -127,7 +127,7 @@ fn in_order(book: &[u8], i: usize, j: usize) -> bool
     u64_at(book, entry + 8) + u64_at(book, entry + 16) <= u64_at(book, next + 8)
 }
 
-// With neighbours in order all entries are.
+// If all neighbours are in order, all entries are.
 fn next_in_order(book: &[u8], i: usize, count: usize) -> bool
     requires { ⌜ (i < count) × (entryAt count ≤ length (now book)) ⌝ }
     requires { ⌜ fieldsAllowed (now book) i ≡ true ⌝ }
@@ -141,7 +141,7 @@ fn next_in_order(book: &[u8], i: usize, count: usize) -> bool
     }
 }
 
-// Of a book whose length is the stated one and whose contents lie inside it.
+// For a book of the stated length whose contents lie inside it.
 pub fn entries_pass(book: &[u8], count: usize) -> bool
     requires { ⌜ (length (now book) ≡ statedTotal (now book)) × (length (now book) ≤ longestBook) ⌝ }
     requires { ⌜ (count ≡ entryCount (now book)) × (entryAt count ≤ length (now book)) ⌝ }

@@ -1,4 +1,3 @@
 // The bytes of an ephemeris book, and whether its entries pass. `book` has the public call; these are its inner functions.
 
-pub mod bytes;
 pub mod inner;

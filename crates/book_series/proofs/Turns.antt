@@ -8,7 +8,7 @@ use lib.Ieee.Scale.{finite}
 use native.Mathlib.Nat.{add-zero}
 use native.Mathlib.Omega.{arith}
 use Rattle.book_check.specs.Contents.{floatOf, offsetOf, sizeOf, startOf, spanOf}
-use Rattle.bookcheck.specs.Bytes.{floatAt}
+use Rattle.base_bytes.specs.Bytes.{floatAt}
 use Rattle.book_check.specs.Check.{floatsFinite}
 use Rattle.base.specs.Floats.{zero64}
 use Rattle.book_series.specs.Series.{Pair, turn, lastTurn, clenshaw, series, listed, blockOf, placeBy, argument, place}

@@ -2,7 +2,7 @@
 
 use crate::Place;
 use crate::Velocity;
-use bookcheck::bytes::float_at;
+use base_bytes::inner::float_at;
 ghost use mathlib.Core.Bool.{true};
 ghost use mathlib.Core.Path.{_≡_};
 ghost use Prim.Native.Nat.{_+_, _*_, _≤_};
@@ -20,7 +20,7 @@ pub struct Axis {
     pub after: f64,
 }
 
-// At a moment that the entry covers: 2(t - s) - L is below 2^42 either way, so each cast is exact.
+// For a moment that the entry covers: 2(t - s) - L is below 2^42 in size, so each cast is exact.
 pub fn argument_at(start: u64, span: u64, moment: u64) -> f64
     requires { ⌜ InSpan start span moment ⌝ }
     ensures { λ r. ⌜ r ≡ argument start span moment ⌝ }
@@ -30,7 +30,7 @@ pub fn argument_at(start: u64, span: u64, moment: u64) -> f64
     (numerator as f64) / (length as f64)
 }
 
-// The block at offset, n finite floats for each of X, Y and Z.
+// Requires n finite floats for each of X, Y and Z in the block at offset.
 pub fn series_at(book: &[u8], offset: usize, n: usize, w: f64) -> Place
     requires { ⌜ (1 ≤ n) × (n ≤ 16) × (offset + 24 * n ≤ length (now book)) ⌝ }
     requires { ⌜ floatsFinite (now book) offset (3 * n) ≡ true ⌝ }
@@ -93,7 +93,7 @@ fn speed_of(a: Axis, w: f64, span: f64) -> f64
     ((a.here + w * a.slope) - a.after) * 2000.0 / span
 }
 
-// The slopes of the same block. b goes with d, since d needs it; the values themselves are `series_at`'s.
+// The slopes of the same block. b is computed with d, because d needs it. `series_at` returns the values themselves.
 pub fn slopes_at(book: &[u8], offset: usize, n: usize, w: f64, span: f64) -> Velocity
     requires { ⌜ (1 ≤ n) × (n ≤ 16) × (offset + 24 * n ≤ length (now book)) ⌝ }
     requires { ⌜ floatsFinite (now book) offset (3 * n) ≡ true ⌝ }

@@ -8,9 +8,6 @@ use Rattle.book.specs.Position.{positionAnswer}
 use Rattle.book.proofs.position.Statement.{statement}
 use Rattle.book.proofs.position.Tie as tie
 
-book-passes-requires : tie.Need-book-passes-requires
-book-passes-requires c κs = search needs
-
 returns : tie.Need-returns
 unfolding positionAnswer
 returns c = rw (← c .before .book-passes .ensures, not-true (c .before .book-passes .result) (c .if1 .taken))
@@ -38,4 +35,4 @@ returns-3 c =
 
 pub position-spec : {M : Type 1} → statement M
 position-spec =
-    tie.close (tie.spec book-passes-requires returns returns-2 body-at-requires returns-3)
+    tie.close (tie.spec (λ c κs. search needs) returns returns-2 body-at-requires returns-3)

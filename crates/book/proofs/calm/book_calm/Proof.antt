@@ -11,7 +11,7 @@ use denote.Ref.{now}
 use Rattle.book_check.specs.Contents.{entryCount}
 use Rattle.book.specs.Calm.{calm}
 use Rattle.book_check.proofs.Passing.{passing, contents-inside, block-inside}
-use Rattle.bookcheck.proofs.Below.{both, is-false, clash}
+use Rattle.base.proofs.Bools.{both, is-false, clash}
 use Rattle.book.proofs.Slow.{calmBefore, calm-at}
 use Rattle.book.proofs.calm.book_calm.Statement.{statement}
 use Rattle.book.proofs.calm.book_calm.Tie as tie

@@ -3,15 +3,6 @@ use borrow.Author.Needs.{needs}
 use Rattle.book.proofs.inner.all_finite.Statement.{statement}
 use Rattle.book.proofs.inner.all_finite.Tie as tie
 
-is-finite-requires : tie.Need-is-finite-requires
-is-finite-requires c κs = search needs
-
-is-finite-requires-2 : tie.Need-is-finite-requires-2
-is-finite-requires-2 c κs = search needs
-
-is-finite-requires-3 : tie.Need-is-finite-requires-3
-is-finite-requires-3 c κs = search needs
-
 returns : tie.Need-returns
 returns c =
     rw (
@@ -28,4 +19,4 @@ returns-3 : tie.Need-returns-3
 returns-3 c = rw (← c .before .is-finite .ensures, c .if1 .left)
 
 pub all-finite-spec : {M : Type 1} → statement M
-all-finite-spec = tie.close (tie.spec is-finite-requires is-finite-requires-2 is-finite-requires-3 returns returns-2 returns-3)
+all-finite-spec = tie.close (tie.spec (λ c κs. search needs) (λ c κs. search needs) (λ c κs. search needs) returns returns-2 returns-3)

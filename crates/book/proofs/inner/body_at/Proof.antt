@@ -6,60 +6,47 @@ use Rattle.book.proofs.BodyAt.{no-cover, not-finite, too-fast, at-place
 use Rattle.book.proofs.inner.body_at.Statement.{statement}
 use Rattle.book.proofs.inner.body_at.Tie as tie
 
-lookup-guessed-requires : tie.Need-lookup-guessed-requires
-lookup-guessed-requires c κs = search needs
-
-enum-known-i : tie.Need-enum-known-i
-enum-known-i c = search needs
-
-enum-told : tie.Need-enum-told
-enum-told c = search needs
-
-returns : tie.Need-returns
-returns c = sym (no-cover _ _ _ (sym (c .before .before .lookup-guessed .ensures) ∙ c .enum-told .given .1))
-
-place-at-requires : tie.Need-place-at-requires
-place-at-requires c κs = (c .before .before .before .before .before .pre, covered _ _ _ _ (sym (c .before .before .before .lookup-guessed .ensures) ∙ c .before .i .given .1))
-
 velocity-at-requires : tie.Need-velocity-at-requires
-velocity-at-requires c κs = (c .before .before .before .before .before .before .pre, covered _ _ _ _ (sym (c .before .before .before .before .lookup-guessed .ensures) ∙ c .before .before .i .given .1))
-
-place-finite-requires : tie.Need-place-finite-requires
-place-finite-requires c κs = search needs
-
-velocity-finite-requires : tie.Need-velocity-finite-requires
-velocity-finite-requires c κs = search needs
+velocity-at-requires c κs =
+    let at = c .before .before .before .before in
+    (at .before .before .pre, covered _ _ _ _ (sym (at .lookup-guessed .ensures) ∙ c .before .before .i .given .1))
 
 returns-2 : tie.Need-returns-2
 returns-2 c =
     rw (c .before .before .before .before .before .place-at .ensures, c .before .before .before .before .velocity-at .ensures)
     (sym
-    (at-place _ _ _ _ (sym (c .before .before .before .before .before .before .before .before .before .lookup-guessed .ensures) ∙ c .before .before .before .before .before .before .before .i .given .1)
+    (at-place _ _ _ _
+    (sym (c .before .before .before .before .before .before .before .before .before .lookup-guessed .ensures) ∙ c .before .before .before .before .before .before .before .i .given .1)
     (rw (← c .before .before .before .before .before .place-at .ensures) (sym (c .before .before .before .place-finite .ensures) ∙ c .before .before .if1 .taken))
     (rw (← c .before .before .before .before .velocity-at .ensures) (sym (c .before .velocity-finite .ensures) ∙ c .if2 .taken))))
 
 returns-3 : tie.Need-returns-3
 returns-3 c =
     sym
-    (too-fast _ _ _ _ (sym (c .before .before .before .before .before .before .before .before .before .lookup-guessed .ensures) ∙ c .before .before .before .before .before .before .before .i .given .1)
+    (too-fast _ _ _ _
+    (sym (c .before .before .before .before .before .before .before .before .before .lookup-guessed .ensures) ∙ c .before .before .before .before .before .before .before .i .given .1)
     (rw (← c .before .before .before .before .before .place-at .ensures) (sym (c .before .before .before .place-finite .ensures) ∙ c .before .before .if1 .taken))
     (rw (← c .before .before .before .before .velocity-at .ensures) (sym (c .before .velocity-finite .ensures) ∙ c .if2 .left)))
 
 returns-4 : tie.Need-returns-4
-returns-4 c = sym (not-finite _ _ _ _ (sym (c .before .before .before .before .before .before .before .lookup-guessed .ensures) ∙ c .before .before .before .before .before .i .given .1) (rw (← c .before .before .before .place-at .ensures) (sym (c .before .place-finite .ensures) ∙ c .if1 .left)))
+returns-4 c =
+    let at = c .before .before .before .before .before in
+    sym
+    (not-finite _ _ _ _ (sym (at .before .before .lookup-guessed .ensures) ∙ at .i .given .1)
+    (rw (← c .before .before .before .place-at .ensures) (sym (c .before .place-finite .ensures) ∙ c .if1 .left)))
 
 pub body-at-spec : {M : Type 1} → statement M
 body-at-spec =
     tie.close
     (tie.spec
-    lookup-guessed-requires
-    enum-known-i
-    enum-told
-    returns
-    place-at-requires
+    (λ c κs. search needs)
+    (λ c. search needs)
+    (λ c. search needs)
+    (λ c. sym (no-cover _ _ _ (sym (c .before .before .lookup-guessed .ensures) ∙ c .enum-told .given .1)))
+    (λ c κs. (c .before .before .before .before .before .pre, covered _ _ _ _ (sym (c .before .before .before .lookup-guessed .ensures) ∙ c .before .i .given .1)))
     velocity-at-requires
-    place-finite-requires
-    velocity-finite-requires
+    (λ c κs. search needs)
+    (λ c κs. search needs)
     returns-2
     returns-3
     returns-4)

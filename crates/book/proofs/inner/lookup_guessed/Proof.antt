@@ -1,4 +1,4 @@
--- `book::known::lookup_guessed` meets its contract: what the guessed entry tells narrows the search. Assumes nothing.
+-- `book::inner::lookup_guessed` meets its contract: the guessed entry narrows the search. Assumes nothing.
 use native.Mathlib.Omega.{arith}
 use borrow.Author.Needs.{needs}
 use Prim.Native.Nat.{ℕ, _+_, _<_, _≤_}
@@ -17,58 +17,29 @@ inside : (c : tie.Start) → entryAt (entryCount (now (c .args .book))) ≤ leng
 inside c = contents-inside _ (passing _ (c .pre))
 
 from-guess : (c : tie.After-stand-at) →
-    Narrowed (now (c .before .before .before .before .args .book)) (c .before .before .before .before .args .body) (c .before .before .before .before .args .moment) 0 (entryCount (now (c .before .before .before .before .args .book))) (c .before .before .before .before .args .guess)
+    Narrowed (now (c .before .before .before .before .args .book)) (c .before .before .before .before .args .body)
+    (c .before .before .before .before .args .moment) 0 (entryCount (now (c .before .before .before .before .args .book))) (c .before .before .before .before .args .guess)
 from-guess c = unsearched _ _ _ _ (λ l. omega arith)
 
 after-it : (c : tie.After-stand-at) → c .stand-at .result ≡ Past →
-    Narrowed (now (c .before .before .before .before .args .book)) (c .before .before .before .before .args .body) (c .before .before .before .before .args .moment) (c .before .before .before .before .args .guess + 1) (entryCount (now (c .before .before .before .before .args .book))) (c .before .before .before .before .args .guess + 1)
+    Narrowed (now (c .before .before .before .before .args .book)) (c .before .before .before .before .args .body)
+    (c .before .before .before .before .args .moment) (c .before .before .before .before .args .guess + 1) (entryCount
+    (now (c .before .before .before .before .args .book))) (c .before .before .before .before .args .guess + 1)
 after-it c e =
     narrow-past _ _ _ (passing _ (c .before .before .before .before .pre)) _ _ _ _ (from-guess c) (omega arith) (rw e at (c .stand-at .ensures)) (λ l. omega arith)
 
 before-it : (c : tie.After-stand-at) (next : ℕ) → c .stand-at .result ≡ Before →
     (0 < c .before .before .before .before .args .guess → next < c .before .before .before .before .args .guess) →
-    Narrowed (now (c .before .before .before .before .args .book)) (c .before .before .before .before .args .body) (c .before .before .before .before .args .moment) 0 (c .before .before .before .before .args .guess) next
+    Narrowed (now (c .before .before .before .before .args .book)) (c .before .before .before .before .args .body)
+    (c .before .before .before .before .args .moment) 0 (c .before .before .before .before .args .guess) next
 before-it c next e in-it =
     narrow-before _ _ _ (passing _ (c .before .before .before .before .pre)) _ _ _ _ (from-guess c) (omega arith) (rw e at (c .stand-at .ensures)) (λ l. let m = in-it l in omega arith)
-
-u32-at-requires : tie.Need-u32-at-requires
-u32-at-requires c κs = omega (arith, inside (c .before))
-
-cast-count : tie.Need-cast-count
-cast-count c = search needs
-
-search-requires : tie.Need-search-requires
-search-requires c κs = (c .before .before .before .pre, rw (c .before .u32-at .ensures) (unsearched _ _ _ _ (λ l. omega arith)))
-
-returns : tie.Need-returns
-returns c = search needs
-
-stand-at-requires : tie.Need-stand-at-requires
-stand-at-requires c κs = omega (arith, inside (c .before .before .before))
-
-enum-told : tie.Need-enum-told
-enum-told c = search needs
-
-enum-told-2 : tie.Need-enum-told-2
-enum-told-2 c = search needs
-
-add-search : tie.Need-add-search
-add-search c = search needs
-
-add-search-2 : tie.Need-add-search-2
-add-search-2 c = search needs
 
 search-requires-2 : tie.Need-search-requires-2
 search-requires-2 c κs = (
   c .before .before .before .before .before .before .pre,
   rw (c .before .before .before .before .u32-at .ensures) (after-it (c .before .before) (c .enum-told2 .given .1)),
 )
-
-enum-told-3 : tie.Need-enum-told-3
-enum-told-3 c = search needs
-
-sub-search : tie.Need-sub-search
-sub-search c = search needs
 
 search-requires-3 : tie.Need-search-requires-3
 search-requires-3 c κs = (
@@ -81,33 +52,24 @@ returns-2 c =
     let st = rw (c .enum-told .given .1) at (c .before .before .stand-at .ensures) in
     sym (found _ _ _ (passing _ (c .before .before .before .before .before .before .pre)) _ (omega arith) (record { own = st .0; from = st .1; until = st .2 }))
 
-returns-3 : tie.Need-returns-3
-returns-3 c = search needs
-
-returns-4 : tie.Need-returns-4
-returns-4 c = sym (nothing-left _ _ _ 0 _ 0 (before-it (c .before .before .before) 0 (c .before .enum-told3 .given .1) (λ l. l)) (omega arith))
-
-returns-5 : tie.Need-returns-5
-returns-5 c = search needs
-
 pub lookup-guessed-spec : {M : Type 1} → statement M
 lookup-guessed-spec =
     tie.close
     (tie.spec
-    u32-at-requires
-    cast-count
-    search-requires
-    returns
-    stand-at-requires
-    enum-told
-    enum-told-2
-    add-search
-    add-search-2
+    (λ c κs. omega (arith, inside (c .before)))
+    (λ c. search needs)
+    (λ c κs. (c .before .before .before .pre, rw (c .before .u32-at .ensures) (unsearched _ _ _ _ (λ l. omega arith))))
+    (λ c. search needs)
+    (λ c κs. omega (arith, inside (c .before .before .before)))
+    (λ c. search needs)
+    (λ c. search needs)
+    (λ c. search needs)
+    (λ c. search needs)
     search-requires-2
-    enum-told-3
-    sub-search
+    (λ c. search needs)
+    (λ c. search needs)
     search-requires-3
     returns-2
-    returns-3
-    returns-4
-    returns-5)
+    (λ c. search needs)
+    (λ c. sym (nothing-left _ _ _ 0 _ 0 (before-it (c .before .before .before) 0 (c .before .enum-told3 .given .1) (λ l. l)) (omega arith)))
+    (λ c. search needs))

@@ -15,44 +15,10 @@ use Rattle.book.proofs.inner.reading_at.Tie as tie
 inside : (c : tie.Start) → entryAt (c .args .entry) + 24 ≤ length (now (c .args .book))
 inside c = let q = contents-inside _ (passing _ (c .pre .0)) in omega arith
 
-mul-at : tie.Need-mul-at
-mul-at c = omega (arith, inside (c .before))
-
-add-at : tie.Need-add-at
-add-at c = omega (arith, inside (c .before))
-
-add-u16-at : tie.Need-add-u16-at
-add-u16-at c = omega (arith, inside (c .before))
-
-u16-at-requires : tie.Need-u16-at-requires
-u16-at-requires c κs = omega (arith, inside (c .before))
-
-cast-n : tie.Need-cast-n
-cast-n c = search needs
-
-add-u32-at : tie.Need-add-u32-at
-add-u32-at c = omega (arith, inside (c .before .before))
-
-u32-at-requires : tie.Need-u32-at-requires
-u32-at-requires c κs = omega (arith, inside (c .before .before))
-
-cast-offset : tie.Need-cast-offset
-cast-offset c = search needs
-
-add-u64-at : tie.Need-add-u64-at
-add-u64-at c = omega (arith, inside (c .before .before .before))
-
-u64-at-requires : tie.Need-u64-at-requires
-u64-at-requires c κs = omega (arith, inside (c .before .before .before))
-
-add-u64-at-2 : tie.Need-add-u64-at-2
-add-u64-at-2 c = omega (arith, inside (c .before .before .before .before))
-
-u64-at-requires-2 : tie.Need-u64-at-requires-2
-u64-at-requires-2 c κs = omega (arith, inside (c .before .before .before .before))
-
 argument-at-requires : tie.Need-argument-at-requires
-argument-at-requires c κs = let a = passing _ (c .before .before .before .before .before .pre .0) .allowed _ (c .before .before .before .before .before .pre .1 .0) in let v = covering _ _ _ (c .before .before .before .before .before .pre .1 .1) in omega arith
+argument-at-requires c κs =
+    let at = c .before .before .before .before .before in
+    let a = passing _ (at .pre .0) .allowed _ (at .pre .1 .0) in let v = covering _ _ _ (at .pre .1 .1) in omega arith
 
 int-to-float-long : tie.Need-int-to-float-long
 unfolding inFloat
@@ -74,25 +40,27 @@ returns c =
       by = rw (← c .before .before .before .u64-at .ensures, ← c .before .before .u64-at2 .ensures) (c .before .argument-at .ensures);
       long = rw (c .before .before .u64-at2 .ensures);
       inside = omega arith;
-      finites = rw (c .before .before .before .before .u32-at .ensures, c .before .before .before .before .before .u16-at .ensures) (p .finites _ (c .before .before .before .before .before .before .before .pre .1 .0));
+      finites =
+          rw (c .before .before .before .before .u32-at .ensures, c .before .before .before .before .before .u16-at .ensures)
+          (p .finites _ (c .before .before .before .before .before .before .before .pre .1 .0));
     }
 
 pub reading-at-spec : {M : Type 1} → statement M
 reading-at-spec =
     tie.close
     (tie.spec
-    mul-at
-    add-at
-    add-u16-at
-    u16-at-requires
-    cast-n
-    add-u32-at
-    u32-at-requires
-    cast-offset
-    add-u64-at
-    u64-at-requires
-    add-u64-at-2
-    u64-at-requires-2
+    (λ c. omega (arith, inside (c .before)))
+    (λ c. omega (arith, inside (c .before)))
+    (λ c. omega (arith, inside (c .before)))
+    (λ c κs. omega (arith, inside (c .before)))
+    (λ c. search needs)
+    (λ c. omega (arith, inside (c .before .before)))
+    (λ c κs. omega (arith, inside (c .before .before)))
+    (λ c. search needs)
+    (λ c. omega (arith, inside (c .before .before .before)))
+    (λ c κs. omega (arith, inside (c .before .before .before)))
+    (λ c. omega (arith, inside (c .before .before .before .before)))
+    (λ c κs. omega (arith, inside (c .before .before .before .before)))
     argument-at-requires
     int-to-float-long
     returns)

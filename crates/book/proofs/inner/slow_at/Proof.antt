@@ -15,11 +15,8 @@ returns c =
 velocity-at-requires : tie.Need-velocity-at-requires
 velocity-at-requires c κs = (c .before .before .pre .0 .pass, c .before .before .pre .1)
 
-velocity-finite-requires : tie.Need-velocity-finite-requires
-velocity-finite-requires c κs = search needs
-
 returns-2 : tie.Need-returns-2
 returns-2 c = c .velocity-finite .ensures ∙ ap finiteVelocity (c .before .velocity-at .ensures)
 
 pub slow-at-spec : {M : Type 1} → statement M
-slow-at-spec = tie.close (tie.spec returns velocity-at-requires velocity-finite-requires returns-2)
+slow-at-spec = tie.close (tie.spec returns velocity-at-requires (λ c κs. search needs) returns-2)

@@ -10,7 +10,7 @@ use Rattle.book_check.specs.Contents.{entryCount}
 use Rattle.book_check.specs.Passes.{blockPlace}
 use Rattle.book_check.proofs.Passing.{passing}
 use Rattle.book_check.proofs.Checked.{Held, Checked, passing-holds, passing-next, none-checked, one-more, by-length, held}
-use Rattle.bookcheck.proofs.Below.{is-false, clash}
+use Rattle.base.proofs.Bools.{is-false, clash}
 use Rattle.book_check.proofs.inner.entries_pass.Statement.{statement}
 use Rattle.book_check.proofs.inner.entries_pass.Tie as tie
 
@@ -86,7 +86,9 @@ loop-again c =
       omega arith,
       rw add-one (omega arith),
       omega arith,
-      one-more _ _ (c .before .before .before .before .before .before .loop .inv .3) (rw (← c .before .before .before .before .before .before .loop .inv .1) t) (rw (← c .before .before .before .before .before .before .before .before .pre .1 .0) (sym (c .before .before .next-in-order .ensures) ∙ not-false _ (c .before .if2 .left))),
+      one-more _ _ (c .before .before .before .before .before .before .loop .inv .3)
+          (rw (← c .before .before .before .before .before .before .loop .inv .1) t)
+          (rw (← c .before .before .before .before .before .before .before .before .pre .1 .0) (sym (c .before .before .next-in-order .ensures) ∙ not-false _ (c .before .if2 .left))),
     )
 
 returns-3 : tie.Need-returns-3 Inv-loop μ-loop

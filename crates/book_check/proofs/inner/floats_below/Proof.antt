@@ -8,7 +8,8 @@ use mathlib.Core.Path.{_≡_, refl, sym}
 use Rattle.book_check.specs.Check.{floatsBelow}
 use native.Mathlib.Numerals.{add-one}
 use native.Mathlib.Nat.{le-antisymm}
-use Rattle.bookcheck.proofs.Below.{both, every, is-false, clash}
+use Rattle.base.proofs.Bools.{both, is-false, clash}
+use Rattle.book_check.proofs.Below.{every}
 use Rattle.book_check.proofs.inner.floats_below.Statement.{statement}
 use Rattle.book_check.proofs.inner.floats_below.Tie as tie
 

@@ -58,7 +58,9 @@ add-float-at-3 : tie.Need-add-float-at-3 Inv-loop μ-loop
 add-float-at-3 c = omega arith
 
 float-at-requires-2 : tie.Need-float-at-requires-2 Inv-loop μ-loop
-float-at-requires-2 c κs = (omega arith, finite-at (c .before .before .before .before .before .before .before .before) (c .before .before .before .before .before .before .before .before .args .n + (c .before .before .before .loop .k - 1)) (omega arith))
+float-at-requires-2 c κs =
+    let at = c .before .before .before .before .before .before .before .before in
+    (omega arith, finite-at (at) (at .args .n + (c .before .before .before .loop .k - 1)) (omega arith))
 
 one-turn-requires-2 : tie.Need-one-turn-requires-2 Inv-loop μ-loop
 one-turn-requires-2 c κs = search needs
@@ -76,7 +78,9 @@ add-float-at-5 : tie.Need-add-float-at-5 Inv-loop μ-loop
 add-float-at-5 c = omega arith
 
 float-at-requires-3 : tie.Need-float-at-requires-3 Inv-loop μ-loop
-float-at-requires-3 c κs = (omega arith, finite-at (c .before .before .before .before .before .before .before .before .before .before) (2 * c .before .before .before .before .before .before .before .before .before .before .args .n + (c .before .before .before .before .before .loop .k - 1)) (omega arith))
+float-at-requires-3 c κs =
+    let at = c .before .before .before .before .before in
+    (omega arith, finite-at (at .before .before .before .before .before) (2 * at .before .before .before .before .before .args .n + (at .loop .k - 1)) (omega arith))
 
 one-turn-requires-3 : tie.Need-one-turn-requires-3 Inv-loop μ-loop
 one-turn-requires-3 c κs = search needs
