@@ -1,0 +1,4 @@
+pub mod Holds
+pub mod Answer
+pub mod Laws
+pub mod Walk
