@@ -1,16 +1,23 @@
 // The pull of one body, and sums of pulls.
 
+use crate::FarPulls;
+use crate::NearSum;
 use crate::Other;
 use crate::Pull;
 use crate::ThreePulls;
-use crate::TwoPulls;
+use root::ThreeRoots;
+use root_known::Rooted;
+use root_known::ThreeRooted;
 use state::Vector;
 ghost use mathlib.Core.Path.{_≡_};
 ghost use mathlib.Core.Bool.{_&&_, not};
 ghost use lib.Ieee.{eq};
 ghost use Rattle.base.specs.Floats.{zero64};
+ghost use Rattle.state.specs.State.{n};
+ghost use Rattle.root.specs.Root.{rootsOf};
+ghost use Rattle.root_known.specs.Known.{AreRoots};
 ghost use Rattle.gravity_pull.specs.Pull.{divisible, minus};
-ghost use Rattle.pull.specs.Sum.{pullBy, pullOf, twoPullsOf, pullsOf, opposite, takenOff, lessNear, lessBy, startBy};
+ghost use Rattle.gravity_pull.specs.Sum.{pullBy, pullOf, nearRoots, farPullsOf, pullsOf, opposite, takenOff, lessNear, lessBy, nearSum};
 
 pub fn both(a: bool, b: bool) -> bool
     ensures { λ r. ⌜ r ≡ (a && b) ⌝ }
@@ -53,33 +60,76 @@ pub fn pull(v: Vector, m: f64) -> Pull
     pull_by(v, m, n, root::inner::square_root(n))
 }
 
-// Two pulls at once: their roots are worked out side by side.
-pub fn two_pulls(u: Vector, a: f64, v: Vector, b: f64) -> TwoPulls
-    ensures { λ r. ⌜ r ≡ twoPullsOf u a v b ⌝ }
+// The same pull, if some roots are known already.
+pub fn pull_known(v: Vector, m: f64, known: ThreeRooted) -> Pull
+    requires { ⌜ AreRoots known ⌝ }
+    ensures { λ r. ⌜ r ≡ pullOf v m ⌝ }
 {
-    let n_u = state::square(u);
-    let n_v = state::square(v);
-    let roots = root::known::two_roots(n_u, n_v);
-    let first = pull_by(u, a, n_u, roots.a);
-    let second = pull_by(v, b, n_v, roots.b);
-    TwoPulls { first, second }
+    let n = state::square(v);
+    pull_by(v, m, n, root_known::inner::root_among(n, known))
 }
 
-// Three pulls at once: their roots are worked out side by side, which takes little longer than one.
+// Three pulls at once: their roots are computed side by side, which takes little longer than one.
 fn three_pulls(u: Vector, a: f64, v: Vector, b: f64, w: Vector, c: f64) -> ThreePulls
+    ensures { λ r. ⌜ r ≡ pullsOf u a v b w c ⌝ }
+{
+    let known = root_known::inner::three_rooted(
+        state::square(u),
+        state::square(v),
+        state::square(w),
+    );
+    let of_u = known.a;
+    let of_v = known.b;
+    let of_w = known.c;
+    let first = pull_by(u, a, of_u.n, of_u.root);
+    let second = pull_by(v, b, of_v.n, of_v.root);
+    let third = pull_by(w, c, of_w.n, of_w.root);
+    ThreePulls {
+        first,
+        second,
+        third,
+        known,
+    }
+}
+
+// The same three pulls, where their roots are known.
+fn three_pulls_by(
+    u: Vector,
+    a: f64,
+    v: Vector,
+    b: f64,
+    w: Vector,
+    c: f64,
+    roots: ThreeRoots,
+) -> ThreePulls
+    requires { ⌜ roots ≡ rootsOf (n u) (n v) (n w) ⌝ }
     ensures { λ r. ⌜ r ≡ pullsOf u a v b w c ⌝ }
 {
     let n_u = state::square(u);
     let n_v = state::square(v);
     let n_w = state::square(w);
-    let roots = root::known::square_roots(n_u, n_v, n_w);
     let first = pull_by(u, a, n_u, roots.a);
     let second = pull_by(v, b, n_v, roots.b);
     let third = pull_by(w, c, n_w, roots.c);
+    let known = ThreeRooted {
+        a: Rooted {
+            n: n_u,
+            root: roots.a,
+        },
+        b: Rooted {
+            n: n_v,
+            root: roots.b,
+        },
+        c: Rooted {
+            n: n_w,
+            root: roots.c,
+        },
+    };
     ThreePulls {
         first,
         second,
         third,
+        known,
     }
 }
 
@@ -104,6 +154,34 @@ pub fn difference(u: Vector, v: Vector) -> Vector
     }
 }
 
+// The pulls on the centre of two bodies, which stand at u and at v, and the roots that `near_sum` asks for at p: five roots are worked
+// out side by side.
+pub fn far_pulls(p: Vector, u: Vector, a: f64, v: Vector, b: f64) -> FarPulls
+    ensures { λ r. ⌜ r ≡ farPullsOf p u a v b ⌝ }
+{
+    let n_u = state::square(u);
+    let n_v = state::square(v);
+    let five = root::inner::five_roots(
+        n_u,
+        n_v,
+        state::square(p),
+        state::square(difference(p, u)),
+        state::square(difference(p, v)),
+    );
+    let first = pull_by(u, a, n_u, five.a);
+    let second = pull_by(v, b, n_v, five.b);
+    let roots = ThreeRoots {
+        a: five.c,
+        b: five.d,
+        c: five.e,
+    };
+    FarPulls {
+        first,
+        second,
+        roots,
+    }
+}
+
 fn take_off(sum: Pull, near: Pull, far: Pull) -> Pull
     ensures { λ r. ⌜ r ≡ takenOff sum near far ⌝ }
 {
@@ -115,7 +193,7 @@ fn take_off(sum: Pull, near: Pull, far: Pull) -> Pull
     }
 }
 
-// Takes a body off the sum, where its pull on the craft is known.
+// Subtracts the pulls of a body from the sum. Its pull on the craft is known.
 fn less_near(sum: Pull, b: Other, near: Pull) -> Pull
     ensures { λ r. ⌜ r ≡ lessNear sum b near ⌝ }
 {
@@ -126,7 +204,7 @@ fn less_near(sum: Pull, b: Other, near: Pull) -> Pull
     sum
 }
 
-// Takes a body off the sum: what it pulls the craft at p, and what it pulls the centre.
+// Subtracts the pulls of a body from the sum: on the craft at p, and on the centre.
 pub fn less(p: Vector, sum: Pull, b: Other) -> Pull
     ensures { λ r. ⌜ r ≡ lessBy p sum b ⌝ }
 {
@@ -138,9 +216,10 @@ pub fn less(p: Vector, sum: Pull, b: Other) -> Pull
     sum
 }
 
-// The centre's pull turned round, less the first two bodies beside it: the three that are almost always used.
-pub fn near_sum(p: Vector, own: f64, first: Other, second: Other) -> Pull
-    ensures { λ r. ⌜ r ≡ lessBy p (lessBy p (startBy p own) first) second ⌝ }
+// Minus the pull of the centre, minus those of the first two other bodies: the three that are almost always used.
+// Also returns their roots.
+pub fn near_sum(p: Vector, own: f64, first: Other, second: Other) -> NearSum
+    ensures { λ r. ⌜ r ≡ nearSum p own first second ⌝ }
 {
     let first_place = first.place;
     let second_place = second.place;
@@ -150,9 +229,33 @@ pub fn near_sum(p: Vector, own: f64, first: Other, second: Other) -> Pull
     let by_centre = near.first;
     let by_first = near.second;
     let by_second = near.third;
-    less_near(
+    let known = near.known;
+    let sum = less_near(
         less_near(turned_round(by_centre), first, by_first),
         second,
         by_second,
-    )
+    );
+    NearSum { sum, known }
+}
+
+// The same sum, where its three roots are known.
+pub fn near_sum_by(p: Vector, own: f64, first: Other, second: Other, roots: ThreeRoots) -> NearSum
+    requires { ⌜ roots ≡ nearRoots p (first .place) (second .place) ⌝ }
+    ensures { λ r. ⌜ r ≡ nearSum p own first second ⌝ }
+{
+    let first_place = first.place;
+    let second_place = second.place;
+    let from_first = difference(p, first_place);
+    let from_second = difference(p, second_place);
+    let near = three_pulls_by(p, own, from_first, first.m, from_second, second.m, roots);
+    let by_centre = near.first;
+    let by_first = near.second;
+    let by_second = near.third;
+    let known = near.known;
+    let sum = less_near(
+        less_near(turned_round(by_centre), first, by_first),
+        second,
+        by_second,
+    );
+    NearSum { sum, known }
 }

@@ -4,15 +4,6 @@ use borrow.Author.Needs.{needs}
 use Rattle.gravity_pull.proofs.pulls.less.Statement.{statement}
 use Rattle.gravity_pull.proofs.pulls.less.Tie as tie
 
-difference-requires : tie.Need-difference-requires
-difference-requires c κs = search needs
-
-pull-requires : tie.Need-pull-requires
-pull-requires c κs = search needs
-
-take-off-requires : tie.Need-take-off-requires
-take-off-requires c κs = search needs
-
 returns : tie.Need-returns
 unfolding lessBy
 returns c = rw (c .take-off .ensures, c .before .pull .ensures, c .before .before .difference .ensures, c .before .before .before .before .before .if1 .taken)
@@ -23,4 +14,4 @@ returns-2 c = rw (c .if1 .left)
 
 pub less-spec : {M : Type 1} → statement M
 less-spec =
-    tie.close (tie.spec difference-requires pull-requires take-off-requires returns returns-2)
+    tie.close (tie.spec (λ c κs. search needs) (λ c κs. search needs) (λ c κs. search needs) returns returns-2)

@@ -5,18 +5,9 @@ use borrow.Author.Needs.{needs}
 use Rattle.gravity_pull.proofs.pulls.pull.Statement.{statement}
 use Rattle.gravity_pull.proofs.pulls.pull.Tie as tie
 
-square-requires : tie.Need-square-requires
-square-requires c κs = search needs
-
-square-root-requires : tie.Need-square-root-requires
-square-root-requires c κs = search needs
-
-pull-by-requires : tie.Need-pull-by-requires
-pull-by-requires c κs = search needs
-
 returns : tie.Need-returns
 unfolding pullOf g sound r3
 returns c = rw (c .pull-by .ensures, c .before .square-root .ensures, c .before .before .square .ensures)
 
 pub pull-spec : {M : Type 1} → statement M
-pull-spec = tie.close (tie.spec square-requires square-root-requires pull-by-requires returns)
+pull-spec = tie.close (tie.spec (λ c κs. search needs) (λ c κs. search needs) (λ c κs. search needs) returns)

@@ -3,11 +3,8 @@ use borrow.Author.Needs.{needs}
 use Rattle.gravity_pull.proofs.pulls.pull_by.Statement.{statement}
 use Rattle.gravity_pull.proofs.pulls.pull_by.Tie as tie
 
-divides-requires : tie.Need-divides-requires
-divides-requires c κs = search needs
-
 returns : tie.Need-returns
 returns c = rw (c .divides .ensures)
 
 pub pull-by-spec : {M : Type 1} → statement M
-pull-by-spec = tie.close (tie.spec divides-requires returns)
+pull-by-spec = tie.close (tie.spec (λ c κs. search needs) returns)
