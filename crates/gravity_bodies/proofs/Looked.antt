@@ -2,10 +2,10 @@
 use mathlib.Core.Bool.{Bool, true, false, _||_, true≢false}
 use mathlib.Core.List.{List, [], _∷_}
 use mathlib.Core.Path.{_≡_, refl, sym, _∙_}
-use Prim.Native.Nat.{ℕ, zero, suc}
+use Prim.Native.Nat.{ℕ, suc}
 use lib.Ieee.{Float}
-use lib.Dec.{eqb·suc-zero}
 use native.Mathlib.Omega.{arith}
+use Rattle.base.proofs.Checks.{firstOf}
 use Rattle.base.specs.Choice.{if_then_else_, _=?_}
 use Rattle.state.specs.State.{finiteVector, used, lookedUp}
 use Rattle.book.specs.Lookup.{lookup}
@@ -17,100 +17,96 @@ use Rattle.book.specs.declared.Lookup.{Lookup}
 use Rattle.book.specs.declared.Lookup.the-variants.{Entry, Nothing}
 use Rattle.book.specs.declared.PositionAnswer.{PositionAnswer}
 use Rattle.book.specs.declared.PositionAnswer.the-variants as position
-use Rattle.sight.specs.Sky.{Listed, standing, nowhere, atRest, stands, placeOf}
-use Rattle.sight.specs.Looked.{blank, foundAt, foundBy, foundOf, orLater, refusalOf, entryOr}
+use Rattle.gravity_bodies.specs.Sky.{Listed, standing, atRest, stands, placeOf}
+use Rattle.gravity_bodies.specs.Looked.{blank, foundAt, foundBy, foundOf, refusalOf, entryOr}
 use Rattle.gravity_bodies.specs.declared.Sight.{Sight}
 
 -- ---- the three ways in which a body can be looked up
 
-pub data Looked (b : List ℕ) (number : ℕ) (m : Float) (lit : Bool) (t : ℕ) : Sight → Type 0 where
-  unlooked : lookedUp m lit ≡ false → Looked b number m lit t (blank m 0)
-  hidden : (k : ℕ) → lookedUp m lit ≡ true → stands b number t ≡ position.Refused (suc k) → Looked b number m lit t (blank m (suc k))
-  there : (M : Motion) (i : ℕ) → lookedUp m lit ≡ true → stands b number t ≡ position.At M
-      → Looked b number m lit t (record { refusal = 0; entry = i; m = m; place = standing (M .place) })
+pub data Looked (b : List ℕ) (number : ℕ) (m : Float) (forLight : Bool) (t : ℕ) : Sight → Type 0 where
+  unlooked : lookedUp m forLight ≡ false → Looked b number m forLight t (blank m 0)
+  refused-by : (k : ℕ) → lookedUp m forLight ≡ true → stands b number t ≡ position.Refused (suc k) → Looked b number m forLight t (blank m (suc k))
+  there : (M : Motion) (i : ℕ) → lookedUp m forLight ≡ true → stands b number t ≡ position.At M
+      → Looked b number m forLight t (record { refusal = 0; entry = i; m = m; place = standing (M .place) })
 
 -- what is not looked up does not pull
-pub unpulling : (m : Float) (lit : Bool) → lookedUp m lit ≡ false → used m ≡ false
-unpulling m lit = go (used m)
+pub unpulling : (m : Float) (forLight : Bool) → lookedUp m forLight ≡ false → used m ≡ false
+unpulling m forLight = go (used m)
   where
-    go : (u : Bool) → (u || lit) ≡ false → u ≡ false
+    go : (u : Bool) → (u || forLight) ≡ false → u ≡ false
     go true e = e
     go false e = refl
 
--- the Earth stands where it is seen from; another body has to be looked up
+-- the Earth is at zero; another body must be looked up
 unfoldable pub sightOf : List ℕ → ℕ → Listed → Sight
-sightOf b t body = if body .number =? 1 then blank (body .m) 0 else foundOf b (body .number) (body .m) (body .lit) t
+sightOf b t body = if body .number =? 1 then blank (body .m) 0 else foundOf b (body .number) (body .m) (body .forLight) t
 
-module _ (b : List ℕ) (number : ℕ) (m : Float) (lit : Bool) (t : ℕ) where
-  pub found : (number =? 1) ≡ false → Looked b number m lit t (foundOf b number m lit t)
+module _ (b : List ℕ) (number : ℕ) (m : Float) (forLight : Bool) (t : ℕ) where
+  pub found : (number =? 1) ≡ false → Looked b number m forLight t (foundOf b number m forLight t)
   unfolding foundOf
-  found far = go (lookedUp m lit) refl
+  found far = go (lookedUp m forLight) refl
     where
       is : {p : PositionAnswer} → bodyAt b number t ≡ p → stands b number t ≡ p
       is e = rw far e
 
-      at : lookedUp m lit ≡ true → (i : ℕ) (ok slow : Bool) → lookup b number t ≡ Entry i → finiteVector (standing (place b i t)) ≡ ok → finiteVelocity (velocity b i t) ≡ slow
-          → Looked b number m lit t (foundAt (place b i t) (finiteVelocity (velocity b i t)) i m)
+      at : lookedUp m forLight ≡ true → (i : ℕ) (ok slow : Bool) → lookup b number t ≡ Entry i → finiteVector (standing (place b i t)) ≡ ok → finiteVelocity (velocity b i t) ≡ slow
+          → Looked b number m forLight t (foundAt (place b i t) (finiteVelocity (velocity b i t)) i m)
       at u i true true l e v = rw (e, v) (there (record { place = place b i t; velocity = velocity b i t }) i u (is (at-place b number t i l e v)))
-      at u i true false l e v = rw (e, v) (hidden 6 u (is (too-fast b number t i l e v)))
-      at u i false slow l e v = rw e (hidden 6 u (is (not-finite b number t i l e)))
+      at u i true false l e v = rw (e, v) (refused-by 6 u (is (too-fast b number t i l e v)))
+      at u i false slow l e v = rw e (refused-by 6 u (is (not-finite b number t i l e)))
 
-      by : lookedUp m lit ≡ true → (l : Lookup) → lookup b number t ≡ l → Looked b number m lit t (foundBy b m t l)
-      by u Nothing e = hidden 5 u (is (no-cover b number t e))
+      by : lookedUp m forLight ≡ true → (l : Lookup) → lookup b number t ≡ l → Looked b number m forLight t (foundBy b m t l)
+      by u Nothing e = refused-by 5 u (is (no-cover b number t e))
       by u (Entry i) e = at u i (finiteVector (standing (place b i t))) (finiteVelocity (velocity b i t)) e refl refl
 
-      go : (u : Bool) → lookedUp m lit ≡ u → Looked b number m lit t (if u then foundBy b m t (lookup b number t) else blank m 0)
+      go : (u : Bool) → lookedUp m forLight ≡ u → Looked b number m forLight t (if u then foundBy b m t (lookup b number t) else blank m 0)
       go true u = by u (lookup b number t) refl
       go false u = unlooked u
 
-  pub earth : (number =? 1) ≡ true → Looked b number m lit t (blank m 0)
-  earth near = go (lookedUp m lit) refl
+  pub earth : (number =? 1) ≡ true → Looked b number m forLight t (blank m 0)
+  earth near = go (lookedUp m forLight) refl
     where
-      go : (u : Bool) → lookedUp m lit ≡ u → Looked b number m lit t (blank m 0)
+      go : (u : Bool) → lookedUp m forLight ≡ u → Looked b number m forLight t (blank m 0)
       go true u = there atRest 0 u (rw near)
       go false u = unlooked u
 
-  pub looked : Looked b number m lit t (if number =? 1 then blank m 0 else foundOf b number m lit t)
+  pub looked : Looked b number m forLight t (if number =? 1 then blank m 0 else foundOf b number m forLight t)
   looked = go (number =? 1) refl
     where
-      go : (near : Bool) → (number =? 1) ≡ near → Looked b number m lit t (if near then blank m 0 else foundOf b number m lit t)
+      go : (near : Bool) → (number =? 1) ≡ near → Looked b number m forLight t (if near then blank m 0 else foundOf b number m forLight t)
       go true near = earth near
       go false near = found near
 
-  -- where a body that is looked up is seen is where it stands
-  pub placed : lookedUp m lit ≡ true → (s : Sight) → Looked b number m lit t s → s .place ≡ placeOf (stands b number t)
+  -- a body that is looked up is seen at its position
+  pub placed : lookedUp m forLight ≡ true → (s : Sight) → Looked b number m forLight t s → s .place ≡ placeOf (stands b number t)
   placed u s (unlooked n) = let z : true ≡ false = sym u ∙ n in absurd (true≢false z)
-  placed u s (hidden k e f) = rw f
+  placed u s (refused-by k e f) = rw f
   placed u s (there M i e f) = rw f
 
 -- a used body is looked up
-pub used-looked : (m : Float) (lit : Bool) → used m ≡ true → lookedUp m lit ≡ true
-used-looked m lit u = rw u
+pub used-looked : (m : Float) (forLight : Bool) → used m ≡ true → lookedUp m forLight ≡ true
+used-looked m forLight u = rw u
 
 unfoldable pub sightsOf : List ℕ → ℕ → List Listed → List Sight
 sightsOf b t [] = []
 sightsOf b t (body ∷ rest) = sightOf b t body ∷ sightsOf b t rest
 
--- ---- what bodies that are not refused tell
+-- ---- what follows if no body is refused
 
 abbrev pub AllClear : List Sight → Type 0
 AllClear [] = Unit {0}
 AllClear (s ∷ rest) = (s .refusal ≡ 0) × AllClear rest
 
-firstClear : (k later : ℕ) → orLater k later ≡ 0 → (k ≡ 0) × (later ≡ 0)
-firstClear zero later e = (refl, e)
-firstClear (suc k) later e = let z : suc k ≡ 0 = rw eqb·suc-zero at e in absurd (omega arith)
-
 pub allClear : (ss : List Sight) → refusalOf ss ≡ 0 → AllClear ss
 unfolding refusalOf
 allClear [] e = tt
-allClear (s ∷ rest) e = let f = firstClear (s .refusal) (refusalOf rest) e in (f .0, allClear rest (f .1))
+allClear (s ∷ rest) e = let f = firstOf (s .refusal) (refusalOf rest) e in (f .0, allClear rest (f .1))
 
--- a body's guess from where it was seen is the covering entry
-pub seenEntry : (b : List ℕ) (number : ℕ) (m : Float) (lit : Bool) (t given : ℕ) → (foundOf b number m lit t) .refusal ≡ 0
-    → (if lookedUp m lit then (foundOf b number m lit t) .entry else given) ≡ (if lookedUp m lit then entryOr given (lookup b number t) else given)
+-- the new guess of a body that was seen is the covering entry
+pub seenEntry : (b : List ℕ) (number : ℕ) (m : Float) (forLight : Bool) (t given : ℕ) → (foundOf b number m forLight t) .refusal ≡ 0
+    → (if lookedUp m forLight then (foundOf b number m forLight t) .entry else given) ≡ (if lookedUp m forLight then entryOr given (lookup b number t) else given)
 unfolding foundOf
-seenEntry b number m lit t given = go (lookedUp m lit)
+seenEntry b number m forLight t given = go (lookedUp m forLight)
   where
     at : (i : ℕ) (ok slow : Bool) → finiteVector (standing (place b i t)) ≡ ok
         → foundAt (place b i t) slow i m .refusal ≡ 0 → foundAt (place b i t) slow i m .entry ≡ i

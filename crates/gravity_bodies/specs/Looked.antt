@@ -1,8 +1,9 @@
--- What the code keeps of the bodies as they were looked up, seen from the Earth.
-use mathlib.Core.Bool.{Bool, true, false}
+-- What the code keeps of the bodies looked up, seen from the Earth.
+use mathlib.Core.Bool.{Bool, false}
 use mathlib.Core.List.{List, [], _∷_}
 use Prim.Native.Nat.{ℕ}
 use lib.Ieee.{Float}
+use Rattle.base.specs.Checks.{orLater}
 use Rattle.base.specs.Choice.{if_then_else_, _=?_, _≤?_}
 use Rattle.state.specs.State.{finiteVector, used, lookedUp}
 use Rattle.state.specs.declared.Vector.{Vector}
@@ -22,7 +23,7 @@ use Rattle.gravity_bodies.specs.declared.Besides.{Besides}
 abbrev pub blank : Float → ℕ → Sight
 blank m k = record { refusal = k; entry = 0; m = m; place = nowhere }
 
--- a body that entry i puts at p, unless its position is not finite, or it is not `slow`, its velocity finite
+-- a body that entry i puts at p; it is refused if its position is not finite or its velocity is not (`slow` is false)
 abbrev pub foundAt : Place → Bool → ℕ → Float → Sight
 foundAt p slow i m =
     if finiteVector (standing p)
@@ -34,7 +35,7 @@ foundBy b m t Nothing = blank m 6
 foundBy b m t (Entry i) = foundAt (place b i t) (finiteVelocity (velocity b i t)) i m
 
 unfoldable pub foundOf : List ℕ → ℕ → Float → Bool → ℕ → Sight
-foundOf b number m lit t = if lookedUp m lit then foundBy b m t (lookup b number t) else blank m 0
+foundOf b number m forLight t = if lookedUp m forLight then foundBy b m t (lookup b number t) else blank m 0
 
 unfoldable pub foundIn : List ℕ → Setting → ℕ → Found
 foundIn b s t =
@@ -46,7 +47,7 @@ foundIn b s t =
       jupiter = foundOf b 6 (s .jupiter) false t;
     }
 
--- where the centre stands, seen from the Earth
+-- the position of the centre, seen from the Earth
 unfoldable pub placeIn : Found → ℕ → Vector
 placeIn f centre =
     if centre =? 2 then f .moon .place else
@@ -66,10 +67,7 @@ besides centre earth f =
       fifth = if centre ≤? 5 then f .jupiter else f .mars;
     }
 
--- the first refusal in rising number, 0 where there is none
-abbrev pub orLater : ℕ → ℕ → ℕ
-orLater k later = if k =? 0 then later else k
-
+-- the first refusal in rising number, 0 if there is none
 unfoldable pub refusalOf : List Sight → ℕ
 refusalOf [] = 0
 refusalOf (b ∷ rest) = orLater (b .refusal) (refusalOf rest)
@@ -77,7 +75,7 @@ refusalOf (b ∷ rest) = orLater (b .refusal) (refusalOf rest)
 unfoldable pub refusalIn : Found → ℕ
 refusalIn f = refusalOf (f .moon ∷ f .sun ∷ f .venus ∷ f .mars ∷ f .jupiter ∷ [])
 
--- the entry found, or what was given
+-- the entry found, or the guess that was given
 abbrev pub entryOr : ℕ → Lookup → ℕ
 entryOr given (Entry i) = i
 entryOr given Nothing = given

@@ -9,7 +9,7 @@ ghost use mathlib.Core.Path.{_≡_};
 ghost use Rattle.book.specs.Calm.{Ready};
 ghost use Rattle.gravity_bodies.specs.Looked.{foundAt, foundOf};
 
-// A body that an entry puts at p; `slow` where its velocity is finite.
+// A body that an entry puts at p; `slow` says whether its velocity is finite.
 fn found_at(p: Place, slow: bool, entry: usize, m: f64) -> Sight
     ensures { λ r. ⌜ r ≡ foundAt p slow entry m ⌝ }
 {
@@ -32,20 +32,21 @@ fn found_at(p: Place, slow: bool, entry: usize, m: f64) -> Sight
     blank_sight(m, 7)
 }
 
-// A body as it is looked up. `calm` is told only of a book in which no velocity can overflow.
+// Looks up a body if it pulls, or for its light (02, R-7). `calm` may be true only for a book in which no velocity
+// can overflow.
 pub fn found(
     book: &[u8],
     number: u64,
     m: f64,
-    lit: bool,
+    light: bool,
     moment: u64,
     guess: u64,
     calm: bool,
 ) -> Sight
     requires { ⌜ Ready (now book) calm ⌝ }
-    ensures { λ r. ⌜ r ≡ foundOf (now (book .entry)) number m lit moment ⌝ }
+    ensures { λ r. ⌜ r ≡ foundOf (now (book .entry)) number m light moment ⌝ }
 {
-    if state::is_looked_up(m, lit) {
+    if state::is_looked_up(m, light) {
         let Lookup::Entry(entry) = book::inner::lookup_guessed(book, number, moment, guess as usize)
         else {
             return blank_sight(m, 6);

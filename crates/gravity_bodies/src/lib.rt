@@ -1,13 +1,14 @@
-// The bodies at a moment, as they are looked up, seen from the Earth.
+// The bodies looked up at a moment, seen from the Earth.
 
 pub mod inner;
 
 use state::Vector;
 ghost use mathlib.Core.Path.{_≡_};
 ghost use Rattle.base.specs.Choice.{if_then_else_};
-ghost use Rattle.sight.specs.Looked.{blank, orLater, refusalIn, placeIn, besides};
+ghost use Rattle.gravity_bodies.specs.Looked.{blank, refusalIn, placeIn, besides};
+ghost use Rattle.base.specs.Checks.{orLater};
 
-// One body at a moment, as it is looked up: refused by a number, or where it stands, seen from the Earth.
+// One body looked up at a moment: a refusal number, or its position seen from the Earth.
 pub struct Sight {
     pub refusal: u64,
     pub entry: usize,
@@ -32,7 +33,7 @@ pub struct Besides {
     pub fifth: Sight,
 }
 
-// A body of which nothing is known; and the Earth, which stands where it is seen from.
+// A body about which nothing is known; and the Earth, whose position is zero.
 pub fn blank_sight(m: f64, refusal: u64) -> Sight
     ensures { λ r. ⌜ r ≡ blank m refusal ⌝ }
 {
@@ -55,7 +56,7 @@ fn or_later(k: u64, later: u64) -> u64
     if k == 0 { later } else { k }
 }
 
-// The number of the first body refused, 0 where there is none.
+// The number of the first body refused, 0 if there is none.
 pub fn refusal_of(bodies: Found) -> u64
     ensures { λ r. ⌜ r ≡ refusalIn bodies ⌝ }
 {
@@ -71,7 +72,7 @@ pub fn refusal_of(bodies: Found) -> u64
     )
 }
 
-// Where the centre stands, seen from the Earth.
+// The position of the centre, seen from the Earth.
 pub fn centre_place(centre: u64, bodies: Found) -> Vector
     ensures { λ r. ⌜ r ≡ placeIn bodies centre ⌝ }
 {
