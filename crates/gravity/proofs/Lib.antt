@@ -1,5 +1,7 @@
+pub mod SoFar
+pub mod Finite
 pub mod Under
+pub mod Places
 pub mod OneAnswer
 pub mod Refused
 pub mod Centres
-pub mod Checks

@@ -3,31 +3,31 @@ use mathlib.Core.Bool.{Bool, true, false, _&&_, _||_, and-true, and-assoc}
 use mathlib.Core.List.{List, [], _∷_}
 use mathlib.Core.Path.{_≡_, refl, sym, ap, _∙_}
 use Prim.Native.Nat.{ℕ, zero, suc}
-use lib.Ieee.{Float}
 use lib.Dec.{eqb·suc-zero}
 use borrow.Author.Tests.{ne-eqb}
 use native.Mathlib.Omega.{arith}
+use Rattle.base.specs.Checks.{orLater}
 use Rattle.base.specs.Choice.{if_then_else_, _=?_}
-use Rattle.state.specs.State.{finiteVector, used, coefficientOf, centreAllowed}
+use Rattle.state.specs.State.{used, coefficientOf, centreAllowed}
 use Rattle.state.specs.declared.Vector.{Vector}
 use Rattle.state.specs.declared.Setting.{Setting}
 use Rattle.book.specs.declared.Motion.{Motion}
 use Rattle.book.specs.declared.PositionAnswer.the-variants as position
 use Rattle.gravity_pull.specs.Pull.{plus, minus, negated, g, sound}
-use Rattle.terms.specs.Terms.{lastTerms, lastSound}
+use Rattle.gravity_terms.specs.Terms.{soundIf, lastTerms, lastSound}
 use Rattle.gravity_pull.specs.Sum.{pullOf, takenOff, lessBy, lessAll, vectorOf, startBy}
 use Rattle.gravity_terms.specs.Added.{oblateBy, sunlitBy}
 use Rattle.gravity_pull.specs.declared.Pull.{Pull}
 use Rattle.gravity_pull.specs.declared.Other.{Other}
-use Rattle.sight.specs.Sky.{Sky, Bodies, Hidden, Listed, bodiesOf, standing, nowhere, stands, placeOf, seen, skyOf, sky}
-use Rattle.sight.specs.Looked.{foundOf, foundIn, placeIn, besides, orLater, refusalOf, refusalIn}
+use Rattle.gravity_bodies.specs.Sky.{Sky, Bodies, Refusal, Listed, bodiesOf, standing, nowhere, stands, placeOf, seen, skyOf, sky}
+use Rattle.gravity_bodies.specs.Looked.{foundOf, foundIn, placeIn, besides, refusalOf, refusalIn}
 use Rattle.gravity_bodies.specs.declared.Sight.{Sight}
-use Rattle.sight.proofs.Looked.{Looked, unlooked, hidden, there, unpulling, sightOf, sightsOf, found, looked, placed, used-looked}
+use Rattle.gravity_bodies.proofs.Looked.{Looked, unlooked, refused-by, there, unpulling, sightOf, sightsOf, found, looked, placed, used-looked}
 pub use Rattle.gravity_bodies.proofs.Looked.{allClear, seenEntry}
-use Rattle.gravity.specs.Acceleration.{others, fromCentre, less, allSound, settled, finished, accelerationAt}
+use Rattle.gravity.specs.Acceleration.{others, less, allSound, settled, accelerationAt}
+use Rattle.gravity.proofs.SoFar.{fromCentre, finished, whole-rule}
 use Rattle.gravity.specs.Sight.{otherOf, othersOf, sights, listed, settledBy, finishedBy, accelerationBy}
 use Rattle.gravity.proofs.Centres.{One, one, two, three, four, five, six, centreOne}
-use Rattle.gravity.specs.declared.AccelerationAnswer.{AccelerationAnswer}
 use Rattle.gravity.specs.declared.AccelerationAnswer.the-variants.{Is, Refused}
 use Rattle.gravity.specs.declared.Sights.{Sights}
 
@@ -57,12 +57,15 @@ lessUnused P sum C s u = rw (u, u)
 -- the last terms are R-7's
 lastIs : (st : Setting) (home sun P : Vector) (sum : Pull)
     → settledBy (sunlitBy st sun P (oblateBy st home P sum))
-    ≡ settled (lastSound st (minus P home) (minus P sun) (sum .sound)) (lastTerms st (minus P home) (minus P sun) (vectorOf sum))
+    ≡ settled (sum .sound && lastSound st (minus P home) (minus P sun)) (lastTerms st (minus P home) (minus P sun) (vectorOf sum))
 unfolding oblateBy sunlitBy
-lastIs st home sun P sum = refl
+lastIs st home sun P sum =
+    let Q = minus P home in
+    let S = minus P sun in
+    ap (λ (ok : Bool). settled ok (lastTerms st Q S (vectorOf sum))) (and-assoc (sum .sound) (soundIf (used (st .j)) Q) (soundIf (used (st .k)) S))
 
 module _ (st : Setting) (Q S P : Vector) (centre : ℕ) (C : Vector) (body : Listed) (M : Motion) where
-  -- a body that is there: the rest goes on from the sum with this body taken off,
+  -- a body that is there: the rest continues from the sum minus this body,
   onward : (ok : Bool) (a : Vector) (later : Sky) → (body .number =? centre) ≡ false → used (body .m) ≡ true
       → finished st Q S P ok a (fromCentre centre C (seen body (position.At M) later))
       ≡ finished st Q S P ((ok && sound (minus P (minus (standing (M .place)) C))) && sound (minus (standing (M .place)) C))
@@ -73,22 +76,22 @@ module _ (st : Setting) (Q S P : Vector) (centre : ℕ) (C : Vector) (body : Lis
       let B = sound R in
       let bs' = others centre C bs in
       rw (far, u)
-      (ap (λ (t : Bool). settled (lastSound st Q S t) (lastTerms st Q S (less P (minus a (plus (g (minus P R) (body .m)) (g R (body .m)))) bs')))
+      (ap (λ (t : Bool). settled (t && lastSound st Q S) (lastTerms st Q S (less P (minus a (plus (g (minus P R) (body .m)) (g R (body .m)))) bs')))
       (sym (and-assoc ok (A && B) (allSound P bs')) ∙ ap (λ (t : Bool). t && allSound P bs') (sym (and-assoc ok A B))))
-  onward ok a (Hidden k) far u = refl
+  onward ok a (Refusal k) far u = refl
 
   -- unless it is the centre, or does not pull
   itself : (ok : Bool) (a : Vector) (later : Sky) → (body .number =? centre) ≡ true
       → finished st Q S P ok a (fromCentre centre C (seen body (position.At M) later)) ≡ finished st Q S P ok a (fromCentre centre C later)
   itself ok a (Bodies bs) near = rw near
-  itself ok a (Hidden k) near = refl
+  itself ok a (Refusal k) near = refl
 
   lit-alone : (ok : Bool) (a : Vector) (later : Sky) → (body .number =? centre) ≡ false → used (body .m) ≡ false
       → finished st Q S P ok a (fromCentre centre C (seen body (position.At M) later)) ≡ finished st Q S P ok a (fromCentre centre C later)
   lit-alone ok a (Bodies bs) far u = rw (far, u)
-  lit-alone ok a (Hidden k) far u = refl
+  lit-alone ok a (Refusal k) far u = refl
 
--- the bodies beside the centre, as the code sees them
+-- the bodies other than the centre, as the code sees them
 othersBy : List ℕ → ℕ → ℕ → Vector → List Listed → List Other
 othersBy b t centre C [] = []
 othersBy b t centre C (body ∷ rest) =
@@ -100,7 +103,7 @@ module _ (b : List ℕ) (st : Setting) (t : ℕ) (P home sun : Vector) (centre :
       finishedBy st home sun P sum (refusalOf (sightsOf b t bodies)) (othersBy b t centre C bodies)
       ≡ finished st (minus P home) (minus P sun) P (sum .sound) (vectorOf sum) (fromCentre centre C (skyOf b t bodies))
 
-  -- a body and those after it, where those after it are known to agree
+  -- a body and those after it, if those after it are known to agree
   module _ (body : Listed) (rest : List Listed) (later : (s : Pull) → Agree rest s) where
     skipped : (sum : Pull) (s : Sight) → used (s .m) ≡ false
         → finishedBy st home sun P sum (refusalOf (sightsOf b t rest)) (otherOf C s ∷ othersBy b t centre C rest)
@@ -110,14 +113,14 @@ module _ (b : List ℕ) (st : Setting) (t : ℕ) (P home sun : Vector) (centre :
         ap (λ (p : Pull). finishedBy st home sun P p (refusalOf (sightsOf b t rest)) (othersBy b t centre C rest)) (lessUnused P sum C s u) ∙ later sum
 
     oneMore : (near pulls : Bool) → (body .number =? centre) ≡ near → used (body .m) ≡ pulls → (sum : Pull) (s : Sight)
-        → Looked b (body .number) (body .m) (body .lit) t s
+        → Looked b (body .number) (body .m) (body .forLight) t s
         → finishedBy st home sun P sum (orLater (s .refusal) (refusalOf (sightsOf b t rest)))
         (if near then othersBy b t centre C rest else otherOf C s ∷ othersBy b t centre C rest)
         ≡ finished st (minus P home) (minus P sun) P (sum .sound) (vectorOf sum) (fromCentre centre C (skyOf b t (body ∷ rest)))
     unfolding Agree pullOf
     oneMore true pulls near m sum s (unlooked u) = rw u (later sum)
-    oneMore false pulls near m sum s (unlooked u) = rw u (skipped sum s (unpulling (body .m) (body .lit) u))
-    oneMore near pulls far m sum s (hidden k u e) = rw (u, e, eqb·suc-zero, eqb·suc-zero)
+    oneMore false pulls near m sum s (unlooked u) = rw u (skipped sum s (unpulling (body .m) (body .forLight) u))
+    oneMore near pulls far m sum s (refused-by k u e) = rw (u, e, eqb·suc-zero, eqb·suc-zero)
     oneMore true pulls near m sum s (there M i u e) =
         rw (u, e) (later sum ∙ sym (itself st (minus P home) (minus P sun) P centre C body M (sum .sound) (vectorOf sum) (skyOf b t rest) near))
     oneMore false false near m sum s (there M i u e) =
@@ -133,16 +136,16 @@ module _ (b : List ℕ) (st : Setting) (t : ℕ) (P home sun : Vector) (centre :
   unfolding Agree refusalOf sightsOf othersBy sightOf
   byList [] sum =
       lastIs st home sun P sum
-      ∙ ap (λ (ok : Bool). settled (lastSound st (minus P home) (minus P sun) ok) (lastTerms st (minus P home) (minus P sun) (vectorOf sum))) (sym (and-true (sum .sound)))
+      ∙ ap (λ (ok : Bool). settled (ok && lastSound st (minus P home) (minus P sun)) (lastTerms st (minus P home) (minus P sun) (vectorOf sum))) (sym (and-true (sum .sound)))
   byList (body ∷ rest) sum =
-      oneMore body rest (byList rest) (body .number =? centre) (used (body .m)) refl refl sum _ (looked b (body .number) (body .m) (body .lit) t)
+      oneMore body rest (byList rest) (body .number =? centre) (used (body .m)) refl refl sum _ (looked b (body .number) (body .m) (body .forLight) t)
 
 -- ---- about each of the six centres
 
--- where the Sun does not shine, it does not matter where it stands
+-- if the Sun does not shine, its position does not matter
 unlit : (st : Setting) (Q S S′ P : Vector) (ok : Bool) (a : Vector) (bodies : Sky) → used (st .k) ≡ false → finished st Q S P ok a bodies ≡ finished st Q S′ P ok a bodies
 unlit st Q S S′ P ok a (Bodies bodies) u = rw u
-unlit st Q S S′ P ok a (Hidden k) u = refl
+unlit st Q S S′ P ok a (Refusal k) u = refl
 
 module _ (b : List ℕ) (s : Setting) (t : ℕ) (P : Vector) where
   -- the Sun as it is seen
@@ -165,33 +168,34 @@ module _ (b : List ℕ) (s : Setting) (t : ℕ) (P : Vector) where
           any false = refl
       go false u = unlit s Q _ _ P ok a bodies u
 
-  about : (c : ℕ) (own : Float) → placeIn (foundIn b s t) c ≡ placeOf (stands b c t)
-      → finishedBy s (minus nowhere (placeIn (foundIn b s t) c)) (minus sunAt (placeIn (foundIn b s t) c)) P (startBy P own)
+  about : (c : ℕ) → placeIn (foundIn b s t) c ≡ placeOf (stands b c t)
+      → finishedBy s (minus nowhere (placeIn (foundIn b s t) c)) (minus sunAt (placeIn (foundIn b s t) c)) P (startBy P (coefficientOf s c))
       (refusalOf (sightsOf b t (bodiesOf s))) (othersBy b t c (placeIn (foundIn b s t) c) (bodiesOf s))
-      ≡ (let C = placeOf (stands b c t) in
-      finished s (minus P (minus nowhere C)) (minus P (minus (placeOf (stands b 3 t)) C)) P (sound P) (negated (g P own)) (fromCentre c C (skyOf b t (bodiesOf s))))
-  unfolding Agree pullOf
-  about c own e =
+      ≡ accelerationAt b s c t P
+  unfolding Agree pullOf accelerationAt sky
+  about c e =
       let C = placeIn (foundIn b s t) c in
-      byList b s t P (minus nowhere C) (minus sunAt C) c C (bodiesOf s) (startBy P own)
-      ∙ sunStands (minus P (minus nowhere C)) C (sound P) (negated (g P own)) (fromCentre c C (skyOf b t (bodiesOf s)))
-      ∙ ap (λ (C : Vector).
-      finished s (minus P (minus nowhere C)) (minus P (minus (placeOf (stands b 3 t)) C)) P (sound P) (negated (g P own)) (fromCentre c C (skyOf b t (bodiesOf s))))
-      e
+      let sun = placeOf (stands b 3 t) in
+      let start = negated (g P (coefficientOf s c)) in
+      let sky = skyOf b t (bodiesOf s) in
+      byList b s t P (minus nowhere C) (minus sunAt C) c C (bodiesOf s) (startBy P (coefficientOf s c))
+      ∙ sunStands (minus P (minus nowhere C)) C (sound P) start (fromCentre c C sky)
+      ∙ ap (λ (C : Vector). finished s (minus P (minus nowhere C)) (minus P (minus sun C)) P (sound P) start (fromCentre c C sky)) e
+      ∙ whole-rule s c (placeOf (stands b c t)) sun P sky
 
   pub underIs : (c : ℕ) → centreAllowed s c ≡ true → accelerationBy (sights b s c t) s P ≡ accelerationAt b s c t P
   unfolding accelerationBy sights accelerationAt sky sightsOf othersBy sightOf refusalIn foundIn besides othersOf placeIn coefficientOf centreAllowed refusalOf sunAt
   underIs c ok = go c (centreOne s c ok) ok
     where
       go : (c : ℕ) → One c → centreAllowed s c ≡ true → accelerationBy (sights b s c t) s P ≡ accelerationAt b s c t P
-      go c one u = about 1 (s .earth) refl
-      go c two u = about 2 (s .moon) (placed b 2 (s .moon) false t (used-looked _ _ u) _ (found b 2 (s .moon) false t refl))
-      go c three u = about 3 (s .sun) (placed b 3 (s .sun) (used (s .k)) t (used-looked _ _ u) _ (found b 3 (s .sun) (used (s .k)) t refl))
-      go c four u = about 4 (s .venus) (placed b 4 (s .venus) false t (used-looked _ _ u) _ (found b 4 (s .venus) false t refl))
-      go c five u = about 5 (s .mars) (placed b 5 (s .mars) false t (used-looked _ _ u) _ (found b 5 (s .mars) false t refl))
-      go c six u = about 6 (s .jupiter) (placed b 6 (s .jupiter) false t (used-looked _ _ u) _ (found b 6 (s .jupiter) false t refl))
+      go c one u = about 1 refl
+      go c two u = about 2 (placed b 2 (s .moon) false t (used-looked _ _ u) _ (found b 2 (s .moon) false t refl))
+      go c three u = about 3 (placed b 3 (s .sun) (used (s .k)) t (used-looked _ _ u) _ (found b 3 (s .sun) (used (s .k)) t refl))
+      go c four u = about 4 (placed b 4 (s .venus) false t (used-looked _ _ u) _ (found b 4 (s .venus) false t refl))
+      go c five u = about 5 (placed b 5 (s .mars) false t (used-looked _ _ u) _ (found b 5 (s .mars) false t refl))
+      go c six u = about 6 (placed b 6 (s .jupiter) false t (used-looked _ _ u) _ (found b 6 (s .jupiter) false t refl))
 
--- ---- what an accepted acceleration tells of the bodies
+-- ---- what follows for the bodies if an acceleration is accepted
 
 pub isClear : (s : Sights) (setting : Setting) (P a : Vector) → accelerationBy s setting P ≡ Is a → s .refusal ≡ 0
 unfolding accelerationBy

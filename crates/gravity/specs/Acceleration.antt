@@ -1,21 +1,25 @@
--- Document 01, "Setting, state, acceleration", and document 02, R-6 and R-7: the acceleration that the bodies looked up give about a centre, with an oblate Earth and sunlight.
+-- Document 01, "Setting, state, acceleration", and document 02, R-6 and R-7: the acceleration about a centre by the bodies looked up, with
+-- an oblate Earth and sunlight.
 use mathlib.Core.Bool.{Bool, true, not, _&&_}
 use mathlib.Core.List.{List, [], _∷_}
 use Prim.Native.Nat.{ℕ}
+use lib.Ieee.{Float}
 use Rattle.base.specs.Choice.{if_then_else_, _=?_}
 use Rattle.base.specs.Limits.{isMoment}
-use Rattle.state.specs.State.{finiteVector, used, settingAllowed, coefficientOf, centreAllowed}
+use Rattle.state.specs.State.{finiteVector, used, coefficientOf, centreAllowed}
 use Rattle.state.specs.declared.Vector.{Vector}
 use Rattle.state.specs.declared.Setting.{Setting}
-use Rattle.book.specs.Passes.{passes}
+use Rattle.state_checks.specs.Common.{commonRefusal}
 use Rattle.gravity_pull.specs.Pull.{plus, minus, negated, g, sound}
 pub use Rattle.gravity_terms.specs.Terms.{lastTerms, lastSound}
-pub use Rattle.sight.specs.Sky.{Body, Sky, Bodies, Hidden, Listed, standing, nowhere, atRest, stands, seen, skyOf, placeOf}
+pub use Rattle.gravity_bodies.specs.Sky.{Body, Sky, Bodies, Refusal, Listed, standing, nowhere, atRest, stands, seen, skyOf, placeOf}
 unfoldable pub use Rattle.gravity_bodies.specs.Sky.{sky}
 use Rattle.gravity.specs.declared.AccelerationAnswer.{AccelerationAnswer}
 use Rattle.gravity.specs.declared.AccelerationAnswer.the-variants as answer
 
--- "every other used body, the Earth included, in rising number, at its position less the centre's": C is where the centre stands
+-- ---- what is seen from the centre
+
+-- "every other used body, the Earth included, in rising number, at its position less the centre's": C is the position of the centre
 abbrev pub others : ℕ → Vector → List Body → List Body
 others centre C [] = []
 others centre C (body ∷ rest) =
@@ -23,47 +27,58 @@ others centre C (body ∷ rest) =
     if not (used (body .m)) then others centre C rest else
     record { number = body .number; m = body .m; R = minus (body .R) C } ∷ others centre C rest
 
-abbrev pub fromCentre : ℕ → Vector → Sky → Sky
-fromCentre centre C (Bodies bodies) = Bodies (others centre C bodies)
-fromCentre centre C (Hidden k) = Hidden k
+-- the coefficient of the centre, the other used bodies, and the positions of the Earth and the Sun, all seen from the centre
+pub record View : Type 0 where
+  pub m : Float
+  pub bodies : List Body
+  pub earth : Vector
+  pub sun : Vector
 
--- the bodies beside the centre, seen from it
-abbrev pub skyAbout : List ℕ → Setting → ℕ → ℕ → Sky
-skyAbout b s centre t = fromCentre centre (placeOf (stands b centre t)) (sky b s t)
+-- the same for a centre at C and the Sun at `sun`, both seen from the Earth: "(the Earth's is zero)"
+abbrev pub viewFrom : Setting → ℕ → Vector → Vector → List Body → View
+viewFrom s centre C sun bodies =
+    record { m = coefficientOf s centre; bodies = others centre C bodies; earth = minus nowhere C; sun = minus sun C }
+
+-- ---- the rule
 
 -- "For each used body .. at R: subtract, component by component, g(P - R, m) + g(R, m)"
 abbrev pub less : Vector → Vector → List Body → Vector
 less P a [] = a
 less P a (body ∷ rest) = less P (minus a (plus (g (minus P (body .R)) (body .m)) (g (body .R) (body .m)))) rest
 
--- every n and r3 on the way is as it must be
+-- every n and r3 of these bodies is allowed
 abbrev pub allSound : Vector → List Body → Bool
 allSound P [] = true
 allSound P (body ∷ rest) = sound (minus P (body .R)) && sound (body .R) && allSound P rest
 
--- "or a final component is not finite"
+-- "refused with 7 if some n is not finite, some r3 is zero or not finite, or a final component is not finite"
 abbrev pub settled : Bool → Vector → AccelerationAnswer
 settled ok a = if ok && finiteVector a then answer.Is a else answer.Refused 7
 
--- the sum a, found sound so far, with these bodies still to come, and then the last terms at Q from the Earth and S from the Sun
-abbrev pub finished : Setting → Vector → Vector → Vector → Bool → Vector → Sky → AccelerationAnswer
-finished s Q S P ok a (Bodies bodies) = settled (lastSound s Q S (ok && allSound P bodies)) (lastTerms s Q S (less P a bodies))
-finished s Q S P ok a (Hidden k) = answer.Refused k
+-- "Acceleration at position P: start with -g(P, Earth)", or (R-6) "the centre's own pull"; "for each used body .. subtract". Then (R-7) the
+-- last terms, "after all others", at Q from the Earth and S from the Sun.
+abbrev pub rule : Setting → View → Vector → AccelerationAnswer
+rule s view P =
+    let Q = minus P (view .earth) in
+    let S = minus P (view .sun) in
+    let own = negated (g P (view .m)) in
+    let under = less P own (view .bodies) in
+    let final = lastTerms s Q S under in
+    settled (sound P && allSound P (view .bodies) && lastSound s Q S) final
 
--- "Acceleration at position P: start with -g(P, Earth)", and document 02, R-6: "the centre's own pull", then every other used body; R-7: the
--- Earth stands at 0 - C from the centre, and the Sun at its position less C
+-- "These bodies are looked up in rising number first": the first refusal is the answer, 6 or 7
+abbrev pub seenThen : (List Body → AccelerationAnswer) → Sky → AccelerationAnswer
+seenThen f (Bodies bodies) = f bodies
+seenThen f (Refusal k) = answer.Refused k
+
 unfoldable pub accelerationAt : List ℕ → Setting → ℕ → ℕ → Vector → AccelerationAnswer
 accelerationAt b s centre t P =
     let C = placeOf (stands b centre t) in
-    finished s (minus P (minus nowhere C)) (minus P (minus (placeOf (stands b 3 t)) C)) P (sound P) (negated (g P (coefficientOf s centre)))
-    (skyAbout b s centre t)
+    let sun = placeOf (stands b 3 t) in
+    seenThen (λ bodies. rule s (viewFrom s centre C sun bodies) P) (sky b s t)
 
 -- "Acceleration: 1, 4, 3, 7 (position), then its own rule"; R-6: 14 "directly after 4"
 unfoldable pub accelerationAnswer : List ℕ → Setting → ℕ → ℕ → Vector → AccelerationAnswer
 accelerationAnswer b s centre t P =
-    if not (passes b) then answer.Refused 1 else
-    if not (settingAllowed s) then answer.Refused 4 else
-    if not (centreAllowed s centre) then answer.Refused 14 else
-    if not (isMoment t) then answer.Refused 3 else
-    if not (finiteVector P) then answer.Refused 7 else
-    accelerationAt b s centre t P
+    let k = commonRefusal b s (centreAllowed s centre) (isMoment t) (finiteVector P) in
+    if k =? 0 then accelerationAt b s centre t P else answer.Refused k

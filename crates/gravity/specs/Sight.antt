@@ -1,4 +1,4 @@
--- What the code keeps of a moment about a centre: the bodies beside the centre, each with its pull on the centre worked out once.
+-- What the code keeps for a moment about a centre: the other bodies, each with its pull on the centre, computed once.
 use mathlib.Core.List.{List, [], _∷_}
 use Prim.Native.Nat.{ℕ}
 use lib.Ieee.{Float}
@@ -7,7 +7,8 @@ use Rattle.state.specs.State.{used, coefficientOf}
 use Rattle.state.specs.declared.Vector.{Vector}
 use Rattle.state.specs.declared.Setting.{Setting}
 use Rattle.gravity_pull.specs.Pull.{minus}
-use Rattle.pull.specs.Sum.{pullOf, noPull, lessAll, startBy, vectorOf}
+use Rattle.gravity_pull.specs.Sum.{pullOf, noPull, lessAll, startBy, vectorOf, nearRoots}
+use Rattle.root.specs.declared.ThreeRoots.{ThreeRoots}
 use Rattle.gravity_terms.specs.Added.{oblateBy, sunlitBy}
 use Rattle.gravity_pull.specs.declared.Pull.{Pull}
 use Rattle.gravity_pull.specs.declared.Other.{Other}
@@ -25,7 +26,7 @@ use Rattle.gravity.specs.declared.Others.{Others}
 use Rattle.gravity.specs.declared.Guesses.{Guesses}
 use Rattle.gravity.specs.declared.Sights.{Sights}
 
--- a body seen from the centre, with its pull on it where it is used
+-- a body seen from the centre; if it is used, with its pull on the centre
 abbrev pub otherBy : Vector → Float → Pull → Other
 otherBy R m pull = if used m then record { m = m; place = R; pull = pull } else record { m = m; place = R; pull = noPull }
 
@@ -41,6 +42,10 @@ othersOf C s =
       fourth = otherOf C (s .fourth);
       fifth = otherOf C (s .fifth);
     }
+
+-- the roots that the centre and the first two bodies beside it ask for at P
+abbrev pub rootsAt : Vector → Others → ThreeRoots
+rootsAt P o = nearRoots P (o .first .place) (o .second .place)
 
 abbrev pub entriesOf : Found → Guesses
 entriesOf f = record { moon = f .moon .entry; sun = f .sun .entry; venus = f .venus .entry; mars = f .mars .entry; jupiter = f .jupiter .entry }

@@ -1,17 +1,12 @@
-// The bodies at a moment about a centre, and the acceleration under them. These functions are for a book that is known to pass:
-// the crates above call them once they have checked it.
+// The bodies at a moment about a centre, and the acceleration that they give. These functions require a book that
+// passes: the crates above check the book first.
 
 use crate::AccelerationAnswer;
 use crate::Guesses;
 use crate::Others;
+use crate::OthersSeen;
+use crate::Seen;
 use crate::Sights;
-use pull::Other;
-use pull::Pull;
-pub use pull::pulls::difference;
-use pull::pulls::less;
-use pull::pulls::near_sum;
-use pull::pulls::pull;
-use pull::pulls::two_pulls;
 use gravity_bodies::Besides;
 use gravity_bodies::Found;
 use gravity_bodies::Sight;
@@ -20,18 +15,29 @@ use gravity_bodies::blank_sight;
 use gravity_bodies::centre_place;
 use gravity_bodies::inner::found;
 use gravity_bodies::refusal_of;
+use gravity_pull::Other;
+use gravity_pull::Pull;
+pub use gravity_pull::pulls::difference;
+use gravity_pull::pulls::far_pulls;
+use gravity_pull::pulls::less;
+use gravity_pull::pulls::near_sum;
+use gravity_pull::pulls::near_sum_by;
+use gravity_pull::pulls::pull;
+use gravity_terms::inner::oblate_sum;
+use gravity_terms::inner::sunlit_sum;
+use root::ThreeRoots;
 use state::Setting;
 use state::Vector;
-use terms::oblate_sum;
-use terms::sunlit_sum;
 ghost use mathlib.Core.Bool.{true};
 ghost use mathlib.Core.Path.{_≡_};
 ghost use Rattle.state.specs.State.{centreAllowed};
 ghost use Rattle.book.specs.Passes.{passes};
 ghost use Rattle.book.specs.Calm.{Ready};
 ghost use Rattle.gravity.specs.Acceleration.{accelerationAt};
+ghost use Rattle.gravity_pull.specs.Pull.{minus};
+ghost use Rattle.gravity_pull.specs.Sum.{nearRoots};
 ghost use Rattle.gravity_bodies.specs.Looked.{foundIn};
-ghost use Rattle.gravity.specs.Sight.{otherBy, otherOf, othersOf, entriesOf, sights, settledBy, accelerationBy};
+ghost use Rattle.gravity.specs.Sight.{otherBy, otherOf, othersOf, rootsAt, entriesOf, sights, settledBy, accelerationBy};
 
 fn found_in(book: &[u8], setting: Setting, moment: u64, guesses: Guesses, calm: bool) -> Found
     requires { ⌜ Ready (now book) calm ⌝ }
@@ -60,7 +66,7 @@ fn found_in(book: &[u8], setting: Setting, moment: u64, guesses: Guesses, calm: 
     }
 }
 
-// A body that pulls the centre by so much, if it is used.
+// A body with its pull on the centre, if it is used.
 fn other_by(place: Vector, m: f64, by: Pull) -> Other
     ensures { λ r. ⌜ r ≡ otherBy place m by ⌝ }
 {
@@ -92,30 +98,32 @@ fn other(c: Vector, b: Sight) -> Other
     other_by(place, b.m, none)
 }
 
-// The bodies' pulls on the centre are worked out here, once for the moment: those of the first two, which are almost always
-// used, side by side.
-fn seen_from(c: Vector, bodies: Besides) -> Others
-    ensures { λ r. ⌜ r ≡ othersOf c bodies ⌝ }
+// The pulls of the bodies on the centre are computed here, once for the moment. The first two bodies are almost always
+// used, so theirs are computed side by side, and with them the roots for a first position p.
+fn seen_from(c: Vector, bodies: Besides, p: Vector) -> OthersSeen
+    ensures { λ r. ⌜ (r .others ≡ othersOf c bodies) × (r .roots ≡ nearRoots p (minus (bodies .first .place) c) (minus (bodies .second .place) c)) ⌝ }
 {
     let a = bodies.first;
     let b = bodies.second;
     let a_place = difference(a.place, c);
     let b_place = difference(b.place, c);
-    let pulls = two_pulls(a_place, a.m, b_place, b.m);
+    let pulls = far_pulls(p, a_place, a.m, b_place, b.m);
     let by_a = pulls.first;
     let by_b = pulls.second;
+    let roots = pulls.roots;
     let first = other_by(a_place, a.m, by_a);
     let second = other_by(b_place, b.m, by_b);
     let third = other(c, bodies.third);
     let fourth = other(c, bodies.fourth);
     let fifth = other(c, bodies.fifth);
-    Others {
+    let others = Others {
         first,
         second,
         third,
         fourth,
         fifth,
-    }
+    };
+    OthersSeen { others, roots }
 }
 
 fn entries_of(bodies: Found) -> Guesses
@@ -135,29 +143,37 @@ fn entries_of(bodies: Found) -> Guesses
     }
 }
 
-pub fn sights_at(
+// The bodies at a moment, and the roots that a first position p there asks for.
+pub fn seen_at(
     book: &[u8],
     setting: Setting,
     centre: u64,
     moment: u64,
     guesses: Guesses,
     calm: bool,
-) -> Sights
+    p: Vector,
+) -> Seen
     requires { ⌜ Ready (now book) calm ⌝ }
-    ensures { λ r. ⌜ r ≡ sights (now (book .entry)) setting centre moment ⌝ }
+    ensures { λ r. ⌜ (r .bodies ≡ sights (now (book .entry)) setting centre moment) × (r .roots ≡ rootsAt p (r .bodies .others)) ⌝ }
 {
     let bodies = found_in(book, setting, moment, guesses, calm);
     let earth = blank_sight(setting.earth, 0);
     let c = centre_place(centre, bodies);
-    let others = seen_from(c, beside(centre, earth, bodies));
+    let seen = seen_from(c, beside(centre, earth, bodies), p);
+    let others = seen.others;
+    let roots = seen.roots;
     let sun = bodies.sun;
-    Sights {
+    let kept = Sights {
         refusal: refusal_of(bodies),
         entries: entries_of(bodies),
         own: state::coefficient_of(setting, centre),
         home: difference(earth.place, c),
         sun: difference(sun.place, c),
         others,
+    };
+    Seen {
+        bodies: kept,
+        roots,
     }
 }
 
@@ -187,15 +203,44 @@ pub fn acceleration_under(bodies: Sights, setting: Setting, p: Vector) -> Accele
         let third = others.third;
         let fourth = others.fourth;
         let fifth = others.fifth;
-        let sum = near_sum(p, bodies.own, first, second);
+        let near = near_sum(p, bodies.own, first, second);
+        let sum = near.sum;
+        let known = near.known;
         let all = less(p, less(p, less(p, sum, third), fourth), fifth);
-        let with_earth = oblate_sum(setting, bodies.home, p, all);
-        return settle(sunlit_sum(setting, bodies.sun, p, with_earth));
+        let with_earth = oblate_sum(setting, bodies.home, p, all, known);
+        return settle(sunlit_sum(setting, bodies.sun, p, with_earth, known));
     }
     AccelerationAnswer::Refused(bodies.refusal)
 }
 
-// The rule itself, in a book that is known to pass, about a centre that is known to be one.
+// The same, if the roots for the position are known.
+pub fn acceleration_by(
+    bodies: Sights,
+    setting: Setting,
+    p: Vector,
+    roots: ThreeRoots,
+) -> AccelerationAnswer
+    requires { ⌜ roots ≡ rootsAt p (bodies .others) ⌝ }
+    ensures { λ r. ⌜ r ≡ accelerationBy bodies setting p ⌝ }
+{
+    if bodies.refusal == 0 {
+        let others = bodies.others;
+        let first = others.first;
+        let second = others.second;
+        let third = others.third;
+        let fourth = others.fourth;
+        let fifth = others.fifth;
+        let near = near_sum_by(p, bodies.own, first, second, roots);
+        let sum = near.sum;
+        let known = near.known;
+        let all = less(p, less(p, less(p, sum, third), fourth), fifth);
+        let with_earth = oblate_sum(setting, bodies.home, p, all, known);
+        return settle(sunlit_sum(setting, bodies.sun, p, with_earth, known));
+    }
+    AccelerationAnswer::Refused(bodies.refusal)
+}
+
+// The rule itself. The book is known to pass, and the centre is known to be a used body.
 pub fn rule(
     book: &[u8],
     setting: Setting,
@@ -213,6 +258,8 @@ pub fn rule(
         mars: 0,
         jupiter: 0,
     };
-    let bodies = sights_at(book, setting, centre, moment, g, false);
-    acceleration_under(bodies, setting, position)
+    let seen = seen_at(book, setting, centre, moment, g, false, position);
+    let bodies = seen.bodies;
+    let roots = seen.roots;
+    acceleration_by(bodies, setting, position, roots)
 }

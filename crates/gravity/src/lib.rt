@@ -1,12 +1,14 @@
-// The acceleration of a spacecraft about a centre: the centre's pull, less what the other bodies give it and the centre.
+// The acceleration of a spacecraft about a centre: the pull of the centre, minus what the other bodies give the craft
+// and the centre.
 
 pub mod inner;
 
 use base::END_OF_TIME;
-use basis::unless;
 use gravity_pull::Other;
+use root::ThreeRoots;
 use state::Setting;
 use state::Vector;
+use state_checks::common_refusal;
 ghost use mathlib.Core.Path.{_≡_};
 ghost use Rattle.gravity.specs.Acceleration.{accelerationAnswer};
 
@@ -15,7 +17,8 @@ pub enum AccelerationAnswer {
     Refused(u64),
 }
 
-// (02, R-6) The five bodies other than the centre, in rising number, each seen from the centre with its pull on it.
+// (02, R-6) The five bodies other than the centre, in rising number, each seen from the centre with its pull on the
+// centre.
 pub struct Others {
     pub first: Other,
     pub second: Other,
@@ -33,8 +36,9 @@ pub struct Guesses {
     pub jupiter: u64,
 }
 
-// What is kept of a moment about a centre: the number of the first body refused, 0 where there is none, the entries found, the
-// centre's own coefficient, where the Earth and the Sun stand, seen from the centre (02, R-7), and the other bodies.
+// What is kept for a moment about a centre: the number of the first body refused (0 if none), the entries found, and
+// the coefficient of the centre. Also the positions of the Earth and the Sun, seen from the centre (02, R-7), and the
+// other bodies.
 pub struct Sights {
     pub refusal: u64,
     pub entries: Guesses,
@@ -42,6 +46,18 @@ pub struct Sights {
     pub home: Vector,
     pub sun: Vector,
     pub others: Others,
+}
+
+// The bodies beside the centre, and the roots that a first position asks for.
+pub struct OthersSeen {
+    pub others: Others,
+    pub roots: ThreeRoots,
+}
+
+// What is kept of a moment, and the roots that a first position asks for.
+pub struct Seen {
+    pub bodies: Sights,
+    pub roots: ThreeRoots,
 }
 
 // The acceleration about a centre at a position, under a setting, at a moment of a book.
@@ -54,15 +70,9 @@ pub fn acceleration(
 ) -> AccelerationAnswer
     ensures { λ r. ⌜ r ≡ accelerationAnswer (now (book .entry)) setting centre moment position ⌝ }
 {
-    let passes = book::book_passes(book);
-    let allowed = state::setting_is_allowed(setting);
     let centred = state::centre_is_allowed(setting, centre);
     let finite = state::vector_is_finite(position);
-    let after_moment = unless(finite, 7, 0);
-    let after_centre = unless(moment < END_OF_TIME, 3, after_moment);
-    let after_setting = unless(centred, 14, after_centre);
-    let after_book = unless(allowed, 4, after_setting);
-    let refusal = unless(passes, 1, after_book);
+    let refusal = common_refusal(book, setting, centred, moment < END_OF_TIME, finite);
     if refusal == 0 {
         return inner::rule(book, setting, centre, moment, position);
     }

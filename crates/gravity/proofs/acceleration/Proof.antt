@@ -1,60 +1,33 @@
 -- `gravity::acceleration` meets its contract. Assumes nothing.
 use mathlib.Core.Path.{sym, _∙_}
-use denote.Ref.{now}
-use Rattle.gravity.proofs.Checks.{numbered, passed, accepted, refused}
+use borrow.Author.Tests.{ne-eqb}
+use Rattle.state_checks.proofs.Passed.{passed}
+use Rattle.gravity.specs.Acceleration.{accelerationAnswer}
 use borrow.Author.Needs.{needs}
 use Rattle.gravity.proofs.acceleration.Statement.{statement}
 use Rattle.gravity.proofs.acceleration.Tie as tie
 
-book-passes-requires : tie.Need-book-passes-requires
-book-passes-requires c κs = search needs
-
-setting-is-allowed-requires : tie.Need-setting-is-allowed-requires
-setting-is-allowed-requires c κs = search needs
-
-centre-is-allowed-requires : tie.Need-centre-is-allowed-requires
-centre-is-allowed-requires c κs = search needs
-
-vector-is-finite-requires : tie.Need-vector-is-finite-requires
-vector-is-finite-requires c κs = search needs
-
-unless-requires : tie.Need-unless-requires
-unless-requires c κs = search needs
-
-unless-requires-2 : tie.Need-unless-requires-2
-unless-requires-2 c κs = search needs
-
-unless-requires-3 : tie.Need-unless-requires-3
-unless-requires-3 c κs = search needs
-
-unless-requires-4 : tie.Need-unless-requires-4
-unless-requires-4 c κs = search needs
-
-unless-requires-5 : tie.Need-unless-requires-5
-unless-requires-5 c κs = search needs
-
 rule-requires : tie.Need-rule-requires
-rule-requires c κs = let x = c .before .before .before .before .before .before .before .before .before .before .before .args in passed (now (x .book)) (x .setting) (x .centre) (x .moment) (x .position) (sym (numbered (now (x .book)) (x .setting) (x .centre) (x .moment) (x .position) _ _ _ _ _ _ _ _ _ (c .before .before .before .before .before .before .before .before .before .book-passes .ensures) (c .before .before .before .before .before .before .before .before .setting-is-allowed .ensures) (c .before .before .before .before .before .before .before .centre-is-allowed .ensures) (c .before .before .before .before .before .before .vector-is-finite .ensures) (c .before .before .before .before .before .unless .ensures) (c .before .before .before .before .unless2 .ensures) (c .before .before .before .unless3 .ensures) (c .before .before .unless4 .ensures) (c .before .unless5 .ensures)) ∙ c .if1 .taken)
+rule-requires c κs =
+    let checked = c .before in
+    let p = passed _ _ _ _ _ (sym (checked .common-refusal .ensures) ∙ c .if1 .taken) in
+    (p .book, sym (checked .before .before .centre-is-allowed .ensures) ∙ p .centre)
 
 returns : tie.Need-returns
-returns c = let x = c .before .before .before .before .before .before .before .before .before .before .before .before .args in c .rule .ensures ∙ accepted (now (x .book)) (x .setting) (x .centre) (x .moment) (x .position) (sym (numbered (now (x .book)) (x .setting) (x .centre) (x .moment) (x .position) _ _ _ _ _ _ _ _ _ (c .before .before .before .before .before .before .before .before .before .before .book-passes .ensures) (c .before .before .before .before .before .before .before .before .before .setting-is-allowed .ensures) (c .before .before .before .before .before .before .before .before .centre-is-allowed .ensures) (c .before .before .before .before .before .before .before .vector-is-finite .ensures) (c .before .before .before .before .before .before .unless .ensures) (c .before .before .before .before .before .unless2 .ensures) (c .before .before .before .before .unless3 .ensures) (c .before .before .before .unless4 .ensures) (c .before .before .unless5 .ensures)) ∙ c .before .if1 .taken)
+unfolding accelerationAnswer
+returns c =
+    let checked = c .before .before in
+    let finite = checked .before in
+    c .rule .ensures ∙ sym (rw (← finite .vector-is-finite .ensures, ← finite .before .centre-is-allowed .ensures, ← checked .common-refusal .ensures, c .before .if1 .taken))
 
 returns-2 : tie.Need-returns-2
-returns-2 c = let x = c .before .before .before .before .before .before .before .before .before .before .before .args in refused (now (x .book)) (x .setting) (x .centre) (x .moment) (x .position) _ (numbered (now (x .book)) (x .setting) (x .centre) (x .moment) (x .position) _ _ _ _ _ _ _ _ _ (c .before .before .before .before .before .before .before .before .before .book-passes .ensures) (c .before .before .before .before .before .before .before .before .setting-is-allowed .ensures) (c .before .before .before .before .before .before .before .centre-is-allowed .ensures) (c .before .before .before .before .before .before .vector-is-finite .ensures) (c .before .before .before .before .before .unless .ensures) (c .before .before .before .before .unless2 .ensures) (c .before .before .before .unless3 .ensures) (c .before .before .unless4 .ensures) (c .before .unless5 .ensures)) (c .if1 .left)
+unfolding accelerationAnswer
+returns-2 c =
+    let checked = c .before in
+    let finite = checked .before in
+    rw (← finite .vector-is-finite .ensures, ← finite .before .centre-is-allowed .ensures, ← checked .common-refusal .ensures, ne-eqb _ 0 (c .if1 .left))
 
 pub acceleration-spec : {M : Type 1} → statement M
 acceleration-spec =
     tie.close
-    (tie.spec
-    book-passes-requires
-    setting-is-allowed-requires
-    centre-is-allowed-requires
-    vector-is-finite-requires
-    unless-requires
-    unless-requires-2
-    unless-requires-3
-    unless-requires-4
-    unless-requires-5
-    rule-requires
-    returns
-    returns-2)
+    (tie.spec (λ c κs. search needs) (λ c κs. search needs) (λ c κs. search needs) rule-requires returns returns-2)

@@ -1,47 +1,49 @@
 -- `gravity::inner::acceleration_under` meets its contract. Assumes nothing.
-use mathlib.Core.Path.{sym}
-use Rattle.gravity.proofs.Under.{clear, refused}
+use mathlib.Core.Path.{sym, ap}
 use borrow.Author.Needs.{needs}
+use Rattle.root_known.proofs.Pairs.{are-roots}
+use Rattle.gravity_pull.specs.declared.NearSum.{NearSum}
+use Rattle.gravity.proofs.Under.{clear, refused}
 use Rattle.gravity.proofs.inner.acceleration_under.Statement.{statement}
 use Rattle.gravity.proofs.inner.acceleration_under.Tie as tie
 
-near-sum-requires : tie.Need-near-sum-requires
-near-sum-requires c κs = search needs
-
-less-requires : tie.Need-less-requires
-less-requires c κs = search needs
-
-less-requires-2 : tie.Need-less-requires-2
-less-requires-2 c κs = search needs
-
-less-requires-3 : tie.Need-less-requires-3
-less-requires-3 c κs = search needs
-
 oblate-sum-requires : tie.Need-oblate-sum-requires
-oblate-sum-requires c κs = search needs
+oblate-sum-requires c κs =
+    let near = c .before .before .before .before .before in
+    are-roots _ _ _ _ (ap (λ (r : NearSum). r .known) (near .near-sum .ensures))
 
 sunlit-sum-requires : tie.Need-sunlit-sum-requires
-sunlit-sum-requires c κs = search needs
-
-settle-requires : tie.Need-settle-requires
-settle-requires c κs = search needs
+sunlit-sum-requires c κs =
+    let near = c .before .before .before .before .before .before in
+    are-roots _ _ _ _ (ap (λ (r : NearSum). r .known) (near .near-sum .ensures))
 
 returns : tie.Need-returns
-returns c = rw (c .settle .ensures, c .before .sunlit-sum .ensures, c .before .before .oblate-sum .ensures, c .before .before .before .less3 .ensures, c .before .before .before .before .less2 .ensures, c .before .before .before .before .before .less .ensures, c .before .before .before .before .before .before .near-sum .ensures) (let x = c .before .before .before .before .before .before .before .before .before .before .before .before .before .before .before .args in sym (clear (x .bodies) (x .setting) (x .p) (c .before .before .before .before .before .before .before .before .before .before .before .before .before .if1 .taken)))
-
-returns-2 : tie.Need-returns-2
-returns-2 c = let x = c .before .before .args in sym (refused (x .bodies) (x .setting) (x .p) (c .if1 .left))
+returns c =
+    let lesses = c .before .before .before in
+    let near = lesses .before .before .before .before .before in
+    let if = near .before .before .before .before .before .before .before in
+    let x = if .before .before .args in
+    rw (
+      c .settle .ensures,
+      c .before .sunlit-sum .ensures,
+      c .before .before .oblate-sum .ensures,
+      lesses .less3 .ensures,
+      lesses .before .less2 .ensures,
+      lesses .before .before .less .ensures,
+      near .near-sum .ensures,
+    )
+    (sym (clear (x .bodies) (x .setting) (x .p) (if .if1 .taken)))
 
 pub acceleration-under-spec : {M : Type 1} → statement M
 acceleration-under-spec =
     tie.close
     (tie.spec
-    near-sum-requires
-    less-requires
-    less-requires-2
-    less-requires-3
+    (λ c κs. search needs)
+    (λ c κs. search needs)
+    (λ c κs. search needs)
+    (λ c κs. search needs)
     oblate-sum-requires
     sunlit-sum-requires
-    settle-requires
+    (λ c κs. search needs)
     returns
-    returns-2)
+    (λ c. let x = c .before .before .args in sym (refused (x .bodies) (x .setting) (x .p) (c .if1 .left))))

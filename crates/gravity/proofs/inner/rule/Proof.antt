@@ -1,18 +1,19 @@
 -- `gravity::inner::rule` meets its contract. Assumes nothing.
 use Rattle.gravity.proofs.Under.{underIs}
 use Rattle.book.proofs.Slow.{untold}
-use borrow.Author.Needs.{needs}
 use Rattle.gravity.proofs.inner.rule.Statement.{statement}
 use Rattle.gravity.proofs.inner.rule.Tie as tie
 
-sights-at-requires : tie.Need-sights-at-requires
-sights-at-requires c κs = untold _ (c .before .pre .0)
+seen-at-requires : tie.Need-seen-at-requires
+seen-at-requires c κs = untold _ (c .before .pre .0)
 
-acceleration-under-requires : tie.Need-acceleration-under-requires
-acceleration-under-requires c κs = search needs
+acceleration-by-requires : tie.Need-acceleration-by-requires
+acceleration-by-requires c κs = c .before .before .seen-at .ensures .1
 
 returns : tie.Need-returns
-returns c = rw (c .acceleration-under .ensures, c .before .sights-at .ensures) (underIs _ _ _ _ _ (c .before .before .before .pre .1))
+returns c =
+    let seen = c .before .before .before in
+    rw (c .acceleration-by .ensures, seen .seen-at .ensures .0) (underIs _ _ _ _ _ (seen .before .before .pre .1))
 
 pub rule-spec : {M : Type 1} → statement M
-rule-spec = tie.close (tie.spec sights-at-requires acceleration-under-requires returns)
+rule-spec = tie.close (tie.spec seen-at-requires acceleration-by-requires returns)
