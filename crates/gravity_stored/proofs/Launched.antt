@@ -1,21 +1,21 @@
--- What an old order means: the state with the acceleration that the rule gives, and no other state leads to the same. Assumes nothing.
-use mathlib.Core.Bool.{Bool, true, false, not}
+-- The meaning of an old order: the state with the acceleration that the rule gives. No other state leads to the same. Assumes nothing.
+use mathlib.Core.Bool.{Bool, true, false}
 use mathlib.Core.List.{List}
-use mathlib.Core.Path.{_≡_, refl, sym, ap, _∙_}
+use mathlib.Core.Path.{_≡_, refl, ap}
 use Prim.Native.Nat.{ℕ}
 use Rattle.base.specs.Choice.{if_then_else_, _=?_}
 use Rattle.base.specs.Limits.{isMoment}
-use Rattle.state.specs.State.{position, acceleration, carrying, bare, finiteInjection, finiteState, settingAllowed, centreAllowed}
+use Rattle.state.specs.State.{position, acceleration, bare, finiteState, settingAllowed, centreAllowed}
 use Rattle.state.specs.declared.State.{State}
 use Rattle.state.specs.declared.Injection.{Injection}
 use Rattle.state.specs.declared.Setting.{Setting}
 use Rattle.book.specs.Passes.{passes}
-use Rattle.gravity.specs.Acceleration.{nowhere, accelerationAt}
+use Rattle.state_checks.proofs.Passed.{passes-all}
+use Rattle.gravity.specs.Acceleration.{accelerationAt}
 use Rattle.gravity.specs.declared.AccelerationAnswer.{AccelerationAnswer}
 use Rattle.gravity.specs.declared.AccelerationAnswer.the-variants as rule
 use Rattle.gravity_stored.specs.Injection.{ruleAt, keptBy, kept, injectionRefusal, injectionAnswer, orNone, launched}
-use Rattle.injection.specs.declared.InjectionAnswer.{InjectionAnswer}
-use Rattle.injection.specs.declared.InjectionAnswer.the-variants.{Injected, Refused}
+use Rattle.gravity_stored.specs.declared.InjectionAnswer.the-variants.{Refused}
 
 module _ (b : List ℕ) (setting : Setting) where
   -- position, velocity, moment and centre are the injection's
@@ -40,4 +40,5 @@ module _ (b : List ℕ) (setting : Setting) where
       → finiteState s ≡ true → accelerationAt b setting (s .centre) (s .moment) (position s) ≡ rule.Is (acceleration s)
       → launched b setting (bare s) ≡ s
   unfolding launched injectionAnswer injectionRefusal kept
-  launched-itself s book set centred begins finite is = rw (book, set, centred, begins, finite, is)
+  launched-itself s book set centred begins finite is =
+      rw (passes-all b setting _ _ _ (record { book = book; set = set; centre = centred; moment = begins; figures = finite }), is)

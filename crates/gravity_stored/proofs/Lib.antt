@@ -1,5 +1,5 @@
 pub mod Checked
-pub mod Order
+pub mod Stored
 pub mod Refused
 pub mod Launched
 pub mod OneAnswer

@@ -1,5 +1,5 @@
-// The acceleration of a state in a book that is known to pass, about a centre that is known to be one: not public calls, but what the
-// crates above keep it with once they have checked both.
+// The acceleration of a state, for a book that is known to pass and a centre that is known to be a used body. These
+// are not public calls: the crates above call them after both checks.
 
 use crate::InjectionAnswer;
 use gravity::AccelerationAnswer;
@@ -18,7 +18,7 @@ ghost use mathlib.Core.Path.{_≡_};
 ghost use Rattle.state.specs.State.{startingPosition, centreAllowed};
 ghost use Rattle.book.specs.Passes.{passes};
 ghost use Rattle.gravity.specs.Sight.{accelerationBy};
-ghost use Rattle.injection.specs.Injection.{keptBy, kept, orderRefusalBy, orderRefusal};
+ghost use Rattle.gravity_stored.specs.Injection.{keptBy, kept, storedRefusalBy, storedRefusal};
 
 fn keep(i: Injection, answer: AccelerationAnswer) -> InjectionAnswer
     ensures { λ r. ⌜ r ≡ keptBy i answer ⌝ }
@@ -29,7 +29,7 @@ fn keep(i: Injection, answer: AccelerationAnswer) -> InjectionAnswer
     }
 }
 
-// The bodies at its moment are known.
+// The bodies at its moment are known already.
 pub fn kept_under(bodies: Sights, setting: Setting, i: Injection) -> InjectionAnswer
     ensures { λ r. ⌜ r ≡ keptBy i (accelerationBy bodies setting (startingPosition i)) ⌝ }
 {
@@ -45,8 +45,8 @@ pub fn kept_at(book: &[u8], setting: Setting, i: Injection) -> InjectionAnswer
     keep(i, answer)
 }
 
-fn order_refusal_by(s: State, answer: AccelerationAnswer) -> u64
-    ensures { λ r. ⌜ r ≡ orderRefusalBy s answer ⌝ }
+fn stored_refusal_by(s: State, answer: AccelerationAnswer) -> u64
+    ensures { λ r. ⌜ r ≡ storedRefusalBy s answer ⌝ }
 {
     match answer {
         AccelerationAnswer::Is(a) => {
@@ -59,11 +59,11 @@ fn order_refusal_by(s: State, answer: AccelerationAnswer) -> u64
     }
 }
 
-// Whether what is stored with a state is the rule's: 0, or the number of the refusal.
-pub fn order_refusal(book: &[u8], setting: Setting, s: State) -> u64
+// Whether the acceleration stored with a state is the rule's: 0, or the refusal number.
+pub fn stored_refusal(book: &[u8], setting: Setting, s: State) -> u64
     requires { ⌜ (passes (now book) ≡ true) × (centreAllowed setting (s .centre) ≡ true) ⌝ }
-    ensures { λ r. ⌜ r ≡ orderRefusal (now (book .entry)) setting s ⌝ }
+    ensures { λ r. ⌜ r ≡ storedRefusal (now (book .entry)) setting s ⌝ }
 {
     let answer = rule(book, setting, s.centre, s.moment, position_of(s));
-    order_refusal_by(s, answer)
+    stored_refusal_by(s, answer)
 }

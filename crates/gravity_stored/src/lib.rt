@@ -1,14 +1,15 @@
-// (02, R-8) The acceleration kept with a state: an injection made into a state, and whether a state is in order.
+// (02, R-8) The acceleration stored with a state: turns an injection into a state, and checks whether the stored
+// value is the rule's.
 
 pub mod inner;
 
 use base::END_OF_TIME;
-use basis::unless;
 use state::Injection;
 use state::Setting;
 use state::State;
 use state::Vector;
 use state::carrying;
+use state_checks::common_refusal;
 ghost use mathlib.Core.Path.{_≡_};
 ghost use Rattle.gravity_stored.specs.Injection.{injectionRefusal, injectionAnswer, orNone, launched};
 
@@ -17,20 +18,13 @@ pub enum InjectionAnswer {
     Refused(u64),
 }
 
-// The number of the first check that fails, 0 where none does: made first and then put in order, the last one first.
+// The number of the first check that fails, or 0.
 fn injection_refusal(book: &[u8], setting: Setting, i: Injection) -> u64
     ensures { λ r. ⌜ r ≡ injectionRefusal (now (book .entry)) setting i ⌝ }
 {
-    let passes = book::book_passes(book);
-    let allowed = state::setting_is_allowed(setting);
     let centred = state::centre_is_allowed(setting, i.centre);
-    let begins = i.moment < END_OF_TIME;
     let finite = state::injection_is_finite(i);
-    let after_moment = unless(finite, 7, 0);
-    let after_centre = unless(begins, 3, after_moment);
-    let after_setting = unless(centred, 14, after_centre);
-    let after_book = unless(allowed, 4, after_setting);
-    unless(passes, 1, after_book)
+    common_refusal(book, setting, centred, i.moment < END_OF_TIME, finite)
 }
 
 // The state with the acceleration that the rule gives it.
@@ -60,8 +54,8 @@ fn or_none(i: Injection, answer: InjectionAnswer) -> State
     }
 }
 
-// The state of an old order, from which a run may be asked for: where the rule gives it no acceleration, the run is refused before
-// it looks at one.
+// The state of an old order, from which a run may start. If the rule gives it no acceleration, the run refuses before
+// it reads one.
 pub fn launch(book: &[u8], setting: Setting, injection: Injection) -> State
     ensures { λ r. ⌜ r ≡ launched (now (book .entry)) setting injection ⌝ }
 {

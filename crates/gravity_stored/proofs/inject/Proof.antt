@@ -1,16 +1,11 @@
 -- `gravity_stored::inject` meets its contract. Assumes nothing.
-use mathlib.Core.Path.{_≡_, sym, ap, _∙_}
-use Prim.Native.Nat.{ℕ}
-use denote.Ref.{now}
+use mathlib.Core.Path.{sym, _∙_}
 use borrow.Author.Tests.{ne-eqb}
-use Rattle.injection.specs.Injection.{injectionRefusal, injectionAnswer}
+use Rattle.gravity_stored.specs.Injection.{injectionAnswer}
 use Rattle.gravity_stored.proofs.Checked.{injectable}
 use borrow.Author.Needs.{needs}
 use Rattle.gravity_stored.proofs.inject.Statement.{statement}
 use Rattle.gravity_stored.proofs.inject.Tie as tie
-
-injection-refusal-requires : tie.Need-injection-refusal-requires
-injection-refusal-requires c κs = search needs
 
 kept-at-requires : tie.Need-kept-at-requires
 kept-at-requires c κs = injectable _ _ _ (sym (c .before .injection-refusal .ensures) ∙ c .if1 .taken)
@@ -24,4 +19,4 @@ unfolding injectionAnswer
 returns-2 c = rw (← c .before .injection-refusal .ensures, ne-eqb _ 0 (c .if1 .left))
 
 pub inject-spec : {M : Type 1} → statement M
-inject-spec = tie.close (tie.spec injection-refusal-requires kept-at-requires returns returns-2)
+inject-spec = tie.close (tie.spec (λ c κs. search needs) kept-at-requires returns returns-2)

@@ -4,15 +4,9 @@ use borrow.Author.Needs.{needs}
 use Rattle.gravity_stored.proofs.launch.Statement.{statement}
 use Rattle.gravity_stored.proofs.launch.Tie as tie
 
-inject-requires : tie.Need-inject-requires
-inject-requires c κs = search needs
-
-or-none-requires : tie.Need-or-none-requires
-or-none-requires c κs = search needs
-
 returns : tie.Need-returns
 unfolding launched
 returns c = rw (c .or-none .ensures, c .before .inject .ensures)
 
 pub launch-spec : {M : Type 1} → statement M
-launch-spec = tie.close (tie.spec inject-requires or-none-requires returns)
+launch-spec = tie.close (tie.spec (λ c κs. search needs) (λ c κs. search needs) returns)
