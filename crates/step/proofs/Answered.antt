@@ -1,7 +1,7 @@
--- From what the acceleration under the looked-up bodies answers to what document 01's acceleration answers, stage by stage. Assumes nothing.
+-- From the acceleration under the looked-up bodies to document 01's acceleration, stage by stage. Assumes nothing.
 use mathlib.Core.Bool.{true, _&&_}
 use mathlib.Core.List.{List}
-use mathlib.Core.Path.{_≡_, refl, sym, ap, _∙_}
+use mathlib.Core.Path.{_≡_, sym, ap, _∙_}
 use Prim.Native.Nat.{ℕ, _+_}
 use Rattle.base.specs.Choice.{if_then_else_}
 use Rattle.state.specs.State.{position, velocity, centreAllowed, finiteVector, injectionAt}
@@ -16,7 +16,8 @@ use Rattle.gravity.specs.declared.Sights.{Sights}
 use Rattle.gravity.specs.declared.Guesses.{Guesses}
 use Rattle.gravity_stored.specs.Injection.{keptBy}
 use Rattle.gravity.proofs.Under.{underIs}
-use Rattle.stages.specs.Step.{Moved, Off, andThen, along, weighed, sixth, velocity2, velocity3, velocity4, arrive, lastly, movedBy, keeping}
+use Rattle.step.specs.Step.{Moved, Off, andThen, along, weighed, sixth, arrive, movedBy, keeping}
+use Rattle.step.specs.Stages.{velocity2, velocity3, velocity4, lastly}
 use Rattle.step_end.specs.Kept.{kept, keepingUnder}
 use Rattle.step.specs.Entries.{entriesAfter}
 use Rattle.step_end.specs.declared.Stepped.{Stepped}

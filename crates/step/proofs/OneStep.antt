@@ -1,12 +1,12 @@
--- What a step that was done tells: its moment, its centre, its finite components, its acceleration, and that every body was seen at its
+-- What follows from a step that was done: its moment, its centre, its finite components and its acceleration. Every body was seen at its
 -- end. Assumes nothing.
 use mathlib.Core.Bool.{Bool, true, false, _&&_}
 use mathlib.Core.List.{List}
-use mathlib.Core.Path.{_≡_, refl, sym, ap, _∙_, subst}
+use mathlib.Core.Path.{_≡_, refl, sym, ap, _∙_}
 use Prim.Native.Nat.{ℕ, _+_, _/_}
 use native.Mathlib.Omega.{arith}
 use Rattle.base.specs.Choice.{if_then_else_}
-use Rattle.state.specs.State.{position, velocity, acceleration, injectionAt, startingPosition, carrying, finiteVector, finiteState, centreAllowed}
+use Rattle.state.specs.State.{position, velocity, acceleration, injectionAt, carrying, finiteVector, finiteState, centreAllowed}
 use Rattle.state.specs.declared.Vector.{Vector}
 use Rattle.state.specs.declared.State.{State}
 use Rattle.state.specs.declared.Injection.{Injection}
@@ -17,7 +17,8 @@ use Rattle.gravity.specs.declared.AccelerationAnswer.{AccelerationAnswer}
 use Rattle.gravity.specs.declared.AccelerationAnswer.the-variants.{Is, Refused}
 use Rattle.gravity.proofs.Under.{underIs, isClear}
 use Rattle.gravity_stored.specs.Injection.{keptBy}
-use Rattle.stages.specs.Step.{Moved, On, Off, andThen, arrive, along, weighed, stepH, half, sixth, velocity2, velocity3, velocity4, lastly, stage3, stage4, movedBy, keeping, step}
+use Rattle.step.specs.Step.{Moved, On, Off, andThen, arrive, along, weighed, stepH, half, sixth, movedBy, keeping, step}
+use Rattle.step.specs.Stages.{velocity2, velocity3, velocity4, lastly, stage3, stage4}
 
 pub record Done (b : List ℕ) (setting : Setting) (h : ℕ) (s next : State) : Type 0 where
   pub moment : next .moment ≡ s .moment + h

@@ -1,5 +1,5 @@
--- Document 01, "The step and the run", and document 02, R-8: one step of the classical fourth-order Runge-Kutta rule, from a state whose
--- acceleration is stored with it to one that has its own.
+-- Document 01, "The step and the run", and document 02, R-8: one step of the classical fourth-order Runge-Kutta rule. It starts from a
+-- state with its stored acceleration, and the new state has its own.
 use mathlib.Core.List.{List}
 use Prim.Native.Nat.{ℕ, _+_, _/_}
 use Rattle.state.specs.State.{position, velocity, acceleration, startingPosition}
@@ -13,28 +13,36 @@ use Rattle.gravity.specs.declared.AccelerationAnswer.the-variants.{Is, Refused}
 use Rattle.gravity_stored.specs.Injection.{keptBy}
 pub use Rattle.step_sums.specs.Slopes.{weigh}
 unfoldable pub use Rattle.step_sums.specs.Slopes.{stepH, along, weighed, half, sixth}
-pub use Rattle.arrival.specs.Arrival.{Moved, On, Off, arrive, velocity2, velocity3, velocity4, lastly, movedBy}
+pub use Rattle.step_end.specs.Arrival.{Moved, On, Off, arrive, movedBy}
 
--- an acceleration goes on, a refusal leaves with its number
+-- an acceleration continues the step, a refusal ends it with its number
 abbrev pub andThen : AccelerationAnswer → (Vector → Moved) → Moved
 andThen (Is a) next = next a
 andThen (Refused k) next = Off k
 
--- "The four stages, in order, stand at t, t + h/2, t + h/2 and t + h": acc t p is the acceleration at the position p at the moment t, and
--- a1 the first stage's.
-module _ (acc : ℕ → Vector → AccelerationAnswer) (ends : Injection → Moved) (h : ℕ) (s : State) where
-  abbrev pub stage4 : Vector → Vector → Vector → Moved
-  stage4 a1 a2 a3 = andThen (acc (s .moment + h) (along (position s) (stepH h) (velocity3 h s a2))) (lastly ends h s a1 a2 a3)
-
-  abbrev pub stage3 : Vector → Vector → Moved
-  stage3 a1 a2 = andThen (acc (s .moment + h / 2) (along (position s) (half h) (velocity2 h s a1))) (stage4 a1 a2)
-
-  abbrev pub stage2 : Vector → Moved
-  stage2 a1 = andThen (acc (s .moment + h / 2) (along (position s) (half h) (velocity s))) (stage3 a1)
-
+-- R-8: step "must keep it equal to the rule at that state"
 abbrev pub keeping : (ℕ → Vector → AccelerationAnswer) → Injection → Moved
 keeping acc i = movedBy (keptBy i (acc (i .moment) (startingPosition i)))
 
--- R-8: "a step uses it as its first slope"
+-- "The four stages, in order, stand at t, t + h/2, t + h/2 and t + h". The slope of a stage is its velocity and its acceleration: k1 is v
+-- and a1, k2 is v2 and a2, k3 is v3 and a3, k4 is v4 and a4. A stage is at "base + (H·0.5)·slope" of the one before it, the fourth at "base
+-- + H·slope".
 unfoldable pub step : List ℕ → Setting → ℕ → State → Moved
-step b setting h s = let acc = accelerationAt b setting (s .centre) in stage2 acc (keeping acc) h s (acceleration s)
+step b setting h s =
+    let acc = accelerationAt b setting (s .centre) in
+    let t = s .moment in
+    let p = position s in
+    let v = velocity s in
+    -- k1: R-8, "a step uses it as its first slope"
+    let a1 = acceleration s in
+    -- k2
+    let v2 = along v (half h) a1 in
+    andThen (acc (t + h / 2) (along p (half h) v)) (λ a2.
+    -- k3
+    let v3 = along v (half h) a2 in
+    andThen (acc (t + h / 2) (along p (half h) v2)) (λ a3.
+    -- k4
+    let v4 = along v (stepH h) a3 in
+    andThen (acc (t + h) (along p (stepH h) v3)) (λ a4.
+    -- the new state: "base + (H/6)·(((k1 + 2·k2) + 2·k3) + k4)"
+    arrive (keeping acc) (t + h) (s .centre) (along p (sixth h) (weighed v v2 v3 v4)) (along v (sixth h) (weighed a1 a2 a3 a4)))))

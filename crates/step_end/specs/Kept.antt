@@ -1,5 +1,4 @@
--- What the code hands on beside the new state: the entries in which the bodies were found at its moment.
-use Prim.Native.Nat.{ℕ}
+-- What the code passes on besides the new state: the entries of the bodies at its moment.
 use Rattle.state.specs.State.{startingPosition}
 use Rattle.state.specs.declared.Setting.{Setting}
 use Rattle.state.specs.declared.Injection.{Injection}
@@ -15,6 +14,6 @@ abbrev pub kept : Guesses → Moved → Stepped
 kept entries (On s) = stepped.On s entries
 kept entries (Off k) = stepped.Off k
 
--- the acceleration of the new state, under the bodies that are known at its moment
+-- the acceleration of the new state, by the bodies known at its moment
 abbrev pub keepingUnder : Sights → Setting → Injection → Moved
 keepingUnder bodies setting i = movedBy (keptBy i (accelerationBy bodies setting (startingPosition i)))

@@ -1,20 +1,20 @@
-// The end of a step, for a moment that is known to be in range: the slopes of the four stages together, and the new state with its own
-// acceleration.
+// The end of a step, for a moment that is known to be in range: the weighted slopes of the four stages, and the new
+// state with its own acceleration.
 
 use crate::Stepped;
 use gravity::Guesses;
 use gravity::Sights;
 use gravity_stored::InjectionAnswer;
 use gravity_stored::inner::kept_under;
+use state::Injection;
+use state::Setting;
+use state::State;
+use state::Vector;
 use step_sums::half_of;
 use step_sums::seconds;
 use step_sums::sixth_of;
 use step_sums::toward;
 use step_sums::weigh_all;
-use state::Injection;
-use state::Setting;
-use state::State;
-use state::Vector;
 ghost use mathlib.Core.Path.{_≡_};
 ghost use Prim.Native.Nat.{_<_};
 ghost use Rattle.base.specs.Limits.{endOfTime};
@@ -31,7 +31,7 @@ fn stepped_by(answer: InjectionAnswer, entries: Guesses) -> Stepped
     }
 }
 
-// The state one step on, with its own acceleration under the bodies at its moment.
+// The new state, with its own acceleration by the bodies at its moment.
 fn arrived(
     setting: Setting,
     bodies: Sights,
@@ -61,7 +61,7 @@ fn arrived(
     Stepped::Off(7)
 }
 
-// The slopes of the four stages together.
+// The weighted sum of the slopes of the four stages.
 pub fn finish(
     setting: Setting,
     s: State,

@@ -6,12 +6,9 @@ use borrow.Author.Needs.{needs}
 use Rattle.step_sums.proofs.seconds.Statement.{statement}
 use Rattle.step_sums.proofs.seconds.Tie as tie
 
-int-to-float-result : tie.Need-int-to-float-result
-int-to-float-result c = search needs
-
 returns : tie.Need-returns
 unfolding stepH ofBits ofInt round
 returns c = refl
 
 pub seconds-spec : {M : Type 1} → statement M
-seconds-spec = tie.close (tie.spec int-to-float-result returns)
+seconds-spec = tie.close (tie.spec (λ c. search needs) returns)

@@ -5,12 +5,9 @@ use borrow.Author.Needs.{needs}
 use Rattle.step_sums.proofs.sixth_of.Statement.{statement}
 use Rattle.step_sums.proofs.sixth_of.Tie as tie
 
-seconds-requires : tie.Need-seconds-requires
-seconds-requires c κs = search needs
-
 returns : tie.Need-returns
 unfolding sixth ofBits ofInt round
 returns c = rw (c .seconds .ensures)
 
 pub sixth-of-spec : {M : Type 1} → statement M
-sixth-of-spec = tie.close (tie.spec seconds-requires returns)
+sixth-of-spec = tie.close (tie.spec (λ c κs. search needs) returns)

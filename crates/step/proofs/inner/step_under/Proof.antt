@@ -4,9 +4,6 @@ use borrow.Author.Needs.{needs}
 use Rattle.step.proofs.inner.step_under.Statement.{statement}
 use Rattle.step.proofs.inner.step_under.Tie as tie
 
-second-stage-requires : tie.Need-second-stage-requires
-second-stage-requires c κs = search needs
-
 returns : tie.Need-returns
 unfolding step
 returns c = c .second-stage .ensures
@@ -15,5 +12,5 @@ pub step-under-spec : {M : Type 1} → statement M
 step-under-spec =
     tie.close
     (tie.spec
-    second-stage-requires
+    (λ c κs. search needs)
     returns)
