@@ -1,3 +1,2 @@
 pub use Rattle.run_target.proofs.Allowed
 pub mod Passed
-pub mod Parted

@@ -1,25 +1,36 @@
 // The checks before a run's first step.
 
-use injection::known::order_refusal;
-use opening::opening;
+use base::END_OF_TIME;
+use base::both;
+use gravity_stored::inner::stored_refusal;
+use run_target::target_refusal;
 use state::Setting;
 use state::State;
-use way::way;
+use state_checks::common_refusal;
 ghost use mathlib.Core.Path.{_≡_};
-ghost use Rattle.start.specs.Start.{startRefusal};
+ghost use Rattle.run_checks.specs.Start.{inputsRefusal, startRefusal};
 
-// The number of the first check that fails, 0 where none does. Whether the state is in order is asked only of a book that passes, about
-// a centre that is one.
+// The common checks of the state and the target.
+fn inputs_refusal(book: &[u8], setting: Setting, s: State, target: u64) -> u64
+    ensures { λ r. ⌜ r ≡ inputsRefusal (now (book .entry)) setting s target ⌝ }
+{
+    let centred = state::centre_is_allowed(setting, s.centre);
+    let timed = both(s.moment < END_OF_TIME, target < END_OF_TIME);
+    let finite = state::state_is_finite(s);
+    common_refusal(book, setting, centred, timed, finite)
+}
+
+// The number of the first check that fails, or 0. The stored acceleration is checked only if the book passes and the centre is allowed.
 pub fn start_refusal(book: &[u8], setting: Setting, s: State, h: u32, target: u64) -> u64
     ensures { λ r. ⌜ r ≡ startRefusal (now (book .entry)) setting s h target ⌝ }
 {
-    let first = opening(book, setting, s, target);
+    let first = inputs_refusal(book, setting, s, target);
     if first == 0 {
-        let order = order_refusal(book, setting, s);
-        if order == 0 {
-            return way(s.moment, h, target);
+        let stored = stored_refusal(book, setting, s);
+        if stored == 0 {
+            return target_refusal(s.moment, h, target);
         }
-        return order;
+        return stored;
     }
     first
 }

@@ -1,4 +1,4 @@
--- What the checks of the way tell. Assumes nothing.
+-- What follows if the checks of step length and target pass. Assumes nothing.
 use mathlib.Core.Bool.{true, _&&_}
 use mathlib.Core.Path.{_≡_}
 use Prim.Native.Nat.{ℕ, _+_, _-_, _*_, _/_, _%_, _≤_}
@@ -6,8 +6,8 @@ use native.Mathlib.Nat.{div-add-mod'}
 use native.Mathlib.Omega.{arith}
 use borrow.Author.Tests.{leb-true, eqb-true}
 use Rattle.base.specs.Choice.{_≤?_, _=?_}
-use Rattle.bookcheck.proofs.Below.{left, right}
-use Rattle.way.specs.Way.{stepAllowed, withinSteps}
+use Rattle.base.proofs.Bools.{left, right}
+use Rattle.run_target.specs.Target.{stepAllowed, withinSteps}
 
 pub longEnough : (h : ℕ) → stepAllowed h ≡ true → 2 ≤ h
 longEnough h e = leb-true 2 h (left (2 ≤? h) (h ≤? 86_400_000) (left ((2 ≤? h) && (h ≤? 86_400_000)) (h % 2 =? 0) e))

@@ -5,7 +5,7 @@ use Prim.Native.Nat.{ℕ, _≤_}
 use native.Mathlib.Omega.{arith}
 use borrow.Author.Tests.{le-leb}
 use Rattle.base.specs.Choice.{if_then_else_, _≤?_}
-use Rattle.way.specs.Way.{stepAllowed, withinSteps}
+use Rattle.run_target.specs.Target.{stepAllowed, withinSteps}
 use Rattle.run_target.proofs.Allowed.{longEnough}
 
 abbrev twoChecks : Bool → Bool → ℕ

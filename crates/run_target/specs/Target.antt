@@ -11,6 +11,6 @@ stepAllowed h = (2 ≤? h) && (h ≤? 86_400_000) && (h % 2 =? 0)
 abbrev pub withinSteps : ℕ → ℕ → ℕ → Bool
 withinSteps t h target = (t ≤? target) && ((target - t) % h =? 0)
 
--- the last part in which the code makes a run's checks
-unfoldable pub wayRefusal : ℕ → ℕ → ℕ → ℕ
-wayRefusal t h target = if not (stepAllowed h) then 2 else if not (withinSteps t h target) then 5 else 0
+-- the last group of a run's checks, as the code makes them
+unfoldable pub targetRefusal : ℕ → ℕ → ℕ → ℕ
+targetRefusal t h target = if not (stepAllowed h) then 2 else if not (withinSteps t h target) then 5 else 0

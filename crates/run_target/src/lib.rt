@@ -4,7 +4,7 @@ use base::unless;
 ghost use mathlib.Core.Path.{_≡_};
 ghost use mathlib.Core.Bool.{_&&_};
 ghost use Rattle.base.specs.Choice.{_≤?_};
-ghost use Rattle.way.specs.Way.{stepAllowed, withinSteps, wayRefusal};
+ghost use Rattle.run_target.specs.Target.{stepAllowed, withinSteps, targetRefusal};
 
 const LONGEST_STEP: u32 = 86_400_000;
 
@@ -20,7 +20,7 @@ fn step_is_allowed(h: u32) -> bool
     h % 2 == 0
 }
 
-// Steps of no length lead nowhere.
+// No number of steps of length 0 reaches a target.
 fn is_within_steps(moment: u64, h: u32, target: u64) -> bool
     ensures { λ r. ⌜ r ≡ ((1 ≤? h) && withinSteps moment h target) ⌝ }
 {
@@ -33,9 +33,9 @@ fn is_within_steps(moment: u64, h: u32, target: u64) -> bool
     (target - moment) % (h as u64) == 0
 }
 
-// The checks of the way, 2 and 5.
-pub fn way(moment: u64, h: u32, target: u64) -> u64
-    ensures { λ r. ⌜ r ≡ wayRefusal moment h target ⌝ }
+// The checks of step length and target, 2 and 5.
+pub fn target_refusal(moment: u64, h: u32, target: u64) -> u64
+    ensures { λ r. ⌜ r ≡ targetRefusal moment h target ⌝ }
 {
     let length = step_is_allowed(h);
     let reaches = is_within_steps(moment, h, target);

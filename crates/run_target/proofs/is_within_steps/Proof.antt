@@ -10,11 +10,8 @@ returns c = simp (lt-leb _ _ (c .if1 .taken))
 returns-2 : tie.Need-returns-2
 returns-2 c = simp (le-leb _ _ (c .before .if1 .left), lt-leb _ _ (c .if2 .taken))
 
-rem-result : tie.Need-rem-result
-rem-result c = search needs
-
 returns-3 : tie.Need-returns-3
 returns-3 c = simp (le-leb _ _ (c .before .if1 .left), le-leb _ _ (c .if2 .left))
 
 pub is-within-steps-spec : {M : Type 1} → statement M
-is-within-steps-spec = tie.close (tie.spec returns returns-2 rem-result returns-3)
+is-within-steps-spec = tie.close (tie.spec returns returns-2 (λ c. search needs) returns-3)
