@@ -1,14 +1,11 @@
--- The run over any step f: its four laws, by the state where it stands. Assumes nothing.
-use mathlib.Core.Bool.{Bool, true, false}
-use mathlib.Core.Path.{_≡_, refl, sym, ap, _∙_}
-use Prim.Native.Nat.{ℕ, zero, suc, _+_, _-_, _<_}
-use native.Mathlib.Nat.{add-zero}
+-- The run over any step f: its four laws, by the state that it has reached. Assumes nothing.
+use mathlib.Core.Path.{_≡_, ap}
+use Prim.Native.Nat.{ℕ, zero, suc, _+_, _-_}
 use native.Mathlib.Omega.{arith}
 use borrow.Author.Tests.{eq-eqb, ne-eqb}
-use Rattle.basis.specs.Choice.{if_then_else_}
 use Rattle.state.specs.declared.State.{State}
 use Rattle.step.specs.Step.{Moved, On, Off}
-use Rattle.motion.specs.Run.{Reached, ended, counted, atTarget, afterwards, runTo}
+use Rattle.run.specs.Run.{Reached, ended, counted, runTo}
 use Rattle.run.specs.Kept.{countedBy}
 use Rattle.run.specs.declared.Outcome.the-variants.{Arrived, Going, Refused}
 

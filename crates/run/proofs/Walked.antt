@@ -1,8 +1,8 @@
 -- The loop over the steps: how it starts, goes on and ends, in terms of `Walking`. Assumes nothing.
-use mathlib.Core.Bool.{true, false}
+use mathlib.Core.Bool.{false}
 use mathlib.Core.List.{List}
 use mathlib.Core.Path.{_≡_, refl, sym, ap, _∙_}
-use Prim.Native.Nat.{ℕ, zero, suc, _+_, _-_, _*_, _/_, _%_, _≤_, _<_}
+use Prim.Native.Nat.{ℕ, zero, suc, _+_, _-_, _*_, _/_, _<_}
 use native.Mathlib.Nat.{suc-mul, zero-mul}
 use native.Mathlib.Omega.{arith}
 use borrow.Author.Tests.{ne-eqb}
@@ -14,18 +14,15 @@ use Rattle.gravity.specs.Sight.{sights, foundIn, refusalIn}
 use Rattle.gravity.specs.declared.Guesses.{Guesses}
 use Rattle.gravity.proofs.Under.{allClear, seenEntry}
 use Rattle.step.specs.Step.{Moved, On, Off, step}
-use Rattle.motion.specs.Run.{Reached, ended, runTo, guessesAt, guessesAfter, handedBack, withGuesses}
+use Rattle.run.specs.Run.{ended, runTo, guessesAt, handedBack, withGuesses}
 use Rattle.step_end.specs.Kept.{kept}
 use Rattle.step.specs.Entries.{entriesAfter, MayStep}
 use Rattle.run.specs.Kept.{guessesFrom, countedBy, MayWalk, Walking}
-use Rattle.motion.specs.declared.RunAnswer.{RunAnswer}
 use Rattle.run.specs.declared.Outcome.{Outcome}
-use Rattle.motion.specs.declared.Outcome.the-variants.{Arrived, Going, Refused}
-use Rattle.arrival.specs.declared.Stepped.{Stepped}
 use Rattle.step_end.specs.declared.Stepped.the-variants as stepped
 use Rattle.run_checks.proofs.Allowed.{away}
-use Rattle.stages.proofs.OneStep.{Done, done}
-use Rattle.motion.proofs.Runs.{runArrived, runGoing, runRefused, runOn, countNone, countOne, countEnded}
+use Rattle.step.proofs.OneStep.{done}
+use Rattle.run.proofs.Runs.{runOn, countNone, countOne, countEnded}
 
 -- ---- one step nearer to the target
 
@@ -49,7 +46,7 @@ guessesSeen b s c t given clear =
       jupiter = seenEntry b 6 (s .jupiter) false t (given .jupiter) (all .1 .1 .1 .1 .0) i;
     }
 
--- ---- what a step handed back
+-- ---- the result of a step
 
 pub record HandedOn (entries : Guesses) (m : Moved) (next : State) (seen : Guesses) : Type 0 where
   pub on : m ≡ On next

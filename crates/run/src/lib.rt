@@ -3,11 +3,11 @@
 pub mod inner;
 mod walking;
 
-pub use arrival::Stepped;
 use base::END_OF_TIME;
 use gravity::Guesses;
 use state::Setting;
 use state::State;
+pub use step_end::Stepped;
 ghost use mathlib.Core.Path.{_≡_};
 ghost use Rattle.run.specs.Run.{runAnswer, singleStepAnswer};
 
@@ -48,7 +48,7 @@ pub fn run(
     }
 }
 
-// One step. A moment from the end of time on is refused as such, so that its target is of no account.
+// One step. If the moment is at or past the end of time, the call refuses it, and the target does not matter.
 pub fn single_step(
     book: &[u8],
     setting: Setting,

@@ -2,11 +2,11 @@
 
 use crate::Outcome;
 use crate::RunAnswer;
-use arrival::Stepped;
 use gravity::Guesses;
-use stages::known::step_under;
 use state::Setting;
 use state::State;
+use step::inner::step_under;
+use step_end::Stepped;
 ghost use mathlib.Core.Path.{_≡_};
 ghost use Rattle.step.specs.Step.{step};
 ghost use Rattle.run.specs.Run.{handedBack, runTo, withGuesses};
@@ -45,7 +45,7 @@ fn handed_back(outcome: Outcome, steps: u32, state: State, guesses: Guesses) -> 
     }
 }
 
-// Where each body was found at the end of a step is where to look for it first in the next.
+// The entry of each body at the end of a step is the first guess for the next step.
 pub fn walk_on(
     book: &[u8],
     setting: Setting,

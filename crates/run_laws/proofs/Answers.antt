@@ -1,8 +1,8 @@
--- What a run call answers once its checks have passed, and that they pass again where it stopped. Assumes nothing.
+-- The answer of a run call after its checks have passed; they pass again at the state at which it stopped. Assumes nothing.
 use mathlib.Core.Bool.{true}
 use mathlib.Core.List.{List}
-use mathlib.Core.Path.{_≡_, refl, sym, ap, _∙_, subst}
-use Prim.Native.Nat.{ℕ, zero, suc, _+_, _-_, _*_, _/_, _%_, _≤_, _<_}
+use mathlib.Core.Path.{_≡_, refl, sym, ap, _∙_}
+use Prim.Native.Nat.{ℕ, zero, suc, _+_, _-_, _*_, _/_, _≤_, _<_}
 use native.Mathlib.Nat.{mul-mod-left}
 use native.Mathlib.Omega.{arith}
 use borrow.Author.Tests.{lt-ltb, le-leb, ltb-true, ne-eqb}
@@ -14,15 +14,15 @@ use Rattle.gravity.specs.Acceleration.{accelerationAt}
 use Rattle.gravity.specs.declared.AccelerationAnswer.the-variants.{Is}
 use Rattle.gravity.specs.Sight.{sights}
 use Rattle.gravity.specs.declared.Guesses.{Guesses}
-use Rattle.injection.specs.Injection.{orderRefusal}
-use Rattle.injection.proofs.Order.{carries-rule, order-passes}
+use Rattle.gravity_stored.specs.Injection.{storedRefusal}
+use Rattle.gravity_stored.proofs.Stored.{carries-rule, stored-passes}
 use Rattle.run.specs.Step.{Moved, On, Off, step}
 use Rattle.run.specs.Walk.{onward, walk}
 use Rattle.run_checks.specs.Start.{withinSteps, startRefusal}
 use Rattle.run.specs.Run.{runTo, withGuesses, refusedAtOnce, runAnswer}
 use Rattle.run_checks.proofs.Allowed.{away}
-use Rattle.motion.proofs.OneStep.{Done, done}
-use Rattle.start.proofs.Passed.{Passed, passed}
+use Rattle.run.proofs.OneStep.{done}
+use Rattle.run_checks.proofs.Passed.{Passed}
 use Rattle.run_laws.proofs.Ran.{Ran, ran, stays}
 
 pub answerIs : (b : List ℕ) (setting : Setting) (s : State) (h target budget : ℕ) (given : Guesses) → startRefusal b setting s h target ≡ 0
@@ -38,8 +38,8 @@ refusedIs b setting s h target budget given k e = rw (e, ne-eqb (suc k) 0 (λ z.
 stillWithin : (t h left target : ℕ) → t + left * h ≡ target → withinSteps t h target ≡ true
 stillWithin t h left target e =
     let ahead : t ≤ target = omega arith in
-    let apart : target - t ≡ left * h = omega arith in
-    rw (le-leb t target ahead, apart, mul-mod-left left h)
+    let never-equal : target - t ≡ left * h = omega arith in
+    rw (le-leb t target ahead, never-equal, mul-mod-left left h)
 
 -- what a step leaves true of its new state: its components are finite, it is in order, and every used body was seen at its moment, if its
 -- centre is one
@@ -80,7 +80,7 @@ module _ (b : List ℕ) (setting : Setting) (h target : ℕ) where
   runFrom s budget p =
       ran (step b setting h) h target (Left b setting) moves leaves budget s ((target - s .moment) / h) (away (s .moment) h target (p .reachable))
 
-  -- the checks pass again where a run stopped
+  -- the checks pass again at the state at which a run stopped
   pub checksStay : (s : State) (budget : ℕ) → Passed b setting s h target → Passed b setting (runTo (step b setting h) target budget s .state) h target
   checksStay s budget p =
       let r = runFrom s budget p in
@@ -107,6 +107,6 @@ module _ (b : List ℕ) (setting : Setting) (h target : ℕ) where
       finiteThere zero none = ap finiteState (same none) ∙ p .finite
       finiteThere (suc n) some = runFrom s budget p .seen (omega arith) .finite
 
-      orderedThere : (n : ℕ) → runTo (step b setting h) target budget s .steps ≡ n → orderRefusal b setting (runTo (step b setting h) target budget s .state) ≡ 0
-      orderedThere zero none = ap (orderRefusal b setting) (same none) ∙ p .ordered
-      orderedThere (suc n) some = order-passes b setting _ (carries-rule b setting _ (runFrom s budget p .seen (omega arith) .rule))
+      orderedThere : (n : ℕ) → runTo (step b setting h) target budget s .steps ≡ n → storedRefusal b setting (runTo (step b setting h) target budget s .state) ≡ 0
+      orderedThere zero none = ap (storedRefusal b setting) (same none) ∙ p .ordered
+      orderedThere (suc n) some = stored-passes b setting _ (carries-rule b setting _ (runFrom s budget p .seen (omega arith) .rule))

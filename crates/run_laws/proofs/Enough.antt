@@ -1,7 +1,7 @@
--- Calls whose budgets are enough in all end in arrived or in a refusal. Assumes nothing.
+-- Calls whose budgets together are enough end with arrived or with a refusal. Assumes nothing.
 use mathlib.Core.List.{List, [], _∷_}
 use mathlib.Core.Path.{_≡_, refl, sym, ap, _∙_, subst}
-use Prim.Native.Nat.{ℕ, zero, suc, _+_, _*_, _≤_, _<_}
+use Prim.Native.Nat.{ℕ, zero, _+_, _*_, _≤_}
 use native.Mathlib.Nat.{add-mul, zero-add}
 use native.Mathlib.Omega.{arith}
 use borrow.Author.Tests.{ne-eqb}
@@ -14,8 +14,8 @@ use Rattle.run.specs.declared.Outcome.{Outcome}
 use Rattle.run.specs.declared.Outcome.the-variants.{Arrived, Going, Refused}
 use Rattle.run.specs.declared.RunAnswer.{RunAnswer}
 use Rattle.run_checks.proofs.Passed.{Passed, passed, passes-all}
-use Rattle.journey.specs.Journey.{Call, after, budgets, metAgain, Over, there, off}
-use Rattle.journey.proofs.Ran.{Tells, Ran}
+use Rattle.run_laws.specs.Journey.{Call, after, budgets, Over, there, off}
+use Rattle.run_laws.proofs.Ran.{Tells}
 use Rattle.run_laws.proofs.Answers.{answerIs, runFrom, checksStay}
 use Rattle.run_laws.proofs.Again.{Stuck, again, isStuck}
 
@@ -68,7 +68,7 @@ module _ (b : List ℕ) (setting : Setting) (h target : ℕ) where
   afterStuck k s [] stuck = refl
   afterStuck k s (call ∷ calls) stuck = rw (again b setting h target k s call stuck) (afterStuck k s calls stuck)
 
-  -- a call with a budget meets the refusal again
+  -- a call with a budget is refused again
   metWith : (k : ℕ) (s : State) (call : Call) → Stuck b setting h target k s → 1 ≤ call .budget → answer s call .outcome ≡ Refused k
   unfolding answer
   metWith k s call stuck some = rw (again b setting h target k s call stuck, ne-eqb (call .budget) 0 (λ z. absurd (omega arith)))
@@ -78,7 +78,7 @@ module _ (b : List ℕ) (setting : Setting) (h target : ℕ) where
   allPass [] s p = p
   allPass (call ∷ calls) s p = allPass calls (answer s call .state) (passesOn s call p)
 
-  -- where the last call has a budget, and the budgets are enough in all, it is not going
+  -- if the last call has a budget, and all budgets together are enough, it is not going
   neverGoing : (calls : List Call) (s : State) (last : Call) → Passed b setting s h target
       → target ≤ s .moment + (budgets calls + last .budget) * h → 1 ≤ last .budget → answer (after b setting h target s calls) last .outcome ≡ Going → ⊥
   unfolding answer
@@ -105,7 +105,7 @@ module _ (b : List ℕ) (setting : Setting) (h target : ℕ) where
           let z : _≡_ {A = ℕ} 0 1 = cc in
           omega arith
 
-  -- calls whose budgets are enough in all: the last one, which has a budget, is at the target, or its next step is refused
+  -- calls whose budgets together are enough: the last one, which has a budget, is at the target, or its next step is refused
   pub enough : (calls : List Call) (injection : State) (last : Call) → startRefusal b setting injection h target ≡ 0
       → target ≤ injection .moment + (budgets calls + last .budget) * h → 1 ≤ last .budget
       → Over (step b setting h) target (runAnswer b setting (after b setting h target injection calls) h target (last .budget) (last .guesses))

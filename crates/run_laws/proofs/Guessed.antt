@@ -1,7 +1,7 @@
 -- Once steps were done, each used body's returned guess is the entry that covers the returned moment. Assumes nothing.
 use mathlib.Core.Bool.{Bool, true, false}
 use mathlib.Core.List.{List}
-use mathlib.Core.Path.{_≡_, refl, sym, ap, _∙_}
+use mathlib.Core.Path.{_≡_, refl}
 use Prim.Native.Nat.{ℕ, zero, suc, _≤_}
 use native.Mathlib.Omega.{arith}
 use lib.Ieee.{Float}
@@ -12,17 +12,15 @@ use Rattle.state.specs.declared.Setting.{Setting}
 use Rattle.book.specs.Lookup.{lookup}
 use Rattle.book.specs.declared.Lookup.{Lookup}
 use Rattle.book.specs.declared.Lookup.the-variants.{Entry, Nothing}
-use Rattle.gravity.specs.Sight.{foundOf, foundIn, refusalIn, sights, entryOr}
+use Rattle.gravity.specs.Sight.{foundOf, foundIn, refusalIn, sights}
 use Rattle.gravity.specs.declared.Guesses.{Guesses}
 use Rattle.gravity.proofs.Under.{allClear}
 use Rattle.run.specs.Step.{step}
-use Rattle.motion.specs.Run.{runTo, guessAt, guessesAt, guessesAfter, runAnswer}
+use Rattle.run.specs.Run.{runTo, guessAt, guessesAt, runAnswer}
 use Rattle.run_checks.specs.Start.{startRefusal}
-use Rattle.motion.specs.declared.RunAnswer.{RunAnswer}
 use Rattle.run_checks.proofs.Passed.{passed}
 use Rattle.run_laws.specs.Guessed.{Guess, AllGuessed}
-use Rattle.journey.proofs.Ran.{Ran}
-use Rattle.journey.proofs.Answers.{Left, answerIs, refusedIs, runFrom, checksStay}
+use Rattle.run_laws.proofs.Answers.{answerIs, refusedIs, runFrom, checksStay}
 
 -- a body that was seen
 one : (b : List ℕ) (number : ℕ) (m : Float) (lit : Bool) (t given : ℕ) → foundOf b number m lit t .refusal ≡ 0
@@ -49,16 +47,23 @@ all b s c t given clear =
 
 module _ (b : List ℕ) (setting : Setting) (s : State) (h target budget : ℕ) (given : Guesses) where
   -- "If steps were done"
-  pub guessed : startRefusal b setting s h target ≡ 0 → 1 ≤ runAnswer b setting s h target budget given .steps
+  pub guessed : 1 ≤ runAnswer b setting s h target budget given .steps
       → AllGuessed b setting (runAnswer b setting s h target budget given .state .moment) given (runAnswer b setting s h target budget given .guesses)
-  guessed e =
-      rw (answerIs b setting s h target budget given e)
-      (λ some.
-      let q = runTo (step b setting h) target budget s in
-      let left = runFrom b setting h target s budget (passed b setting s h target e) .seen some in
-      rw (ne-eqb (q .steps) 0 (λ z. absurd (omega arith))) (all b setting (q .state .centre) (q .state .moment) given (left .clear (checksStay b setting h target s budget (passed b setting s h target e) .centred))))
+  guessed = go (startRefusal b setting s h target) refl
+    where
+      go : (k : ℕ) → startRefusal b setting s h target ≡ k → 1 ≤ runAnswer b setting s h target budget given .steps
+          → AllGuessed b setting (runAnswer b setting s h target budget given .state .moment) given (runAnswer b setting s h target budget given .guesses)
+      go zero e =
+          rw (answerIs b setting s h target budget given e)
+          (λ some.
+          let q = runTo (step b setting h) target budget s in
+          let p = passed b setting s h target e in
+          let left = runFrom b setting h target s budget p .seen some in
+          rw (ne-eqb (q .steps) 0 (λ z. absurd (omega arith)))
+          (all b setting (q .state .centre) (q .state .moment) given (left .clear (checksStay b setting h target s budget p .centred))))
+      go (suc k) e = rw (refusedIs b setting s h target budget given k e) (λ some. absurd (omega arith))
 
-  -- where none was done, every guess comes back as given
+  -- if no step was done, every guess comes back as given
   pub unmoved : runAnswer b setting s h target budget given .steps ≡ 0 → runAnswer b setting s h target budget given .guesses ≡ given
   unmoved none = go (startRefusal b setting s h target) refl none
     where

@@ -7,3 +7,4 @@ pub mod Guessed
 pub mod Refused
 pub mod Wrong
 pub mod Order
+pub mod AtOnce

@@ -1,4 +1,4 @@
--- Document 02, R-8: every state that a run hands back is in order, where the one that it was given is. Assumes nothing.
+-- Document 02, R-8: if the given state is in order, every state that a run returns is too. Assumes nothing.
 use mathlib.Core.Bool.{true}
 use mathlib.Core.List.{List}
 use mathlib.Core.Path.{_≡_, refl, sym, ap, _∙_}
@@ -8,9 +8,9 @@ use Rattle.state.specs.State.{bare}
 use Rattle.state.specs.declared.State.{State}
 use Rattle.state.specs.declared.Setting.{Setting}
 use Rattle.gravity.specs.declared.Guesses.{Guesses}
-use Rattle.injection.specs.Injection.{inOrder, launched}
+use Rattle.gravity_stored.specs.Injection.{storedIsRule, launched}
 use Rattle.gravity_stored.proofs.Launched.{launched-itself}
-use Rattle.injection.proofs.Order.{only-order}
+use Rattle.gravity_stored.proofs.Stored.{only-stored}
 use Rattle.run_checks.specs.Start.{startRefusal}
 use Rattle.run_checks.proofs.Passed.{Passed, passed}
 use Rattle.run.specs.Run.{runTo, runAnswer}
@@ -20,23 +20,23 @@ use Rattle.run_laws.proofs.Answers.{Left, answerIs, refusedIs, moves, l
 
 module _ (b : List ℕ) (setting : Setting) (s : State) (h target budget : ℕ) (given : Guesses) where
   -- a run whose checks pass was given such a state
-  pub starts-in-order : startRefusal b setting s h target ≡ 0 → inOrder b setting s ≡ true
-  starts-in-order e = only-order b setting s (passed b setting s h target e .ordered)
+  pub starts-in-order : startRefusal b setting s h target ≡ 0 → storedIsRule b setting s ≡ true
+  starts-in-order e = only-stored b setting s (passed b setting s h target e .ordered)
 
-  -- and hands one back, wherever it stops
-  pub ends-in-order : startRefusal b setting s h target ≡ 0 → inOrder b setting (runAnswer b setting s h target budget given .state) ≡ true
+  -- and returns one, at any step at which it stops
+  pub ends-in-order : startRefusal b setting s h target ≡ 0 → storedIsRule b setting (runAnswer b setting s h target budget given .state) ≡ true
   ends-in-order e =
       rw (answerIs b setting s h target budget given e)
-      (only-order b setting (runTo (step b setting h) target budget s .state) (checksStay b setting h target s budget (passed b setting s h target e) .ordered))
+      (only-stored b setting (runTo (step b setting h) target budget s .state) (checksStay b setting h target s budget (passed b setting s h target e) .ordered))
 
-  pub run-in-order : inOrder b setting s ≡ true → inOrder b setting (runAnswer b setting s h target budget given .state) ≡ true
+  pub run-in-order : storedIsRule b setting s ≡ true → storedIsRule b setting (runAnswer b setting s h target budget given .state) ≡ true
   run-in-order ok = go (startRefusal b setting s h target) refl
     where
-      go : (k : ℕ) → startRefusal b setting s h target ≡ k → inOrder b setting (runAnswer b setting s h target budget given .state) ≡ true
+      go : (k : ℕ) → startRefusal b setting s h target ≡ k → storedIsRule b setting (runAnswer b setting s h target budget given .state) ≡ true
       go zero e = ends-in-order e
       go (suc k) e = rw (refusedIs b setting s h target budget given k e) ok
 
--- A state that an old call's coordinates lead back to is followed by such states: so a journey through old calls is the same journey.
+-- If a state is the one that its old coordinates mean, so are the states after it. So a journey through old calls is the same journey.
 module _ (b : List ℕ) (setting : Setting) (h target : ℕ) where
   launched-there : (s : State) (budget : ℕ) → Passed b setting s h target → launched b setting (bare s) ≡ s → (n : ℕ)
       → runTo (step b setting h) target budget s .steps ≡ n

@@ -10,14 +10,14 @@ use Rattle.gravity.specs.declared.Guesses.{Guesses}
 use Rattle.run.specs.Step.{Moved, On, Off, step}
 use Rattle.run.specs.Walk.{walk}
 use Rattle.run_checks.specs.Start.{startRefusal}
-use Rattle.motion.specs.Run.{Reached, runTo, withGuesses, runAnswer}
+use Rattle.run.specs.Run.{runTo, withGuesses, runAnswer}
 use Rattle.run.specs.declared.Outcome.{Outcome}
 use Rattle.run.specs.declared.Outcome.the-variants.{Arrived, Going, Refused}
 use Rattle.run.specs.declared.RunAnswer.{RunAnswer}
 use Rattle.run_checks.proofs.Passed.{Passed, passed, passes-all}
 use Rattle.run.proofs.Walks.{walkMore, walkNone}
 use Rattle.run_laws.specs.Journey.{Call, journey, Holds, AllHold}
-use Rattle.journey.proofs.Ran.{Tells, Ran}
+use Rattle.run_laws.proofs.Ran.{Tells}
 use Rattle.run_laws.proofs.Answers.{answerIs, refusedIs, runFrom, checksStay}
 
 -- ---- from one outcome to all of them
@@ -28,10 +28,10 @@ data Differ : Outcome → Outcome → Type 0 where
   arrived-refused : (k : ℕ) → Differ Arrived (Refused k)
   going-refused : (k : ℕ) → Differ Going (Refused k)
 
-apart : {o o' : Outcome} → Differ o o' → (o ≡ o' → ⊥) × (o' ≡ o → ⊥)
-apart arrived-going = (λ e. let z : _≡_ {A = ℕ} 0 1 = cc in omega arith, λ e. let z : _≡_ {A = ℕ} 0 1 = cc in omega arith)
-apart (arrived-refused k) = (λ e. let z : _≡_ {A = ℕ} 0 1 = cc in omega arith, λ e. let z : _≡_ {A = ℕ} 0 1 = cc in omega arith)
-apart (going-refused k) = (λ e. let z : _≡_ {A = ℕ} 0 1 = cc in omega arith, λ e. let z : _≡_ {A = ℕ} 0 1 = cc in omega arith)
+never-equal : {o o' : Outcome} → Differ o o' → (o ≡ o' → ⊥) × (o' ≡ o → ⊥)
+never-equal arrived-going = (λ e. let z : _≡_ {A = ℕ} 0 1 = cc in omega arith, λ e. let z : _≡_ {A = ℕ} 0 1 = cc in omega arith)
+never-equal (arrived-refused k) = (λ e. let z : _≡_ {A = ℕ} 0 1 = cc in omega arith, λ e. let z : _≡_ {A = ℕ} 0 1 = cc in omega arith)
+never-equal (going-refused k) = (λ e. let z : _≡_ {A = ℕ} 0 1 = cc in omega arith, λ e. let z : _≡_ {A = ℕ} 0 1 = cc in omega arith)
 
 sameNumber : (f : State → Moved) (injection : State) (n j k : ℕ) → walk f (suc n) injection ≡ Off j → Refused j ≡ Refused k
     → walk f (suc n) injection ≡ Off k
@@ -51,8 +51,8 @@ module _ (f : State → Moved) (injection : State) (h target n budget : ℕ) (r 
         within = within;
         spent = spent;
         arrived = (λ e. at, λ e. is);
-        going = (λ e. absurd (apart arrived-going .0 (sym is ∙ e)), λ p. let less = p .0 in absurd (omega arith));
-        refused = λ k. (λ e. absurd (apart (arrived-refused k) .0 (sym is ∙ e)), λ p. let less = p .0 in absurd (omega arith));
+        going = (λ e. absurd (never-equal arrived-going .0 (sym is ∙ e)), λ p. let less = p .0 in absurd (omega arith));
+        refused = λ k. (λ e. absurd (never-equal (arrived-refused k) .0 (sym is ∙ e)), λ p. let less = p .0 in absurd (omega arith));
       }
   holdsBy Going is (short, same) =
       record {
@@ -60,9 +60,9 @@ module _ (f : State → Moved) (injection : State) (h target n budget : ℕ) (r 
         clock = clock;
         within = within;
         spent = spent;
-        arrived = (λ e. absurd (apart arrived-going .1 (sym is ∙ e)), λ at. absurd (short at));
+        arrived = (λ e. absurd (never-equal arrived-going .1 (sym is ∙ e)), λ at. absurd (short at));
         going = (λ e. (before short, same), λ p. is);
-        refused = λ k. (λ e. absurd (apart (going-refused k) .0 (sym is ∙ e)), λ p. let less = p .1 in absurd (omega arith));
+        refused = λ k. (λ e. absurd (never-equal (going-refused k) .0 (sym is ∙ e)), λ p. let less = p .1 in absurd (omega arith));
       }
     where
       before : (r .state .moment ≡ target → ⊥) → r .state .moment < target
@@ -73,8 +73,8 @@ module _ (f : State → Moved) (injection : State) (h target n budget : ℕ) (r 
         clock = clock;
         within = within;
         spent = spent;
-        arrived = (λ e. absurd (apart (arrived-refused j) .1 (sym is ∙ e)), λ at. absurd (short at));
-        going = (λ e. absurd (apart (going-refused j) .1 (sym is ∙ e)), λ p. let same = p .1 in absurd (omega arith));
+        arrived = (λ e. absurd (never-equal (arrived-refused j) .1 (sym is ∙ e)), λ at. absurd (short at));
+        going = (λ e. absurd (never-equal (going-refused j) .1 (sym is ∙ e)), λ p. let same = p .1 in absurd (omega arith));
         refused = λ k. (
           λ e. (omega arith, left, sameNumber f injection n j k off (sym is ∙ e)),
           λ p. is ∙ oneNumber f injection n j k off (p .2),
@@ -146,7 +146,7 @@ spentAlways b setting s h target budget given = go (startRefusal b setting s h t
     go zero e = rw (answerIs b setting s h target budget given e) (runFrom b setting h target s budget (passed b setting s h target e) .spent)
     go (suc k) e = rw (refusedIs b setting s h target budget given k e) (omega arith)
 
--- the answer but for the guesses does not depend on the guesses
+-- the answer without its guesses does not depend on the given guesses
 pub record SameButGuesses (r r' : RunAnswer) : Type 0 where
   pub outcome : r .outcome ≡ r' .outcome
   pub steps : r .steps ≡ r' .steps

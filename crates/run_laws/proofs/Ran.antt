@@ -1,12 +1,10 @@
--- One run over any step that moves the clock by h and leaves finite components, told by its walk. Assumes nothing.
-use mathlib.Core.Bool.{true}
+-- One run over any step that moves the clock by h and leaves finite components, described by its walk. Assumes nothing.
 use mathlib.Core.Path.{_≡_, refl, sym, ap, _∙_, subst}
 use Prim.Native.Nat.{ℕ, zero, suc, _+_, _*_, _≤_, _<_}
 use native.Mathlib.Nat.{suc-mul, zero-mul}
 use native.Mathlib.Numerals.{add-one}
 use native.Mathlib.Decide.{ℕ-discrete}
 use native.Mathlib.Omega.{arith}
-use Rattle.state.specs.State.{finiteState}
 use Rattle.state.specs.declared.State.{State}
 use Rattle.run.specs.Step.{Moved, On, Off}
 use Rattle.run.specs.Walk.{walk}
@@ -17,8 +15,8 @@ use Rattle.run.proofs.Runs.{runArrived, runGoing, runRefused, runOn}
 use Rattle.run.proofs.Walked.{oneLess}
 use Rattle.run.proofs.Walks.{walkFirst, walkNone, walkLast}
 
--- What an outcome tells of the state s that n steps of the walk f from the injection have led to, after a call that did some steps of
--- its budget. One outcome at a time: `Holds` says it of all of them.
+-- What an outcome says about the state s, after n steps of the walk f from the injection and a call that did some steps of its budget. One
+-- outcome at a time: `Holds` is the statement for all of them.
 abbrev pub Tells : (State → Moved) → State → ℕ → ℕ → ℕ → ℕ → State → Outcome → Type 0
 Tells f injection target n budget did s Arrived = s .moment ≡ target
 Tells f injection target n budget did s Going = (s .moment ≡ target → ⊥) × (did ≡ budget)
@@ -36,14 +34,14 @@ module _ (f : State → Moved) (h target : ℕ) (Seen : State → Type 0) (clock
     pub reach : r .state .moment + left * h ≡ target
     pub tells : Tells f s target (r .steps) budget (r .steps) (r .state) (r .outcome)
 
-  -- no steps lead nowhere
+  -- zero steps lead to the state itself
   pub stays : (s : State) (r : Reached) → walk f (r .steps) s ≡ On (r .state) → r .steps ≡ 0 → r .state ≡ s
   stays s r w none =
       let same : On (r .state) ≡ On s = sym w ∙ ap (λ (n : ℕ). walk f n s) none ∙ walkNone f s in
       cc
 
   module _ (s : State) (short : s .moment ≡ target → ⊥) where
-    -- what a run from the next state tells, told from this one
+    -- what a run from the next state says, seen from this one
     tellsBefore : (next : State) (n budget : ℕ) (last : State) (o : Outcome) → f s ≡ On next → Tells f next target n budget n last o
         → Tells f s target (n + 1) (suc budget) (n + 1) last o
     tellsBefore next n budget last Arrived e t = t

@@ -1,4 +1,4 @@
--- A step is refused by 6 or 7 alone, and a run by these and the numbers of its start checks. Assumes nothing.
+-- A step is refused only with 6 or 7, and a run with these and the numbers of its start checks. Assumes nothing.
 use mathlib.Core.Bool.{Bool, true, false, not, _&&_, _||_, true≢false}
 use mathlib.Core.List.{List}
 use mathlib.Core.Logic.{_⊎_, inl, inr}
@@ -8,24 +8,27 @@ use borrow.Author.Tests.{eqb-true}
 use Rattle.base.specs.Choice.{if_then_else_, _=?_}
 use Rattle.base.specs.Limits.{isMoment}
 use Rattle.base.proofs.Cases.{by-if}
-use Rattle.state.specs.State.{position, velocity, acceleration, injectionAt, bare, sameVector, finiteVector, finiteState, settingAllowed, centreAllowed}
+use Rattle.state.specs.State.{position, velocity, acceleration, injectionAt, bare, sameVector, finiteVector, finiteState, centreAllowed}
 use Rattle.state.specs.declared.Vector.{Vector}
 use Rattle.state.specs.declared.State.{State}
 use Rattle.state.specs.declared.Injection.{Injection}
 use Rattle.state.specs.declared.Setting.{Setting}
-use Rattle.book.specs.Passes.{passes}
 use Rattle.gravity.specs.Acceleration.{accelerationAt}
 use Rattle.gravity.specs.declared.AccelerationAnswer.{AccelerationAnswer}
 use Rattle.gravity.specs.declared.AccelerationAnswer.the-variants.{Is, Refused}
 use Rattle.gravity.specs.declared.Guesses.{Guesses}
-use Rattle.gravity.proofs.Refused.{refusedBy, rule-refused}
-use Rattle.injection.specs.Injection.{ruleAt, keptBy, orderRefusalBy, orderRefusal}
-use Rattle.start.specs.Start.{stepAllowed, withinSteps, startRefusal}
-use Rattle.motion.specs.Step.{Moved, On, Off, andThen, along, weighed, half, sixth, stepH, velocity2, velocity3, velocity4, arrive, lastly, stage2, stage3, stage4, movedBy, keeping, step}
+use Rattle.base.specs.Checks.{refusedBy}
+use Rattle.base.proofs.Bools.{or-right}
+use Rattle.state_checks.proofs.Numbers.{common-meets}
+use Rattle.gravity.proofs.Refused.{asAnswer, rule-refused}
+use Rattle.gravity_stored.specs.Injection.{ruleAt, keptBy, storedRefusalBy, storedRefusal}
+use Rattle.run_target.specs.Target.{targetRefusal}
+use Rattle.run_checks.specs.Start.{stepAllowed, withinSteps, inputsRefusal, startRefusal}
+use Rattle.run.specs.Step.{Moved, On, Off, andThen, along, weighed, half, sixth, stepH, arrive, movedBy, keeping, step}
+use Rattle.run.specs.Stages.{velocity2, velocity3, velocity4, lastly, stage2, stage3, stage4}
 use Rattle.run.specs.Run.{Reached, atTarget, afterwards, runTo, withGuesses, refusedAtOnce, runAnswer}
 use Rattle.run.specs.declared.Outcome.{Outcome}
 use Rattle.run.specs.declared.Outcome.the-variants as outcome
-use Rattle.motion.specs.declared.RunAnswer.{RunAnswer}
 
 abbrev pub offBy : (ℕ → Bool) → Moved → Bool
 offBy ok (On s) = true
@@ -38,15 +41,15 @@ outcomeBy ok outcome.Going = true
 outcomeBy ok (outcome.Refused k) = ok k
 
 module _ (ok : ℕ → Bool) (six : ok 6 ≡ true) (seven : ok 7 ≡ true) where
-  then-off : (a : AccelerationAnswer) (next : Vector → Moved) → refusedBy ok a ≡ true → ((v : Vector) → offBy ok (next v) ≡ true) → offBy ok (andThen a next) ≡ true
+  then-off : (a : AccelerationAnswer) (next : Vector → Moved) → refusedBy ok (asAnswer a) ≡ true → ((v : Vector) → offBy ok (next v) ≡ true) → offBy ok (andThen a next) ≡ true
   then-off (Is v) next first rest = rest v
   then-off (Refused k) next first rest = first
 
-  kept-off : (i : Injection) (a : AccelerationAnswer) → refusedBy ok a ≡ true → offBy ok (movedBy (keptBy i a)) ≡ true
+  kept-off : (i : Injection) (a : AccelerationAnswer) → refusedBy ok (asAnswer a) ≡ true → offBy ok (movedBy (keptBy i a)) ≡ true
   kept-off i (Is a) e = refl
   kept-off i (Refused k) e = e
 
-  module _ (acc : ℕ → Vector → AccelerationAnswer) (each : (t : ℕ) (P : Vector) → refusedBy ok (acc t P) ≡ true) (h : ℕ) (s : State) where
+  module _ (acc : ℕ → Vector → AccelerationAnswer) (each : (t : ℕ) (P : Vector) → refusedBy ok (asAnswer (acc t P)) ≡ true) (h : ℕ) (s : State) where
     arrive-off : (t c : ℕ) (p v : Vector) → offBy ok (arrive (keeping acc) t c p v) ≡ true
     arrive-off t c p v = by-if (offBy ok) (finiteVector p && finiteVector v) (kept-off (injectionAt t c p v) (acc t p) (each t p)) seven
 
@@ -88,35 +91,27 @@ module _ (ok : ℕ → Bool) (six : ok 6 ≡ true) (seven : ok 7 ≡ true) where
 
   module _ (one : ok 1 ≡ true) (four : ok 4 ≡ true) (fourteen : ok 14 ≡ true) (three : ok 3 ≡ true) (fifteen : ok 15 ≡ true) (two : ok 2 ≡ true)
       (five : ok 5 ≡ true) where
-    or-right : (a b : Bool) → b ≡ true → (a || b) ≡ true
-    or-right true b e = refl
-    or-right false b e = e
+    stored-by-off : (s : State) (a : AccelerationAnswer) → refusedBy ok (asAnswer a) ≡ true → ((storedRefusalBy s a =? 0) || ok (storedRefusalBy s a)) ≡ true
+    stored-by-off s (Is a) e = let p : ℕ → Bool = λ k. (k =? 0) || ok k in by-if p (sameVector a (acceleration s)) refl fifteen
+    stored-by-off s (Refused k) e = or-right (k =? 0) (ok k) e
 
-    order-by-off : (s : State) (a : AccelerationAnswer) → refusedBy ok a ≡ true → ((orderRefusalBy s a =? 0) || ok (orderRefusalBy s a)) ≡ true
-    order-by-off s (Is a) e = let p : ℕ → Bool = λ k. (k =? 0) || ok k in by-if p (sameVector a (acceleration s)) refl fifteen
-    order-by-off s (Refused k) e = or-right (k =? 0) (ok k) e
-
-    order-off : (b : List ℕ) (setting : Setting) (s : State) → ((orderRefusal b setting s =? 0) || ok (orderRefusal b setting s)) ≡ true
-    unfolding orderRefusal
-    order-off b setting s = order-by-off s (ruleAt b setting (bare s)) (rule-refused ok six seven b setting (s .centre) (s .moment) (position s))
+    stored-off : (b : List ℕ) (setting : Setting) (s : State) → ((storedRefusal b setting s =? 0) || ok (storedRefusal b setting s)) ≡ true
+    unfolding storedRefusal
+    stored-off b setting s = stored-by-off s (ruleAt b setting (bare s)) (rule-refused ok six seven b setting (s .centre) (s .moment) (position s))
 
     -- 0, or a number of the checks
     start-off : (b : List ℕ) (setting : Setting) (s : State) (h target : ℕ)
         → ((startRefusal b setting s h target =? 0) || ok (startRefusal b setting s h target)) ≡ true
-    unfolding startRefusal
+    unfolding startRefusal inputsRefusal targetRefusal
     start-off b setting s h target =
         let p : ℕ → Bool = λ k. (k =? 0) || ok k in
-        by-if p (not (passes b)) one
-        (by-if p (not (settingAllowed setting)) four
-        (by-if p (not (centreAllowed setting (s .centre))) fourteen
-        (by-if p (not (isMoment (s .moment))) three
-        (by-if p (not (isMoment target)) three
-        (by-if p (not (finiteState s)) seven
-        (by-if p (orderRefusal b setting s =? 0)
+        common-meets p (λ k. k) _ one four fourteen three seven
+        (by-if p (storedRefusal b setting s =? 0)
         (by-if p (not (stepAllowed h)) two (by-if p (not (withinSteps (s .moment) h target)) five refl))
-        (order-off b setting s)))))))
+        (stored-off b setting s))
+        b setting (centreAllowed setting (s .centre)) (isMoment (s .moment) && isMoment target) (finiteState s)
 
-    -- a run by 1, 4, 14, 3, 7, 6, 15, 2 and 5 alone
+    -- a run only with 1, 4, 14, 3, 7, 6, 15, 2 and 5
     pub run-refused : (b : List ℕ) (setting : Setting) (s : State) (h target budget : ℕ) (given : Guesses)
         → outcomeBy ok (runAnswer b setting s h target budget given .outcome) ≡ true
     unfolding runAnswer

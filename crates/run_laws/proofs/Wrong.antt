@@ -1,53 +1,54 @@
 -- Document 01's six wrong runs contradict the promise. Assumes nothing.
 use mathlib.Core.Bool.{Bool, true, false, not, _&&_, true≢false}
-use mathlib.Core.List.{List, [], _∷_}
 use mathlib.Core.Path.{_≡_, refl, sym, ap, _∙_}
-use Prim.Native.Nat.{ℕ, zero, suc, _+_, _*_, _≤_}
+use Prim.Native.Nat.{ℕ, _+_, _*_}
 use native.Mathlib.Omega.{arith}
-use lib.Ieee.{Float, neg, add, sub, mul, div, lt, eq, ofBits, toBits, ofInt, ofFields, odd, size}
+use lib.Ieee.{Float, neg, add, sub, mul, div, lt, eq, ofBits, toBits, ofInt}
 use Rattle.base.specs.Floats.{whole}
-use Rattle.state.specs.State.{position, velocity, settingAllowed, coefficientsAllowed, termsAllowed, coefficientOf, centreAllowed, sameVector, n}
+use Rattle.state.specs.State.{settingAllowed, coefficientsAllowed, termsAllowed, coefficientOf, centreAllowed, sameVector, n}
 use Rattle.state.specs.declared.Vector.{Vector}
 use Rattle.state.specs.declared.State.{State}
 use Rattle.state.specs.declared.Setting.{Setting}
 use Rattle.book.specs.Passes.{passes}
-use Rattle.book.specs.Bytes.{u16At, u32At, u64At}
+use Rattle.base_bytes.specs.Bytes.{u16At, u32At, u64At}
 use Rattle.root.specs.Root.{rootOf}
 use Rattle.gravity.specs.Pull.{g, sound, r3}
 use Rattle.gravity.specs.Acceleration.{sky, accelerationAt}
 use Rattle.gravity.specs.declared.Guesses.{Guesses}
-use Rattle.injection.specs.Injection.{orderRefusal}
-use Rattle.start.specs.Start.{startRefusal}
+use Rattle.gravity_stored.specs.Injection.{storedRefusal}
+use Rattle.state_checks.specs.Common.{commonRefusal}
+use Rattle.run_checks.specs.Start.{inputsRefusal, startRefusal}
 use Rattle.run.specs.Step.{Moved, On, Off, stepH, along, weighed, half, sixth, step}
-use Rattle.motion.specs.Run.{Reached, ended, counted, runTo, withGuesses, runAnswer}
-use Rattle.motion.specs.declared.Outcome.{Outcome}
+use Rattle.run.specs.Run.{ended, counted, runTo, withGuesses, runAnswer}
+use Rattle.run_target.specs.Target.{targetRefusal}
 use Rattle.run.specs.declared.Outcome.the-variants.{Arrived, Going, Refused}
 use Rattle.run.specs.declared.RunAnswer.{RunAnswer}
 use Rattle.run.proofs.OneStep.{done}
 use Rattle.run.proofs.Runs.{runArrived, runOn}
-use Rattle.book.proofs.Below.{left, right}
-use Rattle.journey.specs.Wrong.{RunCall, Promised, RefusesEverything, AnswersAConstant, OwnStateAsArrived, OwnStateAsGoing, OnlyTheClock, InventsACount, exampleBook, exampleSetting, exampleState, exampleH, noGuesses}
+use Rattle.base.proofs.Bools.{left, right}
+use Rattle.run_laws.specs.Wrong.{RunCall, Promised, RefusesEverything, AnswersAConstant, OwnStateAsArrived, OwnStateAsGoing, OnlyTheClock}
+use Rattle.run_laws.specs.Wrong.{InventsACount, exampleBook, exampleSetting, exampleState, exampleH, noGuesses}
 use Rattle.run_laws.proofs.Answers.{answerIs}
 use Rattle.run_laws.proofs.Portions.{clockAlways}
 
 -- the example is in order
-ordered : orderRefusal exampleBook exampleSetting exampleState ≡ 0
-unfolding orderRefusal sameVector accelerationAt coefficientOf sky g sound r3 n rootOf neg add sub mul div lt eq ofBits ofInt toBits
+ordered : storedRefusal exampleBook exampleSetting exampleState ≡ 0
+unfolding storedRefusal sameVector accelerationAt coefficientOf sky g sound r3 n rootOf neg add sub mul div lt eq ofBits ofInt toBits
 ordered = refl
 
--- it passes the checks, with a target at hand, one step on and two steps on
+-- it passes the checks, with the target at its own moment, one step on and two steps on
 passesHere : startRefusal exampleBook exampleSetting exampleState exampleH 0 ≡ 0
-unfolding startRefusal passes settingAllowed coefficientsAllowed termsAllowed centreAllowed coefficientOf u16At u32At u64At lt ofBits ofInt
+unfolding startRefusal inputsRefusal targetRefusal commonRefusal passes settingAllowed coefficientsAllowed termsAllowed centreAllowed coefficientOf u16At u32At u64At lt ofBits ofInt
 passesHere = rw ordered
 
 passesThere : startRefusal exampleBook exampleSetting exampleState exampleH 2000 ≡ 0
-unfolding startRefusal passes settingAllowed coefficientsAllowed termsAllowed centreAllowed coefficientOf u16At u32At u64At lt ofBits ofInt
+unfolding startRefusal inputsRefusal targetRefusal commonRefusal passes settingAllowed coefficientsAllowed termsAllowed centreAllowed coefficientOf u16At u32At u64At lt ofBits ofInt
 passesThere = rw ordered
 
 abbrev f : State → Moved
 f = step exampleBook exampleSetting exampleH
 
--- what a run of the example answers, with the target at hand
+-- the answer of a run of the example, with the target at its own moment
 arrivesHere : runAnswer exampleBook exampleSetting exampleState exampleH 0 1 noGuesses .outcome ≡ Arrived
 unfolding runTo
 arrivesHere = ap (λ (r : RunAnswer). r .outcome) (answerIs exampleBook exampleSetting exampleState exampleH 0 1 noGuesses passesHere)

@@ -7,9 +7,6 @@ use borrow.Author.Needs.{needs}
 use Rattle.run.proofs.run.Statement.{statement}
 use Rattle.run.proofs.run.Tie as tie
 
-start-refusal-requires : tie.Need-start-refusal-requires
-start-refusal-requires c κs = search needs
-
 walk-on-requires : tie.Need-walk-on-requires
 walk-on-requires c κs = mayWalk _ _ _ _ _ (sym (c .before .start-refusal .ensures) ∙ c .if1 .taken)
 
@@ -22,4 +19,4 @@ unfolding runAnswer
 returns-2 c = rw (← c .before .start-refusal .ensures, ne-eqb _ _ (c .if1 .left))
 
 pub run-spec : {M : Type 1} → statement M
-run-spec = tie.close (tie.spec start-refusal-requires walk-on-requires returns returns-2)
+run-spec = tie.close (tie.spec (λ c κs. search needs) walk-on-requires returns returns-2)

@@ -5,20 +5,8 @@ use borrow.Author.Needs.{needs}
 use Rattle.run.proofs.single_step.Statement.{statement}
 use Rattle.run.proofs.single_step.Tie as tie
 
-add-run : tie.Need-add-run
-add-run c = search needs
-
-run-requires : tie.Need-run-requires
-run-requires c κs = search needs
-
-returns : tie.Need-returns
-returns c = search needs
-
-run-requires-2 : tie.Need-run-requires-2
-run-requires-2 c κs = search needs
-
 returns-2 : tie.Need-returns-2
 returns-2 c = c .run2 .ensures ∙ late _ _ _ _ _ _ _ _ (c .before .if1 .left)
 
 pub single-step-spec : {M : Type 1} → statement M
-single-step-spec = tie.close (tie.spec add-run run-requires returns run-requires-2 returns-2)
+single-step-spec = tie.close (tie.spec (λ c. search needs) (λ c κs. search needs) (λ c. search needs) (λ c κs. search needs) returns-2)

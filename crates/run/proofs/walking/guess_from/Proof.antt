@@ -4,9 +4,6 @@ use borrow.Author.Needs.{needs}
 use Rattle.run.proofs.walking.guess_from.Statement.{statement}
 use Rattle.run.proofs.walking.guess_from.Tie as tie
 
-is-looked-up-requires : tie.Need-is-looked-up-requires
-is-looked-up-requires c κs = search needs
-
 returns : tie.Need-returns
 returns c = rw (sym (c .before .is-looked-up .ensures) ∙ c .if1 .taken)
 
@@ -14,4 +11,4 @@ returns-2 : tie.Need-returns-2
 returns-2 c = rw (sym (c .before .is-looked-up .ensures) ∙ c .if1 .left)
 
 pub guess-from-spec : {M : Type 1} → statement M
-guess-from-spec = tie.close (tie.spec is-looked-up-requires returns returns-2)
+guess-from-spec = tie.close (tie.spec (λ c κs. search needs) returns returns-2)

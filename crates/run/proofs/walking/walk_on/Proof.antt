@@ -3,7 +3,6 @@
 use mathlib.Core.Path.{_≡_, sym, ap, _∙_}
 use Prim.Native.Nat.{ℕ, suc, _+_, _-_, _≤_, _<_}
 use native.Mathlib.Omega.{arith}
-use borrow.Author.Needs.{needs}
 use denote.Ref.{now}
 use Rattle.book.specs.Calm.{Ready}
 use Rattle.step.specs.Step.{step}
@@ -48,13 +47,17 @@ returns c =
     let b = now (x .book) in
     let l = c .before .before .before .before .loop in
     c .handed-back .ensures
-    ∙ walkEnds b (x .setting) (x .start) (x .h) (x .target) (x .budget) (x .given) (l .now) (l .guesses) (l .n) (l .inv) Arrived (runArrived (step b (x .setting) (x .h)) (x .target) (l .now) (x .budget - l .n) (c .before .if1 .taken))
+    ∙ walkEnds b (x .setting) (x .start) (x .h) (x .target) (x .budget) (x .given) (l .now) (l .guesses) (l .n) (l .inv) Arrived
+    (runArrived (step b (x .setting) (x .h)) (x .target) (l .now) (x .budget - l .n) (c .before .if1 .taken))
 
 step-under-requires : tie.Need-step-under-requires Inv-loop μ-loop
 step-under-requires c κs =
     let x = c .before .before .before .before .before .before .args in
-    let l = c .before .before .before .loop in
-    (ready (c .before .before .before .before), walkIn (now (x .book)) (x .setting) (x .start) (x .h) (x .target) (x .budget) (x .given) (l .now) (l .guesses) (l .n) (l .inv) (c .before .before .before .before .before .before .pre .ends))
+    let l = c .before .before .before .loop in (
+      ready (c .before .before .before .before),
+      walkIn (now (x .book)) (x .setting) (x .start) (x .h) (x .target) (x .budget) (x .given) (l .now)
+          (l .guesses) (l .n) (l .inv) (c .before .before .before .before .before .before .pre .ends),
+    )
 
 enum-known-stepped : tie.Need-enum-known-stepped Inv-loop μ-loop
 enum-known-stepped c = c .match .keys1
@@ -73,7 +76,10 @@ loop-again c =
     let x = c .before .before .before .before .before .before .before .before .before .before .before .args in
     let b = now (x .book) in
     let l = c .before .before .before .before .before .before .before .before .loop in
-    rw (c .guesses-from .ensures) (walkGoesOn b (x .setting) (x .start) (x .h) (x .target) (x .budget) (x .given) (l .now) (l .guesses) (l .n) (l .inv) _ _ (c .before .before .before .before .before .before .before .loop-test .taken) (c .before .before .before .before .before .if1 .left) (sym (c .before .before .stepped .given .1) ∙ c .before .before .before .before .step-under .ensures))
+    rw (c .guesses-from .ensures)
+    (walkGoesOn b (x .setting) (x .start) (x .h) (x .target) (x .budget) (x .given) (l .now) (l .guesses) (l .n) (l .inv) _ _
+    (c .before .before .before .before .before .before .before .loop-test .taken) (c .before .before .before .before .before .if1 .left) (sym
+    (c .before .before .stepped .given .1) ∙ c .before .before .before .before .step-under .ensures))
 
 enum-known-stepped-2 : tie.Need-enum-known-stepped-2 Inv-loop μ-loop
 enum-known-stepped-2 c = c .match .keys2
@@ -101,7 +107,8 @@ returns-3 c =
     let b = now (x .book) in
     let l = c .before .before .before .before .loop in
     c .handed-back3 .ensures
-    ∙ walkEnds b (x .setting) (x .start) (x .h) (x .target) (x .budget) (x .given) (l .now) (l .guesses) (l .n) (l .inv) Arrived (runArrived (step b (x .setting) (x .h)) (x .target) (l .now) (x .budget - l .n) (c .before .if2 .taken))
+    ∙ walkEnds b (x .setting) (x .start) (x .h) (x .target) (x .budget) (x .given) (l .now) (l .guesses) (l .n) (l .inv) Arrived
+    (runArrived (step b (x .setting) (x .h)) (x .target) (l .now) (x .budget - l .n) (c .before .if2 .taken))
 
 handed-back-requires-4 : tie.Need-handed-back-requires-4 Inv-loop μ-loop
 handed-back-requires-4 c κs = tt
