@@ -1,8 +1,10 @@
--- A float is told by its sign and its value, and less zero it is itself. Both for any format first, so that its powers of two stay names. Assumes nothing.
+-- Sign and value determine a float, and a float minus zero is itself. Both are proved for any format first, so that its powers of two stay
+-- names. Assumes nothing.
 use mathlib.Core.Path.{_≡_, refl, sym, ap, _∙_, subst}
 use mathlib.Core.Bool.{Bool, true, false, _&&_, cond}
 use Prim.Native.Nat.{ℕ, zero, suc, _+_, _-_, _*_, _/_, _%_, _^_, _≤_, _<_}
-use native.Mathlib.Nat.{le-trans, le-of-eq, le-of-suc-le-suc, lt-of-not-le, lt-irrefl, zero-mul, one-mul, mul-one, mul-comm, mul-assoc, mul-right-comm, mul-pos, mul-le-mul-right, mul-lt-mul-of-pos-right, lt-of-mul-lt-mul-right, add-zero, sub-zero}
+use native.Mathlib.Nat.{le-trans, le-of-eq, le-of-suc-le-suc, lt-of-not-le, lt-irrefl, zero-mul, one-mul, mul-one, mul-comm, mul-assoc}
+use native.Mathlib.Nat.{mul-right-comm, mul-pos, mul-le-mul-right, mul-lt-mul-of-pos-right, lt-of-mul-lt-mul-right, add-zero, sub-zero}
 use native.Mathlib.Omega.{arith}
 use lib.IntN.{ℤ, pos, negsuc}
 use lib.Dec.{T, leb, ltb, eqb, eqb→eq, ltb→lt, leb→le, not-T}
@@ -30,7 +32,7 @@ fin-bits f s m e = refl
 units-same : (l x d a c : ℕ) → 0 < d → 0 < c → x * c ≡ a * d → x * l / d ≡ a * l / c
 units-same l x d a c D C h = div-same (x * l) d (a * l) c D C (mul-right-comm x l c ∙ ap (λ (z : ℕ). z * l) h ∙ mul-right-comm a d l)
 
--- so a value's bits are told by sign and fraction
+-- so sign and fraction determine the bits of a value
 value-bits : (f : Format) (x : Float) (s : Bool) (a c : ℕ) → 0 < c → HasValue x s a c → toBits f x ≡ bitsAt f s (a * 2 ^ low f / c)
 value-bits f nan s a c C v = absurd v
 value-bits f (inf t) s a c C v = absurd v
@@ -58,7 +60,7 @@ record Room (f : Format) (m : ℕ) (e : ℤ) : Type 0 where
   deep : down e ≤ 2 ^ low f
   below : m * up e < 2 ^ suc (emax f) * down e
 
--- u·d = 1 leaves d no room
+-- if u·d = 1, d is at most any number above 0
 one-deep : (u d p : ℕ) → 0 < u → 0 < p → u * d ≡ 1 → d ≤ p
 one-deep u d p U P h = le-trans (le-of-eq (sym (one-mul d))) (le-trans (mul-le-mul-right d U) (le-trans (le-of-eq h) P))
 
@@ -92,7 +94,7 @@ record Placed (l : ℕ) (e : ℤ) : Type 0 where
   places : ℕ
   is : up e * 2 ^ l ≡ 2 ^ places * down e
 
--- where the format reaches as far down as 2 ^ e
+-- if the format reaches as far down as 2 ^ e
 placed : (l : ℕ) (e : ℤ) → down e ≤ 2 ^ l → Placed l e
 placed l (pos k) h = record { places = k + l; is = sym (pow-add 2 k l) ∙ sym (mul-one (2 ^ (k + l))) }
 placed l (negsuc k) h =
@@ -123,7 +125,7 @@ own-round f s m e t =
     one-float f (round f s (m * up e) (down e)) (fin s m e) s (m * up e) (down e) (down-pos e) (round-fits f s (m * up e) (down e)) t
     (own-value f s m e (room f s m e t)) (refl, refl)
 
--- ---- less zero
+-- ---- minus zero
 
 -- nothing is below 0
 none-below : (a : ℕ) → ltb a 0 ≡ false

@@ -1,3 +1,4 @@
 pub mod LessZero
 pub mod AboutTheEarth
 pub mod Recomputed
+pub mod Runs

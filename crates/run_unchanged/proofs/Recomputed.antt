@@ -1,20 +1,19 @@
--- Document 02, R-8: "The walk's bits do not move": a step from a state in order is the step that works its first slope out, as it was before,
--- and then the new state's own acceleration. Assumes nothing.
+-- Document 02, R-8: "The walk's bits do not move". A step from a state in order is the old step, which computes its first slope, and then
+-- the acceleration of the new state. Assumes nothing.
 use mathlib.Core.Bool.{Bool, true, false, _&&_}
 use mathlib.Core.List.{List}
 use mathlib.Core.Path.{_≡_, refl, sym, ap, _∙_}
-use Prim.Native.Nat.{ℕ, zero, suc, _+_, _/_}
-use native.Mathlib.Omega.{arith}
+use Prim.Native.Nat.{ℕ, _+_, _/_}
 use Rattle.base.specs.Choice.{if_then_else_}
-use Rattle.state.specs.State.{position, velocity, acceleration, injectionAt, carrying, bare, finiteVector, used}
+use Rattle.state.specs.State.{position, velocity, acceleration, injectionAt, finiteVector, used}
 use Rattle.state.specs.declared.Vector.{Vector}
 use Rattle.state.specs.declared.State.{State}
-use Rattle.state.specs.declared.Injection.{Injection}
 use Rattle.state.specs.declared.Setting.{Setting}
 use Rattle.gravity.specs.Acceleration.{accelerationAt}
 use Rattle.gravity.specs.declared.AccelerationAnswer.{AccelerationAnswer}
 use Rattle.gravity.specs.declared.AccelerationAnswer.the-variants.{Is, Refused}
-use Rattle.motion.specs.Step.{Moved, On, Off, andThen, along, weighed, half, sixth, stepH, velocity2, velocity3, velocity4, arrive, lastly, stage2, stage3, stage4, keeping, step}
+use Rattle.run.specs.Step.{Moved, Off, andThen, along, weighed, half, sixth, stepH, arrive, keeping, step}
+use Rattle.run.specs.Stages.{velocity2, velocity3, velocity4, lastly, stage2, stage3, stage4}
 use Rattle.run_unchanged.specs.Acceleration.{accelerationBefore}
 use Rattle.run_unchanged.specs.Step.{stage1, unkept, stepBefore, keptAfter}
 use Rattle.run_unchanged.proofs.AboutTheEarth.{about-the-earth}

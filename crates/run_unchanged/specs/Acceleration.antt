@@ -1,8 +1,9 @@
--- The acceleration as it stood before document 02's R-7, about any centre and without the last terms; and document 01's acceleration and
--- start checks as they stood before R-6: about the Earth, over the bodies from 2 on.
-use mathlib.Core.Bool.{Bool, false, not, _&&_}
+-- The acceleration before document 02's R-7: about any centre, without the last terms. Also document 01's acceleration and start checks
+-- before R-6: about the Earth, over the bodies from 2 on.
+use mathlib.Core.Bool.{false, not, _&&_}
 use mathlib.Core.List.{List, [], _∷_}
 use Prim.Native.Nat.{ℕ}
+use lib.Ieee.{Float}
 use Rattle.base.specs.Choice.{if_then_else_}
 use Rattle.base.specs.Limits.{isMoment}
 use Rattle.state.specs.State.{finiteVector, finiteState, settingAllowed, coefficientOf}
@@ -11,33 +12,34 @@ use Rattle.state.specs.declared.State.{State}
 use Rattle.state.specs.declared.Setting.{Setting}
 use Rattle.book.specs.Passes.{passes}
 use Rattle.gravity.specs.Pull.{negated, g, sound}
-use Rattle.gravity.specs.Acceleration.{Sky, Bodies, Hidden, Listed, skyOf, skyAbout, less, allSound, settled}
+use Rattle.gravity.specs.Acceleration.{Body, Listed, sky, skyOf, stands, placeOf, others, less, allSound, settled, seenThen}
 use Rattle.gravity.specs.declared.AccelerationAnswer.{AccelerationAnswer}
 use Rattle.gravity.specs.declared.AccelerationAnswer.the-variants.{Refused}
 use Rattle.run_checks.specs.Start.{stepAllowed, withinSteps}
 
--- the sum a, found sound so far, with these bodies still to come, and nothing after them
-abbrev pub finishedBefore : Vector → Bool → Vector → Sky → AccelerationAnswer
-finishedBefore P ok a (Bodies bodies) = settled (ok && allSound P bodies) (less P a bodies)
-finishedBefore P ok a (Hidden k) = Refused k
+-- "start with -g(P, Earth)", whose coefficient is m; "For each used body ..: subtract ..", and no terms after them
+abbrev pub ruleBefore : Float → Vector → List Body → AccelerationAnswer
+ruleBefore m P bodies = settled (sound P && allSound P bodies) (less P (negated (g P m)) bodies)
 
 -- R-6: "the centre's own pull, then every other used body .. at its position less the centre's"
 unfoldable pub withoutTerms : List ℕ → Setting → ℕ → ℕ → Vector → AccelerationAnswer
-withoutTerms b s centre t P = finishedBefore P (sound P) (negated (g P (coefficientOf s centre))) (skyAbout b s centre t)
+withoutTerms b s centre t P =
+    let C = placeOf (stands b centre t) in
+    seenThen (λ bodies. ruleBefore (coefficientOf s centre) P (others centre C bodies)) (sky b s t)
 
 -- "2 Moon, 3 Sun, 4 Venus, 5 Mars, 6 Jupiter"
 abbrev pub bodiesBefore : Setting → List Listed
 bodiesBefore s =
-    record { number = 2; m = s .moon; lit = false }
-    ∷ record { number = 3; m = s .sun; lit = false }
-    ∷ record { number = 4; m = s .venus; lit = false }
-    ∷ record { number = 5; m = s .mars; lit = false }
-    ∷ record { number = 6; m = s .jupiter; lit = false }
+    record { number = 2; m = s .moon; forLight = false }
+    ∷ record { number = 3; m = s .sun; forLight = false }
+    ∷ record { number = 4; m = s .venus; forLight = false }
+    ∷ record { number = 5; m = s .mars; forLight = false }
+    ∷ record { number = 6; m = s .jupiter; forLight = false }
     ∷ []
 
 -- "Acceleration at position P: start with -g(P, Earth)"; "For each used body from 2 on in rising number, at R: subtract .."
 unfoldable pub accelerationBefore : List ℕ → Setting → ℕ → Vector → AccelerationAnswer
-accelerationBefore b s t P = finishedBefore P (sound P) (negated (g P (s .earth))) (skyOf b t (bodiesBefore s))
+accelerationBefore b s t P = seenThen (ruleBefore (s .earth) P) (skyOf b t (bodiesBefore s))
 
 -- "Acceleration: 1, 4, 3, 7 (position), then its own rule"
 unfoldable pub answerBefore : List ℕ → Setting → ℕ → Vector → AccelerationAnswer
@@ -48,7 +50,7 @@ answerBefore b s t P =
     if not (finiteVector P) then Refused 7 else
     accelerationBefore b s t P
 
--- "Run call order: 1, 4, 3 (state, then target), 7 (state), 2, 5": before R-8 nothing was asked of what is stored with a state
+-- "Run call order: 1, 4, 3 (state, then target), 7 (state), 2, 5": before R-8 the stored acceleration was not checked
 unfoldable pub startBefore : List ℕ → Setting → State → ℕ → ℕ → ℕ
 startBefore b setting s h target =
     if not (passes b) then 1 else

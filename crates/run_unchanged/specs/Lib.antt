@@ -1,2 +1,3 @@
 pub mod Acceleration
 pub mod Step
+pub mod Run
