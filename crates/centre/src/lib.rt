@@ -1,29 +1,31 @@
 // (02, R-6) A state moved to another centre, (02, R-8) with the acceleration that the rule gives it there.
 
+use base::END_OF_TIME;
+use base::both;
 use book::Lookup;
 use book::Motion;
 use book::Place;
 use book::Velocity;
+use centre_shift::shifted_state;
 use gravity_stored::InjectionAnswer;
 use gravity_stored::inner::kept_at;
-use movecheck::move_refusal;
-use shift::shifted_state;
 use state::Injection;
 use state::Setting;
 use state::State;
+use state_checks::common_refusal;
 ghost use mathlib.Core.Bool.{true};
 ghost use mathlib.Core.Path.{_≡_};
 ghost use Rattle.state.specs.State.{centreAllowed};
 ghost use Rattle.book.specs.Passes.{passes};
 ghost use Rattle.gravity.specs.Acceleration.{atRest};
-ghost use Rattle.centre.specs.Move.{motionOf, movedBy, keptOr7, moveBy, moveOf, moveAnswer};
+ghost use Rattle.centre.specs.Move.{motionOf, movedBy, keptOr7, moveBy, moveOf, moveRefusal, moveAnswer};
 
 pub enum MoveAnswer {
     Moved(State),
     Refused(u64),
 }
 
-// A body where an entry covers the moment: where it stands and how fast it goes, seen from the Earth.
+// The position and velocity of a body, seen from the Earth, if an entry covers the moment.
 pub enum Seen {
     Covered(Motion),
     Uncovered,
@@ -81,7 +83,7 @@ fn kept_or_7(book: &[u8], setting: Setting, i: Injection) -> MoveAnswer
     MoveAnswer::Refused(7)
 }
 
-// Both centres have to be covered before anything is worked out.
+// Both centres must have cover before anything is computed.
 fn move_by(book: &[u8], setting: Setting, s: State, centre: u64, from: Seen, to: Seen) -> MoveAnswer
     requires { ⌜ (passes (now book) ≡ true) × (centreAllowed setting centre ≡ true) ⌝ }
     ensures { λ r. ⌜ r ≡ moveBy (now (book .entry)) setting s centre from to ⌝ }
@@ -95,7 +97,8 @@ fn move_by(book: &[u8], setting: Setting, s: State, centre: u64, from: Seen, to:
     kept_or_7(book, setting, shifted_state(s, centre, old, new))
 }
 
-// The move itself, in a book that is known to pass, to a centre that is one: where the centre stays, nothing is looked up.
+// The move itself. The book is known to pass, and the new centre is a used body. If the centre stays the same,
+// nothing is looked up.
 fn moved(book: &[u8], setting: Setting, s: State, centre: u64) -> MoveAnswer
     requires { ⌜ (passes (now book) ≡ true) × (centreAllowed setting centre ≡ true) ⌝ }
     ensures { λ r. ⌜ r ≡ moveOf (now (book .entry)) setting s centre ⌝ }
@@ -108,7 +111,23 @@ fn moved(book: &[u8], setting: Setting, s: State, centre: u64) -> MoveAnswer
     move_by(book, setting, s, centre, from, to)
 }
 
-// The state about another centre: its position and velocity less those of the new centre, seen from the old.
+// The number of the first check that fails, or 0.
+fn move_refusal(book: &[u8], setting: Setting, s: State, centre: u64) -> u64
+    ensures { λ r. ⌜ r ≡ moveRefusal (now (book .entry)) setting s centre ⌝ }
+{
+    let from = state::centre_is_allowed(setting, s.centre);
+    let to = state::centre_is_allowed(setting, centre);
+    let finite = state::state_is_finite(s);
+    common_refusal(
+        book,
+        setting,
+        both(from, to),
+        s.moment < END_OF_TIME,
+        finite,
+    )
+}
+
+// The state about another centre: its position and velocity minus those of the new centre, seen from the old.
 pub fn move_to(book: &[u8], setting: Setting, state: State, centre: u64) -> MoveAnswer
     ensures { λ r. ⌜ r ≡ moveAnswer (now (book .entry)) setting state centre ⌝ }
 {

@@ -11,14 +11,14 @@ use Rattle.book.specs.declared.Motion.{Motion}
 use Rattle.gravity_pull.specs.Pull.{minus}
 
 -- "the new centre's position and velocity relative to the old"
-abbrev pub apart : Place → Place → Vector
-apart old new = record { x = new .x ⊖ old .x; y = new .y ⊖ old .y; z = new .z ⊖ old .z }
+abbrev pub offset : Place → Place → Vector
+offset old new = record { x = new .x ⊖ old .x; y = new .y ⊖ old .y; z = new .z ⊖ old .z }
 
-abbrev pub velocityApart : Velocity → Velocity → Vector
-velocityApart old new = record { x = new .x ⊖ old .x; y = new .y ⊖ old .y; z = new .z ⊖ old .z }
+abbrev pub velocityOffset : Velocity → Velocity → Vector
+velocityOffset old new = record { x = new .x ⊖ old .x; y = new .y ⊖ old .y; z = new .z ⊖ old .z }
 
 -- "by subtracting" them
 unfoldable pub shifted : State → ℕ → Motion → Motion → Injection
 shifted s centre old new =
-    injectionAt (s .moment) centre (minus (position s) (apart (old .place) (new .place)))
-    (minus (velocity s) (velocityApart (old .velocity) (new .velocity)))
+    injectionAt (s .moment) centre (minus (position s) (offset (old .place) (new .place)))
+    (minus (velocity s) (velocityOffset (old .velocity) (new .velocity)))

@@ -1,18 +1,18 @@
-// (02, R-6) Position and velocity of a state less those of a new centre, seen from the old.
+// (02, R-6) Position and velocity of a state minus those of a new centre, seen from the old.
 
 use book::Motion;
-use pull::pulls::difference;
 use book_series::Place;
 use book_series::Velocity;
+use gravity_pull::pulls::difference;
 use state::Injection;
 use state::State;
 use state::Vector;
 ghost use mathlib.Core.Path.{_≡_};
-ghost use Rattle.shift.specs.Shift.{apart, velocityApart, shifted};
+ghost use Rattle.centre_shift.specs.Shift.{offset, velocityOffset, shifted};
 
-// How far the new centre is from the old.
+// The position of the new centre, seen from the old.
 fn apart_by(old: Place, new: Place) -> Vector
-    ensures { λ r. ⌜ r ≡ apart old new ⌝ }
+    ensures { λ r. ⌜ r ≡ offset old new ⌝ }
 {
     Vector {
         x: new.x - old.x,
@@ -21,9 +21,9 @@ fn apart_by(old: Place, new: Place) -> Vector
     }
 }
 
-// How fast the new centre goes, against the old.
+// The velocity of the new centre, seen from the old.
 fn velocity_apart(old: Velocity, new: Velocity) -> Vector
-    ensures { λ r. ⌜ r ≡ velocityApart old new ⌝ }
+    ensures { λ r. ⌜ r ≡ velocityOffset old new ⌝ }
 {
     Vector {
         x: new.x - old.x,

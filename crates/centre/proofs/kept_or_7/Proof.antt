@@ -4,15 +4,6 @@ use borrow.Author.Needs.{needs}
 use Rattle.centre.proofs.kept_or_7.Statement.{statement}
 use Rattle.centre.proofs.kept_or_7.Tie as tie
 
-injection-is-finite-requires : tie.Need-injection-is-finite-requires
-injection-is-finite-requires c κs = search needs
-
-kept-at-requires : tie.Need-kept-at-requires
-kept-at-requires c κs = search needs
-
-moved-by-requires : tie.Need-moved-by-requires
-moved-by-requires c κs = search needs
-
 returns : tie.Need-returns
 returns c = rw (sym (c .before .before .before .injection-is-finite .ensures) ∙ c .before .before .if1 .taken, c .moved-by .ensures, c .before .kept-at .ensures)
 
@@ -22,4 +13,4 @@ returns-2 c = rw (sym (c .before .injection-is-finite .ensures) ∙ c .if1 .left
 pub kept-or-7-spec : {M : Type 1} → statement M
 kept-or-7-spec =
     tie.close
-    (tie.spec injection-is-finite-requires kept-at-requires moved-by-requires returns returns-2)
+    (tie.spec (λ c κs. search needs) (λ c κs. search needs) (λ c κs. search needs) returns returns-2)

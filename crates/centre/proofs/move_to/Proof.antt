@@ -7,9 +7,6 @@ use borrow.Author.Needs.{needs}
 use Rattle.centre.proofs.move_to.Statement.{statement}
 use Rattle.centre.proofs.move_to.Tie as tie
 
-move-refusal-requires : tie.Need-move-refusal-requires
-move-refusal-requires c κs = search needs
-
 moved-requires : tie.Need-moved-requires
 moved-requires c κs = mayMove _ _ _ _ (sym (c .before .move-refusal .ensures) ∙ c .if1 .taken)
 
@@ -22,4 +19,4 @@ unfolding moveAnswer
 returns-2 c = rw (← c .before .move-refusal .ensures, ne-eqb _ _ (c .if1 .left))
 
 pub move-to-spec : {M : Type 1} → statement M
-move-to-spec = tie.close (tie.spec move-refusal-requires moved-requires returns returns-2)
+move-to-spec = tie.close (tie.spec (λ c κs. search needs) moved-requires returns returns-2)

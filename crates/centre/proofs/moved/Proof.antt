@@ -9,19 +9,10 @@ returns : tie.Need-returns
 unfolding moveOf
 returns c = rw (eq-eqb _ _ (c .if1 .taken))
 
-motion-of-requires : tie.Need-motion-of-requires
-motion-of-requires c κs = search needs
-
-motion-of-requires-2 : tie.Need-motion-of-requires-2
-motion-of-requires-2 c κs = search needs
-
-move-by-requires : tie.Need-move-by-requires
-move-by-requires c κs = search needs
-
 returns-2 : tie.Need-returns-2
 unfolding moveOf
 returns-2 c = rw (ne-eqb _ _ (c .before .before .before .if1 .left), c .move-by .ensures, c .before .motion-of2 .ensures, c .before .before .motion-of .ensures)
 
 pub moved-spec : {M : Type 1} → statement M
 moved-spec =
-    tie.close (tie.spec returns motion-of-requires motion-of-requires-2 move-by-requires returns-2)
+    tie.close (tie.spec returns (λ c κs. search needs) (λ c κs. search needs) (λ c κs. search needs) returns-2)
