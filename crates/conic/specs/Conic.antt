@@ -9,7 +9,6 @@ use Rattle.state.specs.declared.State.{State}
 use Rattle.state.specs.State.{finiteState, isBody}
 use Rattle.conic.specs.declared.Conic.{Conic}
 use Rattle.conic.specs.declared.Conic.the-variants.{Ellipse, Hyperbola}
-use Rattle.conic.specs.declared.CentredConic.{CentredConic}
 use Rattle.conic.specs.declared.ConicAnswer.{ConicAnswer}
 use Rattle.conic.specs.declared.ConicAnswer.the-variants.{Figures, Refused}
 use Rattle.conic_checks.specs.declared.Orbit.{Orbit}

@@ -1,8 +1,8 @@
 // The conic that a state would follow about its centre alone.
 
-use orbit::orbit_of;
 use conic_checks::Orbit;
 use conic_checks::refusal_of;
+use conic_formulas::orbit_of;
 use state::State;
 ghost use mathlib.Core.Path.{_≡_};
 ghost use Rattle.conic.specs.Conic.{conicOf, orbitAnswer, figuresAbout, conicAnswer};

@@ -1,9 +1,9 @@
 // A state in coordinates that turn with the Earth.
 
-use hour::HourAnswer;
 use earth_rotation::inner::rate_on;
 use earth_rotation::inner::table_on;
 use earth_rotation::inner::table_times;
+use hour::HourAnswer;
 use state::State;
 use state::Vector;
 ghost use mathlib.Core.Path.{_≡_};
@@ -75,7 +75,7 @@ fn fixed_at(rule: u64, dut: u32, state: State, parts: u64) -> FixedAnswer
     FixedAnswer::Refused(7)
 }
 
-// (02, R-6) Earth-fixed coordinates are of a state about the Earth alone.
+// (02, R-6) Only a state about the Earth has Earth-fixed coordinates.
 pub fn earth_fixed(rule: u64, dut: u32, state: State) -> FixedAnswer
     ensures { λ r. ⌜ r ≡ fixedAnswer rule dut state ⌝ }
 {

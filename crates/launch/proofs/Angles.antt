@@ -1,12 +1,13 @@
--- What it says of an injection that its angles are allowed: the sine takes each of them. Assumes nothing.
+-- If the angles of an injection are allowed, the sine accepts each of them. Assumes nothing.
 use mathlib.Core.Bool.{Bool, true, false, _&&_}
 use mathlib.Core.Path.{_≡_, refl}
-use Prim.Native.Nat.{ℕ, _-_, _≤_, _<_}
+use Prim.Native.Nat.{_-_, _≤_, _<_}
 use native.Mathlib.Omega.{arith}
 use lib.Dec.{eqb}
 use borrow.Author.Tests.{ltb-true, leb-true, eqb-false}
 use Rattle.base.specs.Choice.{if_then_else_, _<?_, _≤?_, _=?_}
 use Rattle.base.specs.Limits.{circle}
+use Rattle.base.proofs.Bools.{left, right}
 use Rattle.launch.specs.declared.Signed.{Signed}
 use Rattle.launch.specs.declared.Sphere.{Sphere}
 use Rattle.launch.specs.Sphere.{quarter, anglesAllowed, partsOf}
@@ -16,15 +17,6 @@ pub record Angles (s : Sphere) : Type 0 where
   pub longitude : s .longitude < circle
   pub path : s .path .parts ≤ quarter
   pub azimuth : s .azimuth < circle
-
-left : (a b : Bool) → (a && b) ≡ true → a ≡ true
-left true b h = refl
-left false b h = h
-
-right : (a b : Bool) → (a && b) ≡ true → b ≡ true
-right true b h = h
-right false true h = refl
-right false false h = h
 
 pub angles : (s : Sphere) → anglesAllowed s ≡ true → Angles s
 angles s h =

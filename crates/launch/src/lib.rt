@@ -3,12 +3,12 @@
 use base::CIRCLE;
 use base::unless;
 use hour::HourAnswer;
-use state::Injection;
-use state::Vector;
 use launch_turns::horizontal_velocity;
 use launch_turns::place_on;
 use launch_turns::relative_velocity;
 use launch_turns::returned_state;
+use state::Injection;
+use state::Vector;
 ghost use mathlib.Core.Bool.{true, _&&_};
 ghost use mathlib.Core.Path.{_≡_};
 ghost use Prim.Native.Nat.{_≤_};
@@ -20,7 +20,7 @@ ghost use Rattle.launch.specs.Sphere.{quarter, anglesAllowed, partsOf, p
 // 90 degrees in parts.
 const QUARTER: u64 = 900_000_000_000;
 
-// An angle in parts, below zero where it says so.
+// An angle in parts; the flag says whether it is below zero.
 pub struct Signed {
     pub below: bool,
     pub parts: u64,
@@ -41,7 +41,7 @@ pub enum SphereAnswer {
     Refused(u64),
 }
 
-// A number of 64 bits with a sign, as C has it.
+// A signed number of 64 bits, as in C.
 pub fn signed_of(bits: u64) -> Signed
     ensures { λ r. ⌜ r ≡ signedOf bits ⌝ }
 {

@@ -1,5 +1,5 @@
--- Document 02, R-4: the turns of an injection as launch crews speak it, by document 000's section RVIN, and the inverse of the turn.
-use mathlib.Core.List.{List, [], _∷_}
+-- Document 02, R-4: the turns of an injection as launch crews speak it, by document 000, section RVIN, and the inverse of the turn.
+use mathlib.Core.List.{[], _∷_}
 use Prim.Native.Nat.{ℕ}
 use lib.ListN.{getD}
 use lib.Ieee.{Float, nan, neg}
@@ -43,11 +43,11 @@ swing T =
 unfoldable pub relative : SineCosine → SineCosine → Vector → Vector
 relative F T u = times (swing T) (times (tilt F) u)
 
--- what the forward turn gave is taken off: velocity x loses w·y and velocity y gains w·x
+-- the rate that the forward turn added is subtracted: velocity x loses w·y and velocity y gains w·x
 unfoldable pub carried : Float → Vector → Vector → Vector
 carried w p v = record { x = v .x ⊖ w ⊗ p .y; y = v .y ⊕ w ⊗ p .x; z = v .z }
 
--- "to 1950.0 by the inverse of the turn and the precession table, written as the transposed table": rows are the table's columns
+-- "to 1950.0 by the inverse of the turn and the precession table, written as the transposed table": its rows are the columns of the table
 abbrev pub element : Table → ℕ → ℕ → Float
 element table i j = getD (getD table i []) j nan
 
@@ -58,7 +58,7 @@ transposed table =
     ∷ (element table 0 2 ∷ element table 1 2 ∷ element table 2 2 ∷ [])
     ∷ []
 
--- an injection about the Earth: document 02, R-8, its acceleration is not worked out here
+-- an injection about the Earth; document 02, R-8: its acceleration is not computed here
 abbrev pub aboutEarth : ℕ → Vector → Vector → Injection
 aboutEarth moment p v = injectionAt moment 1 p v
 

@@ -5,12 +5,6 @@ use borrow.Author.Needs.{needs}
 use Rattle.conic.proofs.conic_figures.Statement.{statement}
 use Rattle.conic.proofs.conic_figures.Tie as tie
 
-is-finite-requires : tie.Need-is-finite-requires
-is-finite-requires c κs = search needs
-
-figures-about-requires : tie.Need-figures-about-requires
-figures-about-requires c κs = search needs
-
 returns : tie.Need-returns
 unfolding conicAnswer
 returns c = rw (sym (c .before .before .before .is-finite .ensures) ∙ c .before .before .if1 .taken, c .before .if2 .taken, c .figures-about .ensures)
@@ -25,4 +19,4 @@ returns-3 c = rw (sym (c .before .is-finite .ensures) ∙ c .if1 .left)
 
 pub conic-figures-spec : {M : Type 1} → statement M
 conic-figures-spec =
-    tie.close (tie.spec is-finite-requires figures-about-requires returns returns-2 returns-3)
+    tie.close (tie.spec (λ c κs. search needs) (λ c κs. search needs) returns returns-2 returns-3)

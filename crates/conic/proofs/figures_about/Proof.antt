@@ -5,21 +5,12 @@ use borrow.Author.Needs.{needs}
 use Rattle.conic.proofs.figures_about.Statement.{statement}
 use Rattle.conic.proofs.figures_about.Tie as tie
 
-is-body-requires : tie.Need-is-body-requires
-is-body-requires c κs = search needs
-
-state-is-finite-requires : tie.Need-state-is-finite-requires
-state-is-finite-requires c κs = search needs
-
-orbit-of-requires : tie.Need-orbit-of-requires
-orbit-of-requires c κs = search needs
-
-answer-of-requires : tie.Need-answer-of-requires
-answer-of-requires c κs = search needs
-
 returns : tie.Need-returns
 unfolding figuresAbout
-returns c = rw (sym (c .before .before .before .before .before .is-body .ensures) ∙ c .before .before .before .before .if1 .taken, sym (c .before .before .before .state-is-finite .ensures) ∙ c .before .before .if2 .taken, c .answer-of .ensures, c .before .orbit-of .ensures)
+returns c =
+    let at = c .before .before .before .before in
+    rw (sym (at .before .is-body .ensures) ∙ at .if1 .taken, sym (c .before .before .before .state-is-finite .ensures) ∙ c .before .before .if2 .taken)
+    (rw (c .answer-of .ensures, c .before .orbit-of .ensures))
 
 returns-2 : tie.Need-returns-2
 unfolding figuresAbout
@@ -33,10 +24,10 @@ pub figures-about-spec : {M : Type 1} → statement M
 figures-about-spec =
     tie.close
     (tie.spec
-    is-body-requires
-    state-is-finite-requires
-    orbit-of-requires
-    answer-of-requires
+    (λ c κs. search needs)
+    (λ c κs. search needs)
+    (λ c κs. search needs)
+    (λ c κs. search needs)
     returns
     returns-2
     returns-3)

@@ -15,9 +15,6 @@ returns-2 : tie.Need-returns-2
 unfolding fixedAnswer
 returns-2 c = rw (le-leb _ _ (c .before .if1 .left), lt-leb _ _ (c .if2 .taken))
 
-after-hour-requires : tie.Need-after-hour-requires
-after-hour-requires c κs = search needs
-
 returns-3 : tie.Need-returns-3
 returns-3 c =
     let x = c .before .before .before .before .before .args in
@@ -29,4 +26,4 @@ unfolding fixedAnswer
 returns-4 c = rw (le-leb _ _ (c .before .before .before .if1 .left), le-leb _ _ (c .before .before .if2 .left), ne-eqb _ _ (c .if3 .left))
 
 pub earth-fixed-spec : {M : Type 1} → statement M
-earth-fixed-spec = tie.close (tie.spec returns returns-2 after-hour-requires returns-3 returns-4)
+earth-fixed-spec = tie.close (tie.spec returns returns-2 (λ c κs. search needs) returns-3 returns-4)

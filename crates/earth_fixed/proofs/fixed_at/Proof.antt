@@ -8,12 +8,6 @@ use Rattle.earth_fixed.proofs.Answers.{refused-is, answer-is}
 use Rattle.earth_fixed.proofs.fixed_at.Statement.{statement}
 use Rattle.earth_fixed.proofs.fixed_at.Tie as tie
 
-table-on-requires : tie.Need-table-on-requires
-table-on-requires c κs = c .before .before .pre
-
-rate-on-requires : tie.Need-rate-on-requires
-rate-on-requires c κs = c .before .before .before .pre
-
 at-tested :
     (c : tie.After-fixed-is-finite)
     → let s = c .before .before .before .before .before .before .args in
@@ -21,27 +15,19 @@ at-tested :
 at-tested c =
     let s = c .before .before .before .before .before .before .args in
     rw (c .fixed-is-finite .ensures)
-    (answer-is (s .rule) (s .dut) (s .state) (c .before .turned-state .result) (sym (c .before .before .before .before .before .state-is-finite .ensures) ∙ c .before .before .before .before .if1 .taken)
+    (answer-is (s .rule) (s .dut) (s .state) (c .before .turned-state .result)
+    (sym (c .before .before .before .before .before .state-is-finite .ensures) ∙ c .before .before .before .before .if1 .taken)
     (rw (c .before .turned-state .ensures, c .before .before .rate-on .ensures, c .before .before .before .table-on .ensures)))
-
-returns : tie.Need-returns
-returns c = rw (c .if2 .taken) at (at-tested (c .before))
-
-returns-2 : tie.Need-returns-2
-returns-2 c = rw (c .if2 .left) at (at-tested (c .before))
-
-returns-3 : tie.Need-returns-3
-returns-3 c = refused-is _ _ _ (sym (c .before .state-is-finite .ensures) ∙ c .if1 .left)
 
 pub fixed-at-spec : {M : Type 1} → statement M
 fixed-at-spec =
     tie.close
     (tie.spec
     (λ c κs. tt)
-    table-on-requires
-    rate-on-requires
+    (λ c κs. c .before .before .pre)
+    (λ c κs. c .before .before .before .pre)
     (λ c κs. tt)
     (λ c κs. tt)
-    returns
-    returns-2
-    returns-3)
+    (λ c. rw (c .if2 .taken) at (at-tested (c .before)))
+    (λ c. rw (c .if2 .left) at (at-tested (c .before)))
+    (λ c. refused-is _ _ _ (sym (c .before .state-is-finite .ensures) ∙ c .if1 .left)))

@@ -3,23 +3,11 @@ use borrow.Author.Tests.{lt-ltb, le-ltb, le-leb, lt-leb}
 use Rattle.launch.proofs.angles_allowed.Statement.{statement}
 use Rattle.launch.proofs.angles_allowed.Tie as tie
 
-returns : tie.Need-returns
-returns c = rw (le-leb _ _ (c .before .before .before .before .before .if1 .taken), lt-ltb _ _ (c .before .before .before .if2 .taken), le-leb _ _ (c .before .if3 .taken))
-
-returns-2 : tie.Need-returns-2
-returns-2 c = rw (le-leb _ _ (c .before .before .before .before .if1 .taken), lt-ltb _ _ (c .before .before .if2 .taken), lt-leb _ _ (c .if3 .left))
-
-returns-3 : tie.Need-returns-3
-returns-3 c = rw (le-leb _ _ (c .before .before .if1 .taken), le-ltb _ _ (c .if2 .left))
-
-returns-4 : tie.Need-returns-4
-returns-4 c = rw (lt-leb _ _ (c .if1 .left))
-
 pub angles-allowed-spec : {M : Type 1} → statement M
 angles-allowed-spec =
     tie.close
     (tie.spec
-    returns
-    returns-2
-    returns-3
-    returns-4)
+    (λ c. rw (le-leb _ _ (c .before .before .before .before .before .if1 .taken), lt-ltb _ _ (c .before .before .before .if2 .taken), le-leb _ _ (c .before .if3 .taken)))
+    (λ c. rw (le-leb _ _ (c .before .before .before .before .if1 .taken), lt-ltb _ _ (c .before .before .if2 .taken), lt-leb _ _ (c .if3 .left)))
+    (λ c. rw (le-leb _ _ (c .before .before .if1 .taken), le-ltb _ _ (c .if2 .left)))
+    (λ c. rw (lt-leb _ _ (c .if1 .left))))

@@ -4,15 +4,6 @@ use Rattle.launch.specs.Sphere.{placeOf}
 use Rattle.launch.proofs.fixed_place.Statement.{statement}
 use Rattle.launch.proofs.fixed_place.Tie as tie
 
-parts-of-requires : tie.Need-parts-of-requires
-parts-of-requires c κs = angles (c .before .args .s) (c .before .pre) .latitude
-
-of-parts-requires : tie.Need-of-parts-requires
-of-parts-requires c κs = rw (c .parts-of .ensures) (within-circle (c .before .before .args .s .latitude) (angles (c .before .before .args .s) (c .before .before .pre) .latitude))
-
-of-parts-requires-2 : tie.Need-of-parts-requires-2
-of-parts-requires-2 c κs = angles (c .before .before .before .args .s) (c .before .before .before .pre) .longitude
-
 returns : tie.Need-returns
 unfolding placeOf
 returns c = rw (c .place-on .ensures, c .before .of-parts2 .ensures, c .before .before .of-parts .ensures, c .before .before .before .parts-of .ensures)
@@ -21,8 +12,8 @@ pub fixed-place-spec : {M : Type 1} → statement M
 fixed-place-spec =
     tie.close
     (tie.spec
-    parts-of-requires
-    of-parts-requires
-    of-parts-requires-2
+    (λ c κs. angles (c .before .args .s) (c .before .pre) .latitude)
+    (λ c κs. rw (c .parts-of .ensures) (within-circle (c .before .before .args .s .latitude) (angles (c .before .before .args .s) (c .before .before .pre) .latitude)))
+    (λ c κs. angles (c .before .before .before .args .s) (c .before .before .before .pre) .longitude)
     (λ c κs. tt)
     returns)

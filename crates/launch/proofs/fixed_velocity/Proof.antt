@@ -4,23 +4,14 @@ use Rattle.launch.specs.Sphere.{velocityOf}
 use Rattle.launch.proofs.fixed_velocity.Statement.{statement}
 use Rattle.launch.proofs.fixed_velocity.Tie as tie
 
-parts-of-requires : tie.Need-parts-of-requires
-parts-of-requires c κs = angles (c .before .before .args .s) (c .before .before .pre) .latitude
-
 of-parts-requires : tie.Need-of-parts-requires
-of-parts-requires c κs = rw (c .parts-of .ensures) (within-circle (c .before .before .before .args .s .latitude) (angles (c .before .before .before .args .s) (c .before .before .before .pre) .latitude))
-
-of-parts-requires-2 : tie.Need-of-parts-requires-2
-of-parts-requires-2 c κs = angles (c .before .before .before .before .args .s) (c .before .before .before .before .pre) .longitude
-
-parts-of-requires-2 : tie.Need-parts-of-requires-2
-parts-of-requires-2 c κs = angles (c .before .before .before .before .before .args .s) (c .before .before .before .before .before .pre) .path
+of-parts-requires c κs =
+    rw (c .parts-of .ensures) (within-circle (c .before .before .before .args .s .latitude) (angles (c .before .before .before .args .s) (c .before .before .before .pre) .latitude))
 
 of-parts-requires-3 : tie.Need-of-parts-requires-3
-of-parts-requires-3 c κs = rw (c .parts-of2 .ensures) (within-circle (c .before .before .before .before .before .before .args .s .path) (angles (c .before .before .before .before .before .before .args .s) (c .before .before .before .before .before .before .pre) .path))
-
-of-parts-requires-4 : tie.Need-of-parts-requires-4
-of-parts-requires-4 c κs = angles (c .before .before .before .before .before .before .before .args .s) (c .before .before .before .before .before .before .before .pre) .azimuth
+of-parts-requires-3 c κs =
+    let at = c .before .before .before .before .before .before in
+    rw (c .parts-of2 .ensures) (within-circle (at .args .s .path) (angles (at .args .s) (at .pre) .path))
 
 returns : tie.Need-returns
 unfolding velocityOf
@@ -40,12 +31,12 @@ pub fixed-velocity-spec : {M : Type 1} → statement M
 fixed-velocity-spec =
     tie.close
     (tie.spec
-    parts-of-requires
+    (λ c κs. angles (c .before .before .args .s) (c .before .before .pre) .latitude)
     of-parts-requires
-    of-parts-requires-2
-    parts-of-requires-2
+    (λ c κs. angles (c .before .before .before .before .args .s) (c .before .before .before .before .pre) .longitude)
+    (λ c κs. angles (c .before .before .before .before .before .args .s) (c .before .before .before .before .before .pre) .path)
     of-parts-requires-3
-    of-parts-requires-4
+    (λ c κs. angles (c .before .before .before .before .before .before .before .args .s) (c .before .before .before .before .before .before .before .pre) .azimuth)
     (λ c κs. tt)
     (λ c κs. tt)
     returns)

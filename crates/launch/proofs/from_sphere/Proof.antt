@@ -5,15 +5,6 @@ use Rattle.launch.specs.Sphere.{sphereAnswer}
 use Rattle.launch.proofs.from_sphere.Statement.{statement}
 use Rattle.launch.proofs.from_sphere.Tie as tie
 
-enum-known-parts : tie.Need-enum-known-parts
-enum-known-parts c = search needs
-
-enum-known-number : tie.Need-enum-known-number
-enum-known-number c = search needs
-
-injection-requires : tie.Need-injection-requires
-injection-requires c κs = sym (c .before .before .before .sidereal .ensures) ∙ c .before .parts .given .1
-
 returns : tie.Need-returns
 unfolding sphereAnswer
 returns c = rw (sym (c .before .before .before .before .sidereal .ensures) ∙ c .before .before .parts .given .1) (c .injection .ensures)
@@ -27,8 +18,8 @@ from-sphere-spec =
     tie.close
     (tie.spec
     (λ c κs. tt)
-    enum-known-parts
-    injection-requires
-    enum-known-number
+    (λ c. search needs)
+    (λ c κs. sym (c .before .before .before .sidereal .ensures) ∙ c .before .parts .given .1)
+    (λ c. search needs)
     returns
     returns-2)

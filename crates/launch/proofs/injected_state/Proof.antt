@@ -5,7 +5,9 @@ use Rattle.launch.proofs.injected_state.Tie as tie
 
 returns : tie.Need-returns
 unfolding injected
-returns c = rw (c .returned-state .ensures, c .before .fixed-velocity .ensures, c .before .before .fixed-place .ensures, c .before .before .before .rate-on .ensures, c .before .before .before .before .table-on .ensures)
+returns c =
+    rw (c .returned-state .ensures, c .before .fixed-velocity .ensures, c .before .before .fixed-place .ensures)
+    (rw (c .before .before .before .rate-on .ensures, c .before .before .before .before .table-on .ensures))
 
 pub injected-state-spec : {M : Type 1} → statement M
 injected-state-spec =

@@ -10,17 +10,22 @@ number c = rw (c .unless2 .ensures, c .before .unless .ensures)
 injected-state-requires : tie.Need-injected-state-requires
 injected-state-requires c κs = (
   c .before .before .before .before .before .pre,
-  sym (c .before .before .before .before .angles-allowed .ensures) ∙ angles-pass (c .before .before .before .before .angles-allowed .result) (c .before .before .before .sizes-allowed .result) (sym (number (c .before)) ∙ c .if1 .taken),
+  sym (c .before .before .before .before .angles-allowed .ensures)
+      ∙ angles-pass (c .before .before .before .before .angles-allowed .result) (c .before .before .before .sizes-allowed .result) (sym (number (c .before)) ∙ c .if1 .taken),
 )
 
 returns : tie.Need-returns
 returns c =
-    accepted _ _ _ _ _ _ (c .before .before .before .before .before .before .before .angles-allowed .ensures) (c .before .before .before .before .before .before .sizes-allowed .ensures) _ (number (c .before .before .before .before)) (c .before .before .before .if1 .taken) _ (c .before .before .injected-state .ensures)
+    let at = c .before .before .before .before in
+    accepted _ _ _ _ _ _ (at .before .before .before .angles-allowed .ensures) (at .before .before .sizes-allowed .ensures) _ (number (at))
+    (c .before .before .before .if1 .taken) _ (c .before .before .injected-state .ensures)
     (sym (c .before .injection-is-finite .ensures) ∙ c .if2 .taken)
 
 returns-2 : tie.Need-returns-2
 returns-2 c =
-    not-finite _ _ _ _ _ _ (c .before .before .before .before .before .before .before .angles-allowed .ensures) (c .before .before .before .before .before .before .sizes-allowed .ensures) _ (number (c .before .before .before .before)) (c .before .before .before .if1 .taken) _ (c .before .before .injected-state .ensures)
+    let at = c .before .before .before .before in
+    not-finite _ _ _ _ _ _ (at .before .before .before .angles-allowed .ensures) (at .before .before .sizes-allowed .ensures) _ (number (at))
+    (c .before .before .before .if1 .taken) _ (c .before .before .injected-state .ensures)
     (sym (c .before .injection-is-finite .ensures) ∙ c .if2 .left)
 
 returns-3 : tie.Need-returns-3

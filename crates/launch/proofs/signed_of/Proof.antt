@@ -9,12 +9,6 @@ use Rattle.launch.proofs.signed_of.Tie as tie
 returns : tie.Need-returns
 returns c = rw (lt-ltb _ _ (c .if1 .taken))
 
-sub-t3 : tie.Need-sub-t3
-sub-t3 c = omega arith
-
-add-t4 : tie.Need-add-t4
-add-t4 c = omega arith
-
 returns-2 : tie.Need-returns-2
 returns-2 c =
     let b = c .before .args .bits in
@@ -22,4 +16,4 @@ returns-2 c =
     rw (le-ltb _ _ (c .if1 .left), e)
 
 pub signed-of-spec : {M : Type 1} → statement M
-signed-of-spec = tie.close (tie.spec returns sub-t3 add-t4 returns-2)
+signed-of-spec = tie.close (tie.spec returns (λ c. omega arith) (λ c. omega arith) returns-2)

@@ -13,9 +13,6 @@ small : (n : ℕ) → n ≤ 2 ^ 53 → T (inFloat binary64 (pos n))
 unfolding inFloat
 small n h = le→leb n (2 ^ 53) h
 
-add-since : tie.Need-add-since
-add-since c = omega arith
-
 int-to-float-result : tie.Need-int-to-float-result
 int-to-float-result c = small _ (omega arith)
 
@@ -24,4 +21,4 @@ unfolding centuries ofBits ofInt round
 returns c = refl
 
 pub centuries-at-spec : {M : Type 1} → statement M
-centuries-at-spec = tie.close (tie.spec add-since int-to-float-result returns)
+centuries-at-spec = tie.close (tie.spec (λ c. omega arith) int-to-float-result returns)

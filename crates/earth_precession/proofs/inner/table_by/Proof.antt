@@ -1,5 +1,4 @@
 -- `earth_precession::inner::table_by` meets its contract: its constants compute to the printed coefficients. Assumes nothing.
-use mathlib.Core.Path.{refl}
 use lib.Ieee.{ofBits, ofInt, round, neg}
 use Rattle.earth_precession.specs.Precession.{a11, a12, a13, a22, a23, a33, precessionBy}
 use Rattle.earth_precession.proofs.inner.table_by.Statement.{statement}
