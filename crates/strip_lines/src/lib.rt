@@ -1,9 +1,10 @@
-// The programs strip and strip144: each reads an order of its form and a book from standard input, and prints the listing of their
-// run. What it cannot read or write it tells on standard error.
+// The programs strip and strip144. Each reads an order of its form and a book from standard input, and prints the
+// listing of their run. If it cannot read or write, it prints the error on standard error.
 //
-// No contract can say what a program reads or writes. What it should print is listing's definition `stripText` of the form and
-// what it reads: the contracts of orders and listing say what is read and what each text is that is printed here, and the laws of
-// listing (proofs/Whole.antt) that these texts, in this order, make up the whole.
+// No contract can say what a program reads or writes. The definition `stripText` (listing_write) says what it should
+// print, by the form and the input. The contracts of strip_order and listing_write cover what is read, and each text
+// that is printed here. The laws of listing_write (proofs/Whole.antt) say that these texts, in this order, make up
+// the whole.
 
 mod telling;
 
@@ -17,11 +18,11 @@ use listing_write::lines::put_lone_refusal;
 use listing_write::lines::put_outcome;
 use listing_write::lines::put_state;
 use run::Outcome;
+use state::Setting;
+use state::State;
 use strip_order::Form;
 use strip_order::Order;
 use strip_order::OrderAnswer;
-use state::Setting;
-use state::State;
 use telling::tell_unread;
 use telling::tell_unwritten;
 use telling::tell_use;
@@ -31,10 +32,10 @@ ghost use lib.ListN.{length};
 ghost use Rattle.run_checks.specs.Start.{startRefusal};
 ghost use Rattle.listing_write.specs.Course.{OnCourse};
 
-// The longest order, the longest book, and one byte more: enough to see that a book is too long.
+// The longest order, the longest book, and one byte more: enough to detect a book that is too long.
 const LONGEST_INPUT: usize = strip_order::LONGEST_ORDER + book::LONGEST_BOOK + 1;
 
-// Whether all of the text was written; if not, standard error says why.
+// Whether the whole text was written; if not, prints the reason on standard error.
 fn print(form: Form, part: &[u8]) -> bool {
     if io::write_all(STDOUT_FILENO, part) {
         return true;
@@ -55,7 +56,7 @@ fn print_outcome(form: Form, outcome: Outcome, steps: u64) {
     print(form, &line[..n]);
 }
 
-// Portion after portion, each as large as the buffer takes.
+// Writes portion after portion, each as large as the buffer.
 fn print_course(form: Form, book: &[u8], setting: Setting, h: u32, from: Course, out: &mut [u8])
     requires { ⌜ OnCourse (now book) setting h from ⌝ }
     requires { ⌜ 123 ≤ length (now out) ⌝ }
@@ -112,7 +113,7 @@ fn print_strip(form: Form, input: &[u8]) {
     }
 }
 
-// A short count is the end of the input or a failure: reading once more tells which.
+// A short count means the end of the input or a failure: one more read shows which.
 fn read_failed(count: usize) -> bool {
     if LONGEST_INPUT <= count {
         return false;
@@ -125,7 +126,7 @@ fn read_failed(count: usize) -> bool {
     false
 }
 
-// All of the program that takes orders of this form.
+// The whole program for orders of this form.
 pub fn strip(form: Form) {
     if 1 < os::arg_count() {
         tell_use(form);

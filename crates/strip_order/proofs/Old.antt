@@ -1,13 +1,13 @@
 -- Document 02, R-7: "One proof serves both orders, with the old one read as J and K zero". An old order is read as the new one that has 24
 -- zero bytes behind the old 120. Assumes nothing.
-use Prim.Native.Nat.{ℕ, _+_, _*_, _<_, _≤_}
-use mathlib.Core.List.{List, [], _∷_, _++_}
-use mathlib.Core.Path.{_≡_, refl, sym, ap, _∙_}
+use Prim.Native.Nat.{ℕ, _+_, _≤_}
+use mathlib.Core.List.{List, _∷_, _++_}
+use mathlib.Core.Path.{_≡_, refl, ap}
 use native.Mathlib.Omega.{arith}
 use borrow.Author.Tests.{le-ltb}
-use lib.ListN.{length, getD, drop, length-append, List·getD-append}
+use lib.ListN.{length, getD, length-append, List·getD-append}
 use lib.Seq.{getD-append-add}
-use Rattle.book.specs.Bytes.{u16At, u32At, u64At}
+use Rattle.base_bytes.specs.Bytes.{u16At, u32At, u64At}
 use Rattle.strip_order.specs.Order.{orderOf, readOrder}
 use Rattle.strip_order.specs.declared.Order.{Order}
 use Rattle.strip_order.specs.declared.Form.the-variants.{Plain, Whole}
@@ -55,7 +55,7 @@ module _ (order : List ℕ) (all : length order ≡ 120) where
         )
 
   module _ (rest : List ℕ) where
-    -- ---- behind it stand zeros
+    -- ---- zeros follow it
 
     behind : (i at : ℕ) → at ≡ 120 + i → getD (order ++ zeros rest) at 0 ≡ getD (zeros rest) i 0
     behind i at e = rw (e, ← all) (getD-append-add order (zeros rest) i 0)

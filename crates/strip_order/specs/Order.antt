@@ -8,7 +8,7 @@ use Rattle.base.specs.Choice.{if_then_else_, _<?_}
 use Rattle.base.specs.Floats.{zero64}
 use Rattle.state.specs.declared.Injection.{Injection}
 use Rattle.state.specs.declared.Setting.{Setting}
-use Rattle.book.specs.Bytes.{u32At, u64At, floatAt}
+use Rattle.base_bytes.specs.Bytes.{u32At, u64At, floatAt}
 use Rattle.strip_order.specs.declared.Form.{Form}
 use Rattle.strip_order.specs.declared.Form.the-variants.{Plain, Whole}
 use Rattle.strip_order.specs.declared.Terms.{Terms}
@@ -60,6 +60,6 @@ abbrev pub orderOf : Form → List ℕ → Order
 orderOf form b =
     record { setting = settingOf b (termsOf form b); injection = injectionOf b; h = u32At b 104; target = u64At b 112 }
 
--- "Input below 120 bytes .. is 1", and below 144 where that is the order's length
+-- "Input below 120 bytes .. is 1", and below 144 if that is the length of the order
 unfoldable pub readOrder : Form → List ℕ → OrderAnswer
 readOrder form b = if length b <? orderLength form then Refused 1 else Is (orderOf form b)

@@ -1,10 +1,10 @@
-// A float of an order: any pattern, where a book's are finite.
+// A float of an order: any bit pattern is allowed, unlike in a book.
 
-use book::bytes::u64_at;
+use base_bytes::inner::u64_at;
 ghost use mathlib.Core.Path.{_≡_};
 ghost use Prim.Native.Nat.{_+_, _≤_};
 ghost use lib.ListN.{length};
-ghost use Rattle.book.specs.Bytes.{floatAt};
+ghost use Rattle.base_bytes.specs.Bytes.{floatAt};
 
 pub fn float_at(order: &[u8], at: usize) -> f64
     requires { ⌜ at + 8 ≤ length (now order) ⌝ }

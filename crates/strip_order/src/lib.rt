@@ -1,9 +1,10 @@
-// The orders that the programs strip and strip144 read: document 01's of 120 bytes, and (02, R-7) the same with J, A and K behind it.
+// The orders that the programs strip and strip144 read: document 01's of 120 bytes, and (02, R-7) the same with J, A
+// and K after it.
 
 mod bytes;
 
-use book::bytes::u32_at;
-use book::bytes::u64_at;
+use base_bytes::inner::u32_at;
+use base_bytes::inner::u64_at;
 use bytes::float_at;
 use state::Injection;
 use state::Setting;
@@ -12,7 +13,7 @@ ghost use Prim.Native.Nat.{_≤_};
 ghost use lib.ListN.{length};
 ghost use Rattle.strip_order.specs.Order.{orderLength, termsOf, settingOf, injectionOf, orderOf, readOrder};
 
-// Which order an input begins with: `Plain` has 120 bytes, `Whole` 144.
+// The form of the order at the start of an input: `Plain` has 120 bytes, `Whole` 144.
 pub enum Form {
     Plain,
     Whole,
@@ -49,7 +50,7 @@ pub fn order_length(form: Form) -> usize
     }
 }
 
-// A plain order has none: they are zero.
+// A plain order has no terms: they are zero.
 fn terms_of(form: Form, order: &[u8]) -> Terms
     requires { ⌜ orderLength form ≤ length (now order) ⌝ }
     ensures { λ r. ⌜ r ≡ termsOf form (now (order .entry)) ⌝ }

@@ -1,11 +1,11 @@
--- The whole number nearest to a fraction: there is one and no other, and it is that of every fraction of the same value. Assumes nothing.
+-- The whole number nearest to a fraction: there is exactly one, and fractions of the same value have the same one. Assumes nothing.
 use Prim.Native.Nat.{ℕ, zero, suc, _+_, _-_, _*_, _/_, _%_, _^_, _<_, _≤_}
 use mathlib.Core.Bool.{Bool, true, false}
-use mathlib.Core.Path.{_≡_, refl, sym, ap, subst, _∙_}
-use native.Mathlib.Nat.{mul-assoc, mul-comm, mul-right-comm, mul-le-mul-right, le-of-mul-le-mul-right, eq-of-mul-eq-mul-right, add-mul, div-add-mod', mod-lt, le-trans, le-of-eq}
+use mathlib.Core.Path.{_≡_, refl, sym, ap, _∙_}
+use native.Mathlib.Nat.{mul-comm, mul-right-comm, mul-le-mul-right, le-of-mul-le-mul-right, eq-of-mul-eq-mul-right, add-mul, div-add-mod', mod-lt, le-trans, le-of-eq}
 use native.Mathlib.Omega.{arith}
 use lib.Dec.{ltb}
-use borrow.Author.Tests.{lt-ltb, le-ltb, ltb-true, ltb-false}
+use borrow.Author.Tests.{ltb-true, ltb-false}
 use Rattle.text_decimal.specs.Nearest.{apart, Nearest, nearestTo}
 
 -- ---- it is the quotient or the next one up
@@ -39,7 +39,7 @@ nearest-is n d some = go (ltb (2 * (n % d)) d) refl (ltb d (2 * (n % d))) refl
     go false s true t = rw (s, t) (up-to n d (n / d) (n % d) e l (ltb-true d (2 * (n % d)) t))
     go false s false t = rw (s, t) (to-even n d (n / d) (n % d) e (omega (arith, ltb-false (2 * (n % d)) d s, ltb-false d (2 * (n % d)) t)))
 
--- ---- no other is
+-- ---- there is no other
 
 below-other : (n d q r : ℕ) → 0 < d → q < r → Nearest n d q → Nearest n d r → ⊥
 below-other n d q r some h a b =
@@ -67,7 +67,7 @@ one-nearest n d q r some a b = go (ltb q r) refl (ltb r q) refl
     go false s true t = absurd (below-other n d r q some (ltb-true r q t) b a)
     go false s false t = omega (arith, ltb-false q r s, ltb-false r q t)
 
--- no more than a whole number that n / d does not pass
+-- at most a whole number that is at least n / d
 pub at-most : (n d q b : ℕ) → 0 < d → Nearest n d q → n ≤ b * d → q ≤ b
 at-most n d q b some a h = go (ltb b q) refl
   where
@@ -81,7 +81,7 @@ at-most n d q b some a h = go (ltb b q) refl
         let p = a .near in
         absurd (omega (arith, f))
 
--- ---- one value has one nearest number, whatever the fraction
+-- ---- one value has one nearest number, for every fraction of that value
 
 apart-times : (a b k : ℕ) → apart (a * k) (b * k) ≡ apart a b * k
 apart-times a b k = go (ltb a b) refl
@@ -112,7 +112,7 @@ same-value a c b d q C D e n =
       tie = λ t. n .tie (eq-of-mul-eq-mul-right d D (2 * apart a (q * c)) c (sym x ∙ ap (λ (z : ℕ). z * c) t ∙ mul-comm d c));
     }
 
--- ---- by halves: n is h·4096·p and less than 4096·p more, and the half of h is the quotient by 2^13·p
+-- ---- by halves: n is h·4096·p plus less than 4096·p, and the half of h is the quotient by 2^13·p
 
 module _ (n high p h r rest : ℕ) (e : n ≡ 4096 * high + rest) (l : rest < 4096) (f : h * p + r ≡ high) (m : r < p) where
   split-even : h % 2 ≡ 0 → n ≡ h / 2 * (2 ^ 13 * p) + (4096 * r + rest)

@@ -1,8 +1,9 @@
--- What the bits of a float are worth, and what that is in units of the last place. Assumes nothing.
+-- The value of the bits of a float, and its value in units of the last place. Assumes nothing.
 use Prim.Native.Nat.{ℕ, zero, suc, _+_, _-_, _*_, _/_, _%_, _^_, _<_, _≤_}
-use mathlib.Core.Bool.{Bool, true, false, cond, true≢false, false≢true}
+use mathlib.Core.Bool.{Bool, true, false, cond, false≢true}
 use mathlib.Core.Path.{_≡_, refl, sym, ap, subst, _∙_}
-use native.Mathlib.Nat.{mul-assoc, mul-comm, mul-right-comm, mul-le-mul, mul-le-mul-right, mul-lt-mul-of-pos-right, le-of-mul-le-mul-right, lt-of-mul-lt-mul-right, le-trans, le-of-eq, lt-of-lt-of-le, lt-of-le-of-lt, mul-one}
+use native.Mathlib.Nat.{mul-assoc, mul-comm, mul-right-comm, mul-le-mul, mul-le-mul-right, mul-lt-mul-of-pos-right, le-of-mul-le-mul-right}
+use native.Mathlib.Nat.{lt-of-mul-lt-mul-right, le-trans, le-of-eq, lt-of-lt-of-le, lt-of-le-of-lt}
 use native.Mathlib.Omega.{arith}
 use lib.Dec.{leb, ltb, eqb, lit≤}
 use lib.Pow.{pow-add, pow-pos, pow-mono}
@@ -10,7 +11,7 @@ use lib.Ieee.{Float, nan, inf, fin, binary64, low, up, down, odd, ofFields, ofBi
 use lib.Ieee.Fits.{down-pos}
 use lib.Ieee.Exact.{HasValue, odd-sign}
 use lib.Ieee.Scale.{finite}
-use borrow.Author.Tests.{lt-ltb, le-ltb, le-leb, lt-leb, leb-true, leb-false, ltb-true, ltb-false, ne-eqb}
+use borrow.Author.Tests.{le-leb, lt-leb, leb-true, leb-false, ltb-true, ltb-false, ne-eqb}
 use Rattle.text_decimal.specs.Nearest.{Nearest, nearestTo}
 use Rattle.text_decimal.specs.Numeral.{unitsIn, Rounded, isNegative, isLarge}
 use Rattle.text_decimal.proofs.Rounding.{down-to, nearest-is, one-nearest, same-value}
@@ -120,7 +121,8 @@ module _ (s : Bool) (b i t : ℕ) (e : b ≡ suc i * 2 ^ 52 + t) (h : t < 2 ^ 52
     where
       go : (c : Bool) → leb 0x426d_1a94_a200_0000 b ≡ c → isLarge (ofFields binary64 s (suc i) t) ≡ c
       go true g = let l = leb-true 0x426d_1a94_a200_0000 b g in large-scaled (ofFields binary64 s (suc i) t) s (2 ^ 52 + t) i 13 (low binary64) (omega arith) (normal s i t (omega arith)) (omega arith)
-      go false g = let l = leb-false 0x426d_1a94_a200_0000 b g in small-scaled (ofFields binary64 s (suc i) t) s (2 ^ 52 + t) i 13 (low binary64) (omega arith) (normal s i t (omega arith)) (omega arith)
+      go false g =
+          let l = leb-false 0x426d_1a94_a200_0000 b g in small-scaled (ofFields binary64 s (suc i) t) s (2 ^ 52 + t) i 13 (low binary64) (omega arith) (normal s i t (omega arith)) (omega arith)
 
   normal-large : suc i < 2047 → isLarge (ofFields binary64 s (suc i) t) ≡ leb 0x426d_1a94_a200_0000 b
   normal-large l = go (ltb i 1061) refl (ltb i 1062) refl (ltb i 1074) refl
@@ -145,7 +147,9 @@ module _ (s : Bool) (b i t : ℕ) (e : b ≡ suc i * 2 ^ 52 + t) (h : t < 2 ^ 52
           large-whole x s (2 ^ 52 + t) i (i - 1074) (low binary64) (omega arith) v (far-above t (i - 1074)) ∙ sym (le-leb 0x426d_1a94_a200_0000 b (omega arith))
 
 by-field : (s : Bool) (b f t : ℕ) → b ≡ f * 2 ^ 52 + t → t < 2 ^ 52 → f < 2048 → isLarge (ofFields binary64 s f t) ≡ leb 0x426d_1a94_a200_0000 b
-by-field s b zero t e h l = small-scaled (ofFields binary64 s 0 t) s t 0 (low binary64) (low binary64) refl (subnormal s t) (below t (low binary64) (omega arith) (lit≤ tt)) ∙ sym (lt-leb 0x426d_1a94_a200_0000 b (omega arith))
+by-field s b zero t e h l =
+    small-scaled (ofFields binary64 s 0 t) s t 0 (low binary64) (low binary64) refl (subnormal s t) (below t (low binary64) (omega arith) (lit≤ tt))
+    ∙ sym (lt-leb 0x426d_1a94_a200_0000 b (omega arith))
 by-field s b (suc i) t e h l = go (ltb (suc i) 2047) refl
   where
     top : (f : ℕ) → f ≡ 2047 → isLarge (ofFields binary64 s f t) ≡ true
@@ -163,7 +167,9 @@ large-bits b = ap isLarge (pattern b) ∙ by-field (leb (2 ^ 63) b) (b % 2 ^ 63)
 
 none-in-field : (unit : ℕ) (s : Bool) (f t : ℕ) → unit ≤ 1_000_000 → t < 2 ^ 52 → f < 999 → 0 ≡ unitsIn unit (ofFields binary64 s f t)
 none-in-field unit s zero t g h l = units-scaled unit (ofFields binary64 s 0 t) s t 0 (low binary64) (low binary64) 0 refl (subnormal s t) (small-none t unit (low binary64) (omega arith) g (lit≤ tt))
-none-in-field unit s (suc i) t g h l = units-scaled unit (ofFields binary64 s (suc i) t) s (2 ^ 52 + t) i (1074 - i) (low binary64) 0 (omega arith) (normal s i t (omega arith)) (small-none (2 ^ 52 + t) unit (1074 - i) (omega arith) g (omega arith))
+none-in-field unit s (suc i) t g h l =
+    units-scaled unit (ofFields binary64 s (suc i) t) s (2 ^ 52 + t) i (1074 - i) (low binary64) 0 (omega arith) (normal s i t (omega arith))
+    (small-none (2 ^ 52 + t) unit (1074 - i) (omega arith) g (omega arith))
 
 pub no-units : (unit b : ℕ) → unit ≤ 1_000_000 → b % 2 ^ 63 / 2 ^ 52 < 999 → 0 ≡ unitsIn unit (ofBits binary64 b)
 no-units unit b g l = none-in-field unit (leb (2 ^ 63) b) (b % 2 ^ 63 / 2 ^ 52) (b % 2 ^ 52) g (omega arith) l ∙ ap (unitsIn unit) (sym (pattern b))
@@ -176,7 +182,8 @@ scaled-in-field unit s (suc i) t m q e a b n =
     let w : m ≡ 2 ^ 52 + t = omega arith in
     units-scaled unit (ofFields binary64 s (suc i) t) s (2 ^ 52 + t) i (1074 - i) (low binary64) q (omega arith) (normal s i t (omega arith)) (rw (p, w) at n)
 
-pub some-units : (unit b m q : ℕ) → m ≡ b % 2 ^ 52 + 2 ^ 52 → 999 ≤ b % 2 ^ 63 / 2 ^ 52 → b % 2 ^ 63 / 2 ^ 52 ≤ 1062 → Nearest (m * unit) (2 ^ 13 * 2 ^ (1062 - b % 2 ^ 63 / 2 ^ 52)) q → q ≡ unitsIn unit (ofBits binary64 b)
+pub some-units : (unit b m q : ℕ) → m ≡ b % 2 ^ 52 + 2 ^ 52 → 999 ≤ b % 2 ^ 63 / 2 ^ 52 → b % 2 ^ 63 / 2 ^ 52 ≤ 1062
+    → Nearest (m * unit) (2 ^ 13 * 2 ^ (1062 - b % 2 ^ 63 / 2 ^ 52)) q → q ≡ unitsIn unit (ofBits binary64 b)
 some-units unit b m q e g l n = scaled-in-field unit (leb (2 ^ 63) b) (b % 2 ^ 63 / 2 ^ 52) (b % 2 ^ 52) m q e g l n ∙ ap (unitsIn unit) (sym (pattern b))
 
 -- below 10^12 the field is at most 1062
@@ -193,4 +200,5 @@ sign-bits b h = ap isNegative (pattern b) ∙ go (b % 2 ^ 63 / 2 ^ 52) (field-mo
   where
     go : (f : ℕ) → f ≤ 1062 → isNegative (ofFields binary64 (leb (2 ^ 63) b) f (b % 2 ^ 52)) ≡ leb (2 ^ 63) b
     go zero l = value-sign (ofFields binary64 (leb (2 ^ 63) b) 0 (b % 2 ^ 52)) (leb (2 ^ 63) b) (b % 2 ^ 52 * 2 ^ 0) (2 ^ low binary64) (subnormal (leb (2 ^ 63) b) (b % 2 ^ 52))
-    go (suc i) l = value-sign (ofFields binary64 (leb (2 ^ 63) b) (suc i) (b % 2 ^ 52)) (leb (2 ^ 63) b) ((2 ^ 52 + b % 2 ^ 52) * 2 ^ i) (2 ^ low binary64) (normal (leb (2 ^ 63) b) i (b % 2 ^ 52) (omega arith))
+    go (suc i) l =
+        value-sign (ofFields binary64 (leb (2 ^ 63) b) (suc i) (b % 2 ^ 52)) (leb (2 ^ 63) b) ((2 ^ 52 + b % 2 ^ 52) * 2 ^ i) (2 ^ low binary64) (normal (leb (2 ^ 63) b) i (b % 2 ^ 52) (omega arith))

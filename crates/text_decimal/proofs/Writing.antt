@@ -1,20 +1,20 @@
 -- The numeral's text: its parts one after the other, and how long it is. Assumes nothing.
-use Prim.Native.Nat.{ℕ, zero, suc, _+_, _-_, _*_, _/_, _%_, _^_, _<_, _≤_}
+use Prim.Native.Nat.{ℕ, _+_, _*_, _/_, _%_, _^_, _<_, _≤_}
 use mathlib.Core.Bool.{Bool, true, false, _&&_, true≢false}
 use mathlib.Core.List.{List, [], _∷_, _++_}
-use mathlib.Core.Path.{_≡_, refl, sym, ap, subst, _∙_}
-use native.Mathlib.Nat.{mul-assoc, mul-comm, mul-right-comm, mul-le-mul-right, le-of-lt, le-trans, le-of-eq}
+use mathlib.Core.Path.{_≡_}
+use native.Mathlib.Nat.{mul-right-comm, mul-le-mul-right, le-of-lt, le-trans, le-of-eq}
 use native.Mathlib.Omega.{arith}
 use lib.Dec.{leb, ltb}
 use lib.ListN.{length, set, length-append}
 use lib.Ieee.{Float, nan, inf, fin, binary64, up, down, ofBits}
 use lib.Ieee.Fits.{down-pos}
-use borrow.Author.Tests.{lt-ltb, le-ltb, le-leb, lt-leb, leb-false}
+use borrow.Author.Tests.{lt-ltb, leb-false}
 use Rattle.base.specs.Choice.{if_then_else_}
 use Rattle.text_write.specs.Numerals.{digits, decimalOf}
 use Rattle.text_write.specs.Written.{Wrote}
-use Rattle.text.proofs.Writing.{both, byte}
-use Rattle.text.proofs.Digits.{length-digits, two-digits, halves}
+use Rattle.text_write.proofs.Writing.{byte}
+use Rattle.text_write.proofs.Digits.{length-digits, two-digits}
 use Rattle.text_write.proofs.Decimal.{decimal-length}
 use Rattle.text_decimal.specs.declared.Places.{Places}
 use Rattle.text_decimal.specs.declared.Places.the-variants.{Three, Six}
@@ -69,7 +69,8 @@ module _ (places : Places) (unit q : ℕ) (x : Float) (e : unit ≡ unitOf place
   whole-short = rw (f, e) (before-point places (unitsIn (unitOf places) x) (units-most (unitOf places) x h))
 
 module _ (places : Places) (unit q bits : ℕ) (e : unit ≡ unitOf places) (f : q ≡ unitsIn unit (ofBits binary64 bits)) (h : isLarge (ofBits binary64 bits) ≡ false) where
-  pub assembled : (a b : List ℕ) (at r : ℕ) → Wrote a at (signOf (leb (2 ^ 63) bits) q ++ decimalOf (q / unit) ++ (46 ∷ []) ++ digits 10 (count places) q) b r → Wrote a at (numeral places (ofBits binary64 bits)) b r
+  pub assembled : (a b : List ℕ) (at r : ℕ)
+      → Wrote a at (signOf (leb (2 ^ 63) bits) q ++ decimalOf (q / unit) ++ (46 ∷ []) ++ digits 10 (count places) q) b r → Wrote a at (numeral places (ofBits binary64 bits)) b r
   unfolding numeral unitsText
   assembled a b at r w = rw (sign-bits bits h, ← e, ← f) w
 

@@ -1,8 +1,8 @@
 -- How far a field is read: what the rest of it still has to say. Assumes nothing.
-use Prim.Native.Nat.{ℕ, zero, suc, _+_, _-_, _*_, _/_, _<_, _≤_}
-use mathlib.Core.Bool.{Bool, true, false, _&&_, and-false}
-use mathlib.Core.List.{List, [], _∷_, _++_}
-use mathlib.Core.Path.{_≡_, refl, sym, ap, _∙_}
+use Prim.Native.Nat.{ℕ, suc, _+_, _-_, _*_, _/_, _<_, _≤_}
+use mathlib.Core.Bool.{and-false}
+use mathlib.Core.List.{List, [], _∷_}
+use mathlib.Core.Path.{_≡_, refl, _∙_}
 use native.Mathlib.Nat.{le-trans, le-refl, add-zero, mul-comm, div-lt-iff-lt-mul, le-div-iff-mul-le}
 use native.Mathlib.Numerals.{add-one}
 use native.Mathlib.Omega.{arith}
@@ -10,7 +10,6 @@ use lib.ListN.{length, drop, getD, drop-of-length-le}
 use lib.Seq.{drop-cons}
 use borrow.Author.Tests.{lt-ltb, le-ltb, eq-eqb, ne-eqb}
 use Rattle.text_read.specs.Fields.{untilSpace, digitValue, allDigits, valueAfter, sized, numeral, readNumber}
-use Rattle.fields.specs.declared.Field.{Field}
 use Rattle.text_read.specs.declared.Field.the-variants.{Bad}
 
 pub at-end : (s : List ℕ) (i : ℕ) → length s ≤ i → untilSpace (drop i s) ≡ []
@@ -54,10 +53,12 @@ module _ (base least most : ℕ) (f : List ℕ) (at : ℕ) where
 
   pub too-large : (n count b : ℕ) (rest : List ℕ) → 1 ≤ base → Reads base f (b ∷ rest) n count → 0x1_0000_0000_0000_0000 ≤ base * n + digitValue b → Bad ≡ numeral base least most f at
   unfolding valueAfter
-  too-large n count b rest one r h = rw (r .value, le-ltb (valueAfter base (base * n + digitValue b) rest) 0x1_0000_0000_0000_0000 (le-trans h (grows base one (base * n + digitValue b) rest)), and-false)
+  too-large n count b rest one r h =
+      rw (r .value, le-ltb (valueAfter base (base * n + digitValue b) rest) 0x1_0000_0000_0000_0000 (le-trans h (grows base one (base * n + digitValue b) rest)), and-false)
 
 -- the field ends at i
-pub ended : (base least most : ℕ) (s : List ℕ) (at i n : ℕ) → at ≤ i → n < 0x1_0000_0000_0000_0000 → Reads base (untilSpace (drop at s)) (untilSpace (drop i s)) n (i - at) → untilSpace (drop i s) ≡ [] → sized least most (i - at) n i ≡ readNumber base least most s at
+pub ended : (base least most : ℕ) (s : List ℕ) (at i n : ℕ) → at ≤ i → n < 0x1_0000_0000_0000_0000
+    → Reads base (untilSpace (drop at s)) (untilSpace (drop i s)) n (i - at) → untilSpace (drop i s) ≡ [] → sized least most (i - at) n i ≡ readNumber base least most s at
 unfolding readNumber
 ended base least most s at i n h g r e =
     let p : at + (i - at) ≡ i = omega arith in

@@ -1,5 +1,5 @@
 -- How numbers are read: a field of digits, from a place up to a space or the end.
-use Prim.Native.Nat.{ℕ, _+_, _-_, _*_, _^_}
+use Prim.Native.Nat.{ℕ, _+_, _-_, _*_}
 use mathlib.Core.Bool.{Bool, true, _&&_}
 use mathlib.Core.List.{List, [], _∷_}
 use lib.ListN.{length, drop}
@@ -15,7 +15,7 @@ untilSpace (b ∷ bs) = if b =? 32 then [] else b ∷ untilSpace bs
 abbrev pub between : ℕ → ℕ → ℕ → Bool
 between low b high = (low ≤? b) && (b ≤? high)
 
--- 0 to 9, a to f, A to F; 16 for a byte that is no digit
+-- 0 to 9, a to f, A to F; 16 for any other byte
 abbrev pub digitValue : ℕ → ℕ
 digitValue b =
     if between 48 b 57 then b - 48 else

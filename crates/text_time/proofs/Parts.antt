@@ -1,7 +1,7 @@
 -- The parts of a stamp. Assumes nothing.
-use Prim.Native.Nat.{ℕ, _+_, _/_, _%_, _<_, _≤_}
+use Prim.Native.Nat.{ℕ, _+_, _/_, _%_, _<_}
 use mathlib.Core.List.{List, [], _∷_, _++_, append-assoc}
-use mathlib.Core.Path.{_≡_, refl, sym, ap, subst, _∙_}
+use mathlib.Core.Path.{_≡_, sym, subst, _∙_}
 use native.Mathlib.Omega.{arith}
 use lib.ListN.{length, length-append}
 use Rattle.text_write.specs.Numerals.{digits}
@@ -12,12 +12,11 @@ use Rattle.calendar.specs.declared.Calendar.{Calendar}
 use Rattle.calendar.specs.Gregorian.{dateOf}
 use Rattle.base.specs.Limits.{dayLength, endOfTime, lastDay}
 use borrow.Author.Tests.{le-leb}
-use Rattle.calendar.specs.declared.DateAnswer.{DateAnswer}
 use Rattle.calendar.specs.declared.DateAnswer.the-variants.{Date, Refused}
 use Rattle.calendar.specs.Answers.{dateAnswer}
-use Rattle.stamp.specs.Stamp.{dash, tee, colon, point, dateText, timeText, stampText}
+use Rattle.text_time.specs.Stamp.{dateText, timeText, stampText}
 
--- a text, and behind it a sign and digits
+-- a text, and after it a sign and digits
 pub behind : (s n : ℕ) {a b c t : List ℕ} {at m r : ℕ} → Wrote a at t b m → Wrote b m ((s ∷ []) ++ digits 10 2 n) c r → Wrote a at (t ++ (s ∷ []) ++ digits 10 2 n) c r
 behind s n {a} {b} {c} {t} {at} {m} {r} v w = subst (λ (u : List ℕ). Wrote a at u c r) (sym (append-assoc t (s ∷ []) (digits 10 2 n))) (both v w)
 
@@ -39,7 +38,10 @@ date-next date w = omega (arith, w .next, date-length date)
 
 pub time-length : (t : ℕ) → length (timeText t) ≡ 12
 unfolding timeText
-time-length t = rw (length-append, length-append, length-append, length-append, length-append, length-append, length-digits 10 2 (t / 3_600_000), length-digits 10 2 (t / 60_000 % 60), length-digits 10 2 (t / 1_000 % 60), length-digits 10 3 (t % 1_000)) (omega arith)
+time-length t =
+    rw (length-append, length-append, length-append, length-append, length-append, length-append, length-digits 10 2 (t / 3_600_000))
+    (rw (length-digits 10 2 (t / 60_000 % 60), length-digits 10 2 (t / 1_000 % 60), length-digits 10 3 (t % 1_000))
+    (omega arith))
 
 -- a moment in range has a date
 in-range : (moment : ℕ) → moment < endOfTime → dateAnswer (moment / dayLength) ≡ Date (dateOf (moment / dayLength))

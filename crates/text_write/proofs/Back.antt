@@ -1,14 +1,14 @@
--- What is written can be read back: a number's digits, with a space or the end behind them, are a field of that value. Assumes nothing.
+-- What is written can be read back: the digits of a number, with a space or the end after them, are a field of that value. Assumes nothing.
 use Prim.Native.Nat.{ℕ, zero, suc, _+_, _-_, _*_, _/_, _%_, _^_, _<_, _≤_}
 use mathlib.Core.Bool.{Bool, true, false, _&&_}
-use mathlib.Core.List.{List, [], _∷_, _++_, append-nil}
-use mathlib.Core.Path.{_≡_, refl, sym, ap, _∙_}
+use mathlib.Core.List.{List, [], _∷_, _++_}
+use mathlib.Core.Path.{_≡_, refl, ap, _∙_}
 use native.Mathlib.Nat.{pow-succ'}
 use native.Mathlib.Omega.{arith}
 use lib.Dec.{ltb}
-use lib.ListN.{length, drop, length-append}
+use lib.ListN.{length, drop}
 use lib.Seq.{drop-append-seam}
-use borrow.Author.Tests.{lt-ltb, le-ltb, le-leb, lt-leb, ltb-true, ltb-false, ne-eqb}
+use borrow.Author.Tests.{lt-ltb, le-ltb, le-leb, lt-leb, ltb-true, ne-eqb}
 use Rattle.text_write.specs.Numerals.{glyph, digits, hex16, decimalOf}
 use Rattle.text_read.specs.Fields.{untilSpace, digitValue, isDigit, allDigits, valueAfter, readNumber, readDecimal, readHex16}
 use Rattle.text_read.specs.declared.Field.the-variants.{Value}
@@ -41,7 +41,7 @@ all-last base (x ∷ xs) b h e = go (isDigit base x) e (all-last base xs b h)
     go true e later = later e
     go false e later = e
 
-one-more : (base : ℕ) (xs : List ℕ) (n d : ℕ) → base ≤ 16 → d < base → Spells base xs n → Spells base (xs ++ (glyph d ∷ [])) (base * n + d)
+pub one-more : (base : ℕ) (xs : List ℕ) (n d : ℕ) → base ≤ 16 → d < base → Spells base xs n → Spells base (xs ++ (glyph d ∷ [])) (base * n + d)
 one-more base xs n d h g s =
     let back : digitValue (glyph d) ≡ d = digit-back d (omega arith) in
     record {
@@ -73,7 +73,7 @@ hex-spells (suc k) n h =
     let p : 16 ^ suc k ≡ 16 * 16 ^ k = pow-succ' 16 k in
     rw e at (one-more 16 (digits 16 k (n / 16)) (n / 16) (n % 16) (omega arith) (omega arith) (hex-spells k (n / 16) (omega arith)))
 
--- a space is no digit, so a field of digits goes on to the end of them
+-- a space is not a digit, so a field of digits ends after the digits
 no-space : (base b : ℕ) → base ≤ 16 → isDigit base b ≡ true → b ≡ 32 → ⊥
 no-space base b h e z = let v : digitValue b ≡ 16 = ap digitValue z in omega (arith, ltb-true (digitValue b) base e)
 
@@ -91,7 +91,8 @@ module _ (base least most : ℕ) (before xs rest : List ℕ) (n : ℕ) (s : Spel
       → readNumber base least most (before ++ (xs ++ rest)) (length before) ≡ Value n (length before + length xs)
   unfolding readNumber
   read-back h low high fits end =
-      rw (drop-append-seam before (xs ++ rest), through base xs rest h (s .all) end, s .all, s .value, lt-ltb n 0x1_0000_0000_0000_0000 fits, le-leb least (length xs) low, le-leb (length xs) most high)
+      rw (drop-append-seam before (xs ++ rest), through base xs rest h (s .all) end, s .all, s .value, lt-ltb n 0x1_0000_0000_0000_0000 fits)
+      (rw (le-leb least (length xs) low, le-leb (length xs) most high))
 
 pub decimal-back : (before rest : List ℕ) (n : ℕ) → n < 0x1_0000_0000_0000_0000 → untilSpace rest ≡ []
     → readDecimal (before ++ (decimalOf n ++ rest)) (length before) ≡ Value n (length before + length (decimalOf n))

@@ -1,7 +1,7 @@
 -- The digits of a number in halves. Assumes nothing.
 use Prim.Native.Nat.{ℕ, zero, suc, _+_, _*_, _/_, _%_, _^_, _<_, _≤_}
-use mathlib.Core.List.{List, [], _∷_, _++_, append-assoc, append-nil}
-use mathlib.Core.Path.{_≡_, refl, sym, ap, _∙_}
+use mathlib.Core.List.{List, _++_, append-assoc, append-nil}
+use mathlib.Core.Path.{_≡_, refl, ap}
 use native.Mathlib.Nat.{add-zero, mul-one, mul-assoc, pow-zero, pow-succ', div-one, div-div-eq-div-mul, mul-le-mul, mod-lt}
 use native.Mathlib.Omega.{arith}
 use lib.Ieee.{Float}

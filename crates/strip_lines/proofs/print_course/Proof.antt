@@ -39,16 +39,22 @@ enum-told : tie.Need-enum-told Inv-loop μ-loop
 enum-told c = c .match .keys1
 
 loop-less : tie.Need-loop-less Inv-loop μ-loop
-loop-less c = c .before .before .before .before .before .before .before .before .portion .ensures .nearer (c .enum-told .given .1) (omega (arith, c .before .before .before .before .before .before .before .before .before .before .before .before .before .pre .1, c .before .before .before .before .before .before .before .before .portion .kept .1 .1 .1 .1 .0, c .before .before .before .before .before .before .before .before .before .before .loop .inv .0))
+loop-less c =
+    let at = c .before .before .before .before .before .before .before .before in
+    at .portion .ensures .nearer (c .enum-told .given .1) (omega (arith, at .before .before .before .before .before .pre .1, at .portion .kept .1 .1 .1 .1 .0, at .before .before .loop .inv .0))
 
 loop-again : tie.Need-loop-again Inv-loop μ-loop
-loop-again c = (c .before .before .before .before .before .before .before .before .portion .kept .1 .1 .1 .1 .0 ∙ c .before .before .before .before .before .before .before .before .before .before .loop .inv .0, c .before .before .before .before .before .before .before .before .portion .ensures .onward)
+loop-again c =
+    let at = c .before .before .before .before .before .before .before .before in
+    (at .portion .kept .1 .1 .1 .1 .0 ∙ at .before .before .loop .inv .0, at .portion .ensures .onward)
 
 print-outcome-requires : tie.Need-print-outcome-requires Inv-loop μ-loop
 print-outcome-requires c κs = tt
 
 same-length-2 : tie.Need-same-length-2 Inv-loop μ-loop
-same-length-2 c = c .before .before .before .before .before .before .before .before .portion .kept .1 .1 .1 .1 .0 ∙ c .before .before .before .before .before .before .before .before .before .before .loop .inv .0
+same-length-2 c =
+    let at = c .before .before .before .before .before .before .before .before in
+    at .portion .kept .1 .1 .1 .1 .0 ∙ at .before .before .loop .inv .0
 
 returns-2 : tie.Need-returns-2 Inv-loop μ-loop
 returns-2 c = tt

@@ -11,51 +11,48 @@ use borrow.Author.Needs.{needs}
 use Rattle.strip_lines.proofs.print_listing.Statement.{statement}
 use Rattle.strip_lines.proofs.print_listing.Tie as tie
 
-large-buffer-requires : tie.Need-large-buffer-requires
-large-buffer-requires c κs = search needs
-
-slice-aggregate-out : tie.Need-slice-aggregate-out
-slice-aggregate-out c = search needs
-
-put-header-requires : tie.Need-put-header-requires
-put-header-requires c κs = search needs
-
 put-state-requires : tie.Need-put-state-requires
-put-state-requires c κs = omega (arith, header-fits (c .before .before .before .before .before .before .before .before .args .h) (omega arith), c .before .before .before .put-header .ensures .next, c .before .before .before .put-header .kept .0, c .before .before .before .before .before .before .large-buffer .ensures)
-
-slice-reshare-prefix-print : tie.Need-slice-reshare-prefix-print
-slice-reshare-prefix-print c = inside (c .before .before .put-state .ensures) (inside (c .before .before .before .before .before .before .put-header .ensures) (omega arith))
+put-state-requires c κs =
+    let at = c .before .before .before .before .before .before in
+    omega (
+      arith,
+      header-fits (at .before .before .args .h) (omega arith),
+      c .before .before .before .put-header .ensures .next,
+      c .before .before .before .put-header .kept .0,
+      at .large-buffer .ensures,
+    )
 
 slice-aggregate-print : tie.Need-slice-aggregate-print
-slice-aggregate-print c = sym (length-take-le _ _ (inside (c .before .before .before .put-state .ensures) (inside (c .before .before .before .before .before .before .before .put-header .ensures) (omega arith))))
-
-print-requires : tie.Need-print-requires
-print-requires c κs = search needs
+slice-aggregate-print c =
+    sym (length-take-le _ _ (inside (c .before .before .before .put-state .ensures) (inside (c .before .before .before .before .before .before .before .put-header .ensures) (omega arith))))
 
 start-requires : tie.Need-start-requires
-start-requires c κs = let may = mayWalk _ _ _ _ _ (c .before .before .before .before .before .before .before .before .before .before .before .before .before .before .pre) in (may .long, may .reachable)
+start-requires c κs =
+    let may = mayWalk _ _ _ _ _ (c .before .before .before .before .before .before .before .before .before .before .before .before .before .before .pre) in (may .long, may .reachable)
 
 print-course-requires : tie.Need-print-course-requires
-print-course-requires c κs = let x = c .before .before .before .before .before .before .before .before .before .before .before .before .before .before .before .args in (rw (c .start .ensures) (starts (now (x .book)) (x .setting) (x .from) (x .h) (x .target) (mayWalk _ _ _ _ _ (c .before .before .before .before .before .before .before .before .before .before .before .before .before .before .before .pre))), omega (arith, c .before .before .before .before .before .before .put-state .kept .0, c .before .before .before .before .before .before .before .before .before .before .put-header .kept .0, c .before .before .before .before .before .before .before .before .before .before .before .before .before .large-buffer .ensures))
-
-returns : tie.Need-returns
-returns c = search needs
-
-returns-2 : tie.Need-returns-2
-returns-2 c = search needs
+print-course-requires c κs =
+    let at = c .before .before .before .before .before .before in
+    let x = at .before .before .before .before .before .before .before .before .before .args in (
+      rw (c .start .ensures)
+          (starts (now (x .book)) (x .setting) (x .from) (x .h) (x .target)
+          (mayWalk _ _ _ _ _
+          (at .before .before .before .before .before .before .before .before .before .pre))),
+      omega (arith, at .put-state .kept .0, at .before .before .before .before .put-header .kept .0, at .before .before .before .before .before .before .before .large-buffer .ensures),
+    )
 
 pub print-listing-spec : {M : Type 1} → statement M
 print-listing-spec =
     tie.close
     (tie.spec
-    large-buffer-requires
-    slice-aggregate-out
-    put-header-requires
+    (λ c κs. search needs)
+    (λ c. search needs)
+    (λ c κs. search needs)
     put-state-requires
-    slice-reshare-prefix-print
+    (λ c. inside (c .before .before .put-state .ensures) (inside (c .before .before .before .before .before .before .put-header .ensures) (omega arith)))
     slice-aggregate-print
-    print-requires
+    (λ c κs. search needs)
     start-requires
     print-course-requires
-    returns
-    returns-2)
+    (λ c. search needs)
+    (λ c. search needs))

@@ -4,12 +4,6 @@ use borrow.Author.Needs.{needs}
 use Rattle.strip_order.proofs.order_length.Statement.{statement}
 use Rattle.strip_order.proofs.order_length.Tie as tie
 
-enum-told : tie.Need-enum-told
-enum-told c = search needs
-
-enum-told-2 : tie.Need-enum-told-2
-enum-told-2 c = search needs
-
 returns : tie.Need-returns
 returns c = rw (c .enum-told .given .1) refl
 
@@ -17,4 +11,4 @@ returns-2 : tie.Need-returns-2
 returns-2 c = rw (c .enum-told2 .given .1) refl
 
 pub order-length-spec : {M : Type 1} → statement M
-order-length-spec = tie.close (tie.spec enum-told enum-told-2 returns returns-2)
+order-length-spec = tie.close (tie.spec (λ c. search needs) (λ c. search needs) returns returns-2)

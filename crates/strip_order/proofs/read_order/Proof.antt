@@ -1,15 +1,9 @@
 -- `strip_order::read_order` meets its contract. Assumes nothing.
-use mathlib.Core.Path.{sym, subst}
-use Prim.Native.Nat.{ℕ, _<_, _≤_}
 use lib.ListN.{length}
-use denote.Ref.{now}
 use borrow.Author.Tests.{lt-ltb, le-ltb}
-use Rattle.orders.specs.Order.{orderLength, readOrder}
+use Rattle.strip_order.specs.Order.{readOrder}
 use Rattle.strip_order.proofs.read_order.Statement.{statement}
 use Rattle.strip_order.proofs.read_order.Tie as tie
-
-order-length-requires : tie.Need-order-length-requires
-order-length-requires c κs = tt
 
 returns : tie.Need-returns
 unfolding readOrder
@@ -23,4 +17,4 @@ unfolding readOrder
 returns-2 c = rw (← c .before .before .order-length .ensures, le-ltb _ _ (c .before .if1 .left), c .order-of .ensures)
 
 pub read-order-spec : {M : Type 1} → statement M
-read-order-spec = tie.close (tie.spec order-length-requires returns order-of-requires returns-2)
+read-order-spec = tie.close (tie.spec (λ c κs. tt) returns order-of-requires returns-2)

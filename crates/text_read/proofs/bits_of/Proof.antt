@@ -1,6 +1,6 @@
 -- `text_read::bits_of` meets its contract: a NaN is the one float that does not equal itself. Assumes nothing.
 use mathlib.Core.Bool.{true, false, not}
-use mathlib.Core.Path.{_≡_, refl, sym, ap, subst, _∙_}
+use mathlib.Core.Path.{_≡_, refl, sym, ap, subst}
 use lib.Dec.{T}
 use lib.Ieee.{Float, nan, inf, fin, binary64, eq, ne, isNan, toBits}
 use lib.Ieee.Compare.{differs-from-itself}
@@ -25,14 +25,10 @@ no-number : (x : Float) → eq x x ≡ false → NaN ≡ bitsOf x
 unfolding ne
 no-number x h = ap bitsOf (sym (differs-from-itself x (subst T (sym (ap not h)) tt)))
 
-float-to-bits-t3 : tie.Need-float-to-bits-t3
-float-to-bits-t3 c = number (c .before .args .x) (c .if1 .taken)
-
-returns : tie.Need-returns
-returns c = pattern (c .before .args .x) (c .if1 .taken)
-
-returns-2 : tie.Need-returns-2
-returns-2 c = no-number (c .before .args .x) (c .if1 .left)
-
 pub bits-of-spec : {M : Type 1} → statement M
-bits-of-spec = tie.close (tie.spec float-to-bits-t3 returns returns-2)
+bits-of-spec =
+    tie.close
+    (tie.spec
+    (λ c. number (c .before .args .x) (c .if1 .taken))
+    (λ c. pattern (c .before .args .x) (c .if1 .taken))
+    (λ c. no-number (c .before .args .x) (c .if1 .left)))

@@ -18,59 +18,30 @@ tested false low b high e h = absurd (subst T (sym h) tt)
 at-least : (low b high : ℕ) {r : Bool} → r ≡ between low b high → r ≡ true → low ≤ b
 at-least low b high e h = tested (leb low b) low b high refl (sym e ∙ h)
 
-is-between-requires : tie.Need-is-between-requires
-is-between-requires c κs = search needs
-
-sub-result : tie.Need-sub-result
-sub-result c = at-least 48 _ 57 (c .before .is-between .ensures) (c .if1 .taken)
-
-cast-result : tie.Need-cast-result
-cast-result c = search needs
-
-returns : tie.Need-returns
-returns c = rw (← c .before .is-between .ensures, c .if1 .taken)
-
-is-between-requires-2 : tie.Need-is-between-requires-2
-is-between-requires-2 c κs = search needs
-
-sub-result-2 : tie.Need-sub-result-2
-sub-result-2 c = le-trans (omega arith) (at-least 97 _ 102 (c .before .is-between2 .ensures) (c .if2 .taken))
-
-cast-result-2 : tie.Need-cast-result-2
-cast-result-2 c = search needs
-
-returns-2 : tie.Need-returns-2
-returns-2 c = rw (← c .before .before .before .is-between .ensures, c .before .before .if1 .left, ← c .before .is-between2 .ensures, c .if2 .taken)
-
-is-between-requires-3 : tie.Need-is-between-requires-3
-is-between-requires-3 c κs = search needs
-
-sub-result-3 : tie.Need-sub-result-3
-sub-result-3 c = le-trans (omega arith) (at-least 65 _ 70 (c .before .is-between3 .ensures) (c .if3 .taken))
-
-cast-result-3 : tie.Need-cast-result-3
-cast-result-3 c = search needs
-
 returns-3 : tie.Need-returns-3
-returns-3 c = rw (← c .before .before .before .before .before .is-between .ensures, c .before .before .before .before .if1 .left, ← c .before .before .before .is-between2 .ensures, c .before .before .if2 .left, ← c .before .is-between3 .ensures, c .if3 .taken)
+returns-3 c =
+    let at = c .before .before .before .before in
+    rw (← at .before .is-between .ensures, at .if1 .left, ← c .before .before .before .is-between2 .ensures, c .before .before .if2 .left, ← c .before .is-between3 .ensures, c .if3 .taken)
 
 returns-4 : tie.Need-returns-4
-returns-4 c = rw (← c .before .before .before .before .before .is-between .ensures, c .before .before .before .before .if1 .left, ← c .before .before .before .is-between2 .ensures, c .before .before .if2 .left, ← c .before .is-between3 .ensures, c .if3 .left)
+returns-4 c =
+    let at = c .before .before .before .before in
+    rw (← at .before .is-between .ensures, at .if1 .left, ← c .before .before .before .is-between2 .ensures, c .before .before .if2 .left, ← c .before .is-between3 .ensures, c .if3 .left)
 
 pub digit-value-spec : {M : Type 1} → statement M
 digit-value-spec =
     tie.close
     (tie.spec
-    is-between-requires
-    sub-result
-    cast-result
-    returns
-    is-between-requires-2
-    sub-result-2
-    cast-result-2
-    returns-2
-    is-between-requires-3
-    sub-result-3
-    cast-result-3
+    (λ c κs. search needs)
+    (λ c. at-least 48 _ 57 (c .before .is-between .ensures) (c .if1 .taken))
+    (λ c. search needs)
+    (λ c. rw (← c .before .is-between .ensures, c .if1 .taken))
+    (λ c κs. search needs)
+    (λ c. le-trans (omega arith) (at-least 97 _ 102 (c .before .is-between2 .ensures) (c .if2 .taken)))
+    (λ c. search needs)
+    (λ c. rw (← c .before .before .before .is-between .ensures, c .before .before .if1 .left, ← c .before .is-between2 .ensures, c .if2 .taken))
+    (λ c κs. search needs)
+    (λ c. le-trans (omega arith) (at-least 65 _ 70 (c .before .is-between3 .ensures) (c .if3 .taken)))
+    (λ c. search needs)
     returns-3
     returns-4)

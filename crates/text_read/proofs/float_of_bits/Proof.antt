@@ -1,6 +1,6 @@
 -- `text_read::float_of_bits` meets its contract: beyond an infinity's bits, the sign left out, every pattern is a NaN's. Assumes nothing.
 use Prim.Native.Nat.{ℕ, _%_, _<_, _≤_}
-use mathlib.Core.Bool.{Bool, true, false, not}
+use mathlib.Core.Bool.{true, not}
 use mathlib.Core.Path.{_≡_, refl, sym, ap, subst, _∙_}
 use lib.Dec.{T}
 use lib.Ieee.{Float, nan, inf, fin, binary64, ofBits, nanBits, isNan, add, sub, neg}
@@ -22,12 +22,6 @@ number n h = subst T (sym (ap not (nanBits-above binary64 n ∙ le-ltb 0x7ff0_00
 no-number : (n : ℕ) → 0x7ff0_0000_0000_0000 < n % 0x8000_0000_0000_0000 → nan ≡ ofBits binary64 n
 no-number n h = is-nan (ofBits binary64 n) (sym (nanBits-is binary64 n) ∙ nanBits-above binary64 n ∙ lt-ltb 0x7ff0_0000_0000_0000 (n % 0x8000_0000_0000_0000) h)
 
-float-from-bits-result : tie.Need-float-from-bits-result
-float-from-bits-result c = number (c .before .args .bits) (c .if1 .taken)
-
-returns : tie.Need-returns
-returns c = search needs
-
 float-from-bits-infinity : tie.Need-float-from-bits-infinity
 unfolding nanBits
 float-from-bits-infinity c = search needs
@@ -37,4 +31,6 @@ unfolding ofBits sub add neg
 returns-2 c = no-number (c .before .args .bits) (c .if1 .left)
 
 pub float-of-bits-spec : {M : Type 1} → statement M
-float-of-bits-spec = tie.close (tie.spec float-from-bits-result returns float-from-bits-infinity returns-2)
+float-of-bits-spec =
+    tie.close
+    (tie.spec (λ c. number (c .before .args .bits) (c .if1 .taken)) (λ c. search needs) float-from-bits-infinity returns-2)

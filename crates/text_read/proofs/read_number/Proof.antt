@@ -1,7 +1,7 @@
 -- `text_read::read_number` meets its contract: the digits from the place up to i are read, and spell n. Assumes nothing.
-use Prim.Native.Nat.{ℕ, _+_, _-_, _*_, _/_, _<_, _≤_}
+use Prim.Native.Nat.{_+_, _-_, _*_, _<_, _≤_}
 use mathlib.Core.List.{_∷_}
-use mathlib.Core.Path.{_≡_, refl, sym, ap, _∙_}
+use mathlib.Core.Path.{_≡_, _∙_}
 use native.Mathlib.Nat.{sub-self}
 use native.Mathlib.Omega.{arith}
 use lib.ListN.{length, drop, getD}
@@ -18,75 +18,45 @@ Inv-loop bytes at base least most n₀ i₀ n i = (at ≤ i) × (n < 0x1_0000_00
 abbrev μ-loop : tie.MeasureT-loop
 μ-loop bytes at base least most n₀ i₀ n i = length bytes - i
 
-loop-holds : tie.Need-loop-holds Inv-loop μ-loop
-loop-holds c = (omega arith, omega arith, rw sub-self (unread _ _))
-
-shared-slice-read-b : tie.Need-shared-slice-read-b Inv-loop μ-loop
-shared-slice-read-b c = omega arith
-
-sub-sized-field : tie.Need-sub-sized-field Inv-loop μ-loop
-sub-sized-field c = omega arith
-
-sized-field-requires : tie.Need-sized-field-requires Inv-loop μ-loop
-sized-field-requires c κs = search needs
-
 returns : tie.Need-returns Inv-loop μ-loop
 returns c =
     let inside = c .before .before .before .before in
-    c .sized-field .ensures ∙ ended _ _ _ _ _ (inside .loop .i) _ (inside .loop .inv .0) (inside .loop .inv .1) (inside .loop .inv .2) (at-space (now (c .before .before .before .before .before .before .args .bytes)) (inside .loop .i) (omega arith) (c .before .if1 .taken))
+    c .sized-field .ensures
+    ∙ ended _ _ _ _ _ (inside .loop .i) _ (inside .loop .inv .0) (inside .loop .inv .1) (inside .loop .inv .2)
+    (at-space (now (c .before .before .before .before .before .before .args .bytes)) (inside .loop .i) (omega arith) (c .before .if1 .taken))
 
 -- the byte that a turn reads is the first of the rest
-here : (c : tie.Else1 Inv-loop μ-loop) → Reads (c .before .before .before .before .before .args .base) (untilSpace (drop (c .before .before .before .before .before .args .at) (now (c .before .before .before .before .before .args .bytes)))) (getD (now (c .before .before .before .before .before .args .bytes)) (c .before .before .before .loop .i) 0 ∷ untilSpace (drop (c .before .before .before .loop .i + 1) (now (c .before .before .before .before .before .args .bytes)))) (c .before .before .before .loop .n) (c .before .before .before .loop .i - c .before .before .before .before .before .args .at)
+here : (c : tie.Else1 Inv-loop μ-loop)
+    → let x = c .before .before .before .before .before .args in let l = c .before .before .before .loop in let bytes = now (x .bytes) in
+    Reads (x .base) (untilSpace (drop (x .at) bytes)) (getD bytes (l .i) 0 ∷ untilSpace (drop (l .i + 1) bytes)) (l .n) (l .i - x .at)
 here c = rw (at-byte (now (c .before .before .before .before .before .args .bytes)) (c .before .before .before .loop .i) (omega arith) (c .if1 .left)) at (c .before .before .before .loop .inv .2)
-
-digit-value-requires : tie.Need-digit-value-requires Inv-loop μ-loop
-digit-value-requires c κs = search needs
 
 returns-2 : tie.Need-returns-2 Inv-loop μ-loop
 unfolding readNumber
 returns-2 c = no-digit _ _ _ _ _ _ _ _ _ (here (c .before .before)) (rw (c .before .digit-value .ensures) at (c .if2 .taken))
 
-sub-if3 : tie.Need-sub-if3 Inv-loop μ-loop
-sub-if3 c = omega arith
-
-div-if3 : tie.Need-div-if3 Inv-loop μ-loop
-div-if3 c = omega arith
-
 returns-3 : tie.Need-returns-3 Inv-loop μ-loop
 unfolding readNumber
-returns-3 c = too-large _ _ _ _ _ _ _ _ _ (omega arith) (here (c .before .before .before)) (rw (c .before .before .digit-value .ensures) at (overflows _ _ _ (omega arith) (omega arith) (c .if3 .taken)))
+returns-3 c =
+    too-large _ _ _ _ _ _ _ _ _ (omega arith) (here (c .before .before .before)) (rw (c .before .before .digit-value .ensures) at (overflows _ _ _ (omega arith) (omega arith) (c .if3 .taken)))
 
-small : (c : tie.Else3 Inv-loop μ-loop) → c .before .before .before .before .before .before .before .before .args .base * c .before .before .before .before .before .before .loop .n + c .before .before .digit-value .result < 0x1_0000_0000_0000_0000
+small : (c : tie.Else3 Inv-loop μ-loop)
+    → let l = c .before .before .before .before .before .before in l .before .before .args .base * l .loop .n + c .before .before .digit-value .result < 0x1_0000_0000_0000_0000
 small c = stays _ _ _ (omega arith) (omega arith) (c .if3 .left)
-
-mul-n : tie.Need-mul-n Inv-loop μ-loop
-mul-n c = omega (arith, small c)
-
-add-n : tie.Need-add-n Inv-loop μ-loop
-add-n c = omega (arith, small c)
-
-add-i : tie.Need-add-i Inv-loop μ-loop
-add-i c = omega arith
-
-loop-less : tie.Need-loop-less Inv-loop μ-loop
-loop-less c = omega arith
 
 loop-again : tie.Need-loop-again Inv-loop μ-loop
 loop-again c =
-    let e : c .before .before .before .before .before .before .loop .i + 1 - c .before .before .before .before .before .before .before .before .args .at ≡ c .before .before .before .before .before .before .loop .i - c .before .before .before .before .before .before .before .before .args .at + 1 = omega arith in (
+    let i = c .before .before .before .before .before .before .loop .i in let at = c .before .before .before .before .before .before .before .before .args .at in
+    let e : i + 1 - at ≡ i - at + 1 = omega arith in (
       omega arith,
       small c,
       rw (c .before .before .digit-value .ensures, e) (one-more _ _ _ _ _ _ (here (c .before .before .before)) (rw (c .before .before .digit-value .ensures) at (c .before .if2 .left))),
     )
 
-sub-sized-field-2 : tie.Need-sub-sized-field-2 Inv-loop μ-loop
-sub-sized-field-2 c = omega arith
-
-sized-field-requires-2 : tie.Need-sized-field-requires-2 Inv-loop μ-loop
-sized-field-requires-2 c κs = search needs
-
 returns-4 : tie.Need-returns-4 Inv-loop μ-loop
-returns-4 c = c .sized-field2 .ensures ∙ ended _ _ _ _ _ (c .before .before .loop .i) _ (c .before .before .loop .inv .0) (c .before .before .loop .inv .1) (c .before .before .loop .inv .2) (at-end _ _ (c .before .loop-test .left))
+returns-4 c =
+    c .sized-field2 .ensures
+    ∙ ended _ _ _ _ _ (c .before .before .loop .i) _ (c .before .before .loop .inv .0) (c .before .before .loop .inv .1) (c .before .before .loop .inv .2) (at-end _ _ (c .before .loop-test .left))
 
 pub read-number-spec : {M : Type 1} → statement M
 read-number-spec =
@@ -94,21 +64,21 @@ read-number-spec =
     (tie.spec
     Inv-loop
     μ-loop
-    loop-holds
-    shared-slice-read-b
-    sub-sized-field
-    sized-field-requires
+    (λ c. (omega arith, omega arith, rw sub-self (unread _ _)))
+    (λ c. omega arith)
+    (λ c. omega arith)
+    (λ c κs. search needs)
     returns
-    digit-value-requires
+    (λ c κs. search needs)
     returns-2
-    sub-if3
-    div-if3
+    (λ c. omega arith)
+    (λ c. omega arith)
     returns-3
-    mul-n
-    add-n
-    add-i
-    loop-less
+    (λ c. omega (arith, small c))
+    (λ c. omega (arith, small c))
+    (λ c. omega arith)
+    (λ c. omega arith)
     loop-again
-    sub-sized-field-2
-    sized-field-requires-2
+    (λ c. omega arith)
+    (λ c κs. search needs)
     returns-4)

@@ -5,14 +5,8 @@ use borrow.Author.Needs.{needs}
 use Rattle.strip_order.proofs.bytes.float_at.Statement.{statement}
 use Rattle.strip_order.proofs.bytes.float_at.Tie as tie
 
-u64-at-requires : tie.Need-u64-at-requires
-u64-at-requires c κs = search needs
-
-float-of-bits-requires : tie.Need-float-of-bits-requires
-float-of-bits-requires c κs = search needs
-
 returns : tie.Need-returns
 returns c = c .float-of-bits .ensures ∙ ap (ofBits binary64) (c .before .u64-at .ensures)
 
 pub float-at-spec : {M : Type 1} → statement M
-float-at-spec = tie.close (tie.spec u64-at-requires float-of-bits-requires returns)
+float-at-spec = tie.close (tie.spec (λ c κs. search needs) (λ c κs. search needs) returns)

@@ -1,6 +1,6 @@
 -- `text_decimal::inner::put_sign` meets its contract. Assumes nothing.
-use Prim.Native.Nat.{ℕ, _+_, _-_, _*_, _/_, _%_, _^_, _<_, _≤_}
-use mathlib.Core.Path.{_≡_, refl, sym, ap, subst, _∙_}
+use Prim.Native.Nat.{ℕ, _^_, _<_}
+use mathlib.Core.Path.{_≡_}
 use native.Mathlib.Omega.{arith}
 use borrow.Author.Tests.{lt-ltb, le-ltb, le-leb, lt-leb}
 use Rattle.text_write.proofs.Writing.{nothing, byte}
@@ -8,8 +8,6 @@ use Rattle.text_decimal.specs.Numeral.{signOf}
 use borrow.Author.Needs.{needs}
 use Rattle.text_decimal.proofs.inner.put_sign.Statement.{statement}
 use Rattle.text_decimal.proofs.inner.put_sign.Tie as tie
-use Rattle.numeral.proofs.known.put_sign.Reads as reads
-use Rattle.numeral.proofs.known.put_sign.Lts as lts
 
 above-zero : (q : ℕ) → (q ≡ 0 → ⊥) → 0 < q
 above-zero q n = omega arith
@@ -22,19 +20,10 @@ returns-2 : tie.Need-returns-2
 unfolding signOf
 returns-2 c = rw (le-leb (2 ^ 63) (c .before .before .args .bits) (c .before .if1 .left), le-ltb 0 (c .before .before .args .q) (omega arith)) (nothing _ _)
 
-slice-write-out : tie.Need-slice-write-out
-slice-write-out c = search needs
-
-add-result : tie.Need-add-result
-add-result c = search needs
-
-same-length : tie.Need-same-length
-same-length c = search needs
-
 returns-3 : tie.Need-returns-3
 unfolding signOf
 returns-3 c = rw (le-leb (2 ^ 63) (c .before .before .args .bits) (c .before .if1 .left), lt-ltb 0 (c .before .before .args .q) (above-zero _ (c .if2 .left))) (byte _ _ 45 (omega arith))
 
 pub put-sign-spec : {M : Type 1} → statement M
 put-sign-spec =
-    tie.close (tie.spec returns returns-2 slice-write-out add-result same-length returns-3)
+    tie.close (tie.spec returns returns-2 (λ c. search needs) (λ c. search needs) (λ c. search needs) returns-3)

@@ -19,7 +19,7 @@ use Rattle.text_write.proofs.inner.put_four.Reads as put-four-reads
 use Rattle.text_write.proofs.inner.+put_decimal.{statement}
 use Rattle.text_write.proofs.inner.+put_decimal.Tie.{close}
 
--- there is room for the digits of n / 10,000, and behind them for four more
+-- there is room for the digits of n / 10,000, and after them for four more
 cut-length : (n : ℕ) → 10_000 ≤ n → length (decimalOf n) ≡ length (decimalOf (n / 10_000)) + 4
 cut-length n big = rw (decimal-cut 4 n big, length-append, length-digits 10 4 n)
 
@@ -79,7 +79,8 @@ put-decimal-put-decimal-requires : (t : ℕ) → put-decimal-lts.Need-put-decima
   put-four-reads.Asked,
   put-four-reads.Learnt,
 ) (put-decimal-at t) put-decimal.Post
-put-decimal-put-decimal-requires t c κs = (omega (arith, c .before .before .before .pre .0, c .before .if1 .left), shorter (c .before .before .before .args .n) _ _ (c .before .if1 .left) (c .before .before .before .pre .1))
+put-decimal-put-decimal-requires t c κs =
+    (omega (arith, c .before .before .before .pre .0, c .before .if1 .left), shorter (c .before .before .before .args .n) _ _ (c .before .if1 .left) (c .before .before .before .pre .1))
 
 put-decimal-put-four-requires : (t : ℕ) → put-decimal-lts.Need-put-four-requires (
   put-first-reads.Asked,
@@ -89,7 +90,13 @@ put-decimal-put-four-requires : (t : ℕ) → put-decimal-lts.Need-put-four-requ
   put-four-reads.Asked,
   put-four-reads.Learnt,
 ) (put-decimal-at t) put-decimal.Post
-put-decimal-put-four-requires t c κs = (omega arith, omega arith, room (c .before .before .before .before .before .before .before .args .n) _ _ (c .before .before .before .before .before .if1 .left) (c .before .before .before .before .before .before .before .pre .1) (c .before .before .before .put-decimal .ensures) (c .before .before .before .put-decimal .kept .0))
+put-decimal-put-four-requires t c κs = (
+  omega arith,
+  omega arith,
+  room (c .before .before .before .before .before .before .before .args .n) _ _
+      (c .before .before .before .before .before .if1 .left) (c .before .before .before .before .before .before .before .pre .1)
+      (c .before .before .before .put-decimal .ensures) (c .before .before .before .put-decimal .kept .0),
+)
 
 put-decimal-same-length-2 : (t : ℕ) → put-decimal-lts.Need-same-length-2 (
   put-first-reads.Asked,
@@ -109,7 +116,9 @@ put-decimal-returns-2 : (t : ℕ) → put-decimal-lts.Need-returns-2 (
   put-four-reads.Asked,
   put-four-reads.Learnt,
 ) (put-decimal-at t) put-decimal.Post
-put-decimal-returns-2 t c = rw (decimal-cut 4 (c .before .before .before .before .before .before .before .before .before .before .args .n) (c .before .before .before .before .before .before .before .before .if1 .left)) (both (c .before .before .before .before .before .before .put-decimal .ensures) (c .before .before .put-four .ensures))
+put-decimal-returns-2 t c =
+    rw (decimal-cut 4 (c .before .before .before .before .before .before .before .before .before .before .args .n) (c .before .before .before .before .before .before .before .before .if1 .left))
+    (both (c .before .before .before .before .before .before .put-decimal .ensures) (c .before .before .put-four .ensures))
 
 pub +put-decimal-spec : {M : Type 1} → statement M
 +put-decimal-spec = close μ-put-decimal λ t. put-decimal-lts.spec (

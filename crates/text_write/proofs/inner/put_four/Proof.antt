@@ -13,19 +13,22 @@ mul-put-two c = record { fits = omega (arith, square-fits (c .before .before .ar
 div-put-two : tie.Need-div-put-two
 div-put-two c = mul-pos (omega arith) (omega arith)
 
-put-two-requires : tie.Need-put-two-requires
-put-two-requires c κs = search needs
-
 put-two-requires-2 : tie.Need-put-two-requires-2
-put-two-requires-2 c κs = (omega arith, omega arith, omega (arith, c .before .before .before .put-two .ensures .next, length-digits (c .before .before .before .before .before .before .args .base) 2 (c .before .before .before .before .before .before .args .n / (c .before .before .before .before .before .before .args .base * c .before .before .before .before .before .before .args .base)), c .before .before .before .put-two .kept .0))
-
-same-length : tie.Need-same-length
-same-length c = search needs
+put-two-requires-2 c κs =
+    let at = c .before .before .before .before .before .before in (
+      omega arith,
+      omega arith,
+      omega
+          (arith, c .before .before .before .put-two .ensures .next, length-digits (at .args .base) 2 (at .args .n / (at .args .base * at .args .base)), c .before .before .before .put-two .kept .0),
+    )
 
 returns : tie.Need-returns
-returns c = halves (c .before .before .before .before .before .before .before .before .before .args .base) 2 2 (c .before .before .before .before .before .before .before .before .before .args .n) _ (square-is (c .before .before .before .before .before .before .before .before .before .args .base)) (c .before .before .before .before .before .before .put-two .ensures) (c .before .before .put-two2 .ensures)
+returns c =
+    let at = c .before .before .before .before .before .before in
+    halves (at .before .before .before .args .base) 2 2 (at .before .before .before .args .n) _ (square-is (at .before .before .before .args .base))
+    (at .put-two .ensures) (c .before .before .put-two2 .ensures)
 
 pub put-four-spec : {M : Type 1} → statement M
 put-four-spec =
     tie.close
-    (tie.spec mul-put-two div-put-two put-two-requires put-two-requires-2 same-length returns)
+    (tie.spec mul-put-two div-put-two (λ c κs. search needs) put-two-requires-2 (λ c. search needs) returns)
