@@ -1,12 +1,11 @@
 -- The text of a run, state by state, and the loop that writes it. Assumes nothing.
-use Prim.Native.Nat.{ℕ, zero, suc, _+_, _-_, _*_, _/_, _<_, _≤_}
+use Prim.Native.Nat.{ℕ, zero, suc, _+_, _-_, _*_, _<_, _≤_}
 use mathlib.Core.Bool.{true}
-use mathlib.Core.List.{List, [], _++_, append-assoc}
+use mathlib.Core.List.{List, _++_, append-assoc}
 use mathlib.Core.Path.{_≡_, refl, sym, ap, _∙_}
 use native.Mathlib.Nat.{suc-mul, div-le-self}
 use native.Mathlib.Omega.{arith}
 use lib.ListN.{length, take, drop}
-use Rattle.basis.specs.Limits.{endOfTime}
 use Rattle.state.specs.State.{centreAllowed}
 use Rattle.state.specs.declared.State.{State}
 use Rattle.state.specs.declared.Setting.{Setting}
@@ -64,7 +63,10 @@ module _ (b : List ℕ) (setting : Setting) (h : ℕ) (from : Course) (before : 
     pub stands : MayStep setting now
     stands = (let i = l .on .inside in omega arith, l .on .centred)
 
-    pub ends : (o : Outcome) → courseText (step b setting h) left did now ≡ remains (step b setting h) (record { state = now; entries = entries; left = left; done = did }) o → (o ≡ Going → length out < at + longestLine) → Advanced b setting h from before out (portionOf o now entries left did at)
+    pub ends : (o : Outcome)
+        → courseText (step b setting h) left did now ≡ remains (step b setting h) (record { state = now; entries = entries; left = left; done = did }) o
+        → (o ≡ Going → length out < at + longestLine)
+        → Advanced b setting h from before out (portionOf o now entries left did at)
     ends o rest full =
         record {
           text = l .text ∙ ap (λ (r : List ℕ). take at out ++ r) rest;
@@ -84,7 +86,10 @@ module _ (b : List ℕ) (setting : Setting) (h : ℕ) (from : Course) (before : 
       pub refuses : (k : ℕ) → stepped.Off k ≡ kept (entriesAfter b setting h now) (step b setting h now) → Advanced b setting h from before out (portionOf (Refused k) now entries left did at)
       refuses k e = ends (Refused k) (text-refused (step b setting h) did now left k some (handedOff _ _ k e)) (λ z. let c : _≡_ {A = ℕ} 0 1 = cc in absurd (omega arith))
 
-      pub goes-on : (next : State) (seen : Guesses) (after : List ℕ) (r : ℕ) → stepped.On next seen ≡ kept (entriesAfter b setting h now) (step b setting h now) → Wrote out at (stateLine next) after r → at + longestLine ≤ length out → length after ≡ length out → Listing after next seen (left - 1) (did + 1) r
+      pub goes-on : (next : State) (seen : Guesses) (after : List ℕ) (r : ℕ)
+          → stepped.On next seen ≡ kept (entriesAfter b setting h now) (step b setting h now)
+          → Wrote out at (stateLine next) after r → at + longestLine ≤ length out → length after ≡ length out
+          → Listing after next seen (left - 1) (did + 1) r
       goes-on next seen after r e w room same =
           let handed = handedOn (entriesAfter b setting h now) (step b setting h now) next seen e in
           let did′ = done b setting h now next (handed .on) in

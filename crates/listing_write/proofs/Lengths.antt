@@ -1,16 +1,17 @@
 -- How long the parts of a line can be. Assumes nothing.
-use Prim.Native.Nat.{ℕ, _+_, _<_, _≤_}
-use mathlib.Core.List.{List, _++_}
+use Prim.Native.Nat.{ℕ, _<_, _≤_}
+use mathlib.Core.List.{_++_}
 use native.Mathlib.Omega.{arith}
 use lib.Ieee.{Float}
 use lib.ListN.{length, length-append}
 use Rattle.state.specs.State.{position, velocity}
 use Rattle.state.specs.declared.Vector.{Vector}
 use Rattle.state.specs.declared.State.{State}
-use Rattle.text.specs.Numerals.{decimalOf, floatText}
+use Rattle.text_write.specs.Numerals.{decimalOf}
 use Rattle.text_write.proofs.Decimal.{decimal-fits}
 use Rattle.text_write.proofs.Digits.{float-fits}
-use Rattle.listing.specs.Lines.{spaced, vectorText, lineFeed, stripWord, headerLine, stateLine}
+use Rattle.listing_words.specs.Words.{lineFeed, stripWord}
+use Rattle.listing_write.specs.Lines.{spaced, vectorText, headerLine, stateLine}
 use Rattle.listing_write.specs.Course.{longestLine}
 
 pub spaced-fits : (x : Float) → length (spaced x) ≤ 17
@@ -25,7 +26,8 @@ vector-fits v =
 pub line-fits : (s : State) → s .moment < 0x1_0000_0000_0000_0000 → length (stateLine s) ≤ longestLine
 unfolding stateLine
 line-fits s h =
-    rw (length-append (decimalOf (s .moment) ++ vectorText (position s) ++ vectorText (velocity s)) lineFeed, length-append (decimalOf (s .moment) ++ vectorText (position s)) (vectorText (velocity s)), length-append (decimalOf (s .moment)) (vectorText (position s)))
+    let m = decimalOf (s .moment) in let p = vectorText (position s) in let v = vectorText (velocity s) in
+    rw (length-append (m ++ p ++ v) lineFeed, length-append (m ++ p) v, length-append m p)
     (omega (arith, decimal-fits (s .moment) h, vector-fits (position s), vector-fits (velocity s)))
 
 pub header-fits : (h : ℕ) → h < 0x1_0000_0000_0000_0000 → length (headerLine h) ≤ longestLine

@@ -5,7 +5,7 @@ use mathlib.Core.Path.{_≡_, refl, _∙_}
 use lib.Ieee.{binary64, neg, add, sub, mul, div, ofBits, ofInt, ofFields, odd, toBits, size, lt, eq}
 use Rattle.base.specs.Floats.{zero64}
 use Rattle.root.specs.Root.{rootOf}
-use Rattle.book.specs.Bytes.{u16At, u32At, u64At}
+use Rattle.base_bytes.specs.Bytes.{u16At, u32At, u64At}
 use Rattle.book.specs.Passes.{passes}
 use Rattle.state.specs.State.{carrying, sameVector, n, settingAllowed, coefficientsAllowed, termsAllowed, centreAllowed, coefficientOf}
 use Rattle.state.specs.declared.State.{State}
@@ -14,8 +14,10 @@ use Rattle.state.specs.declared.Setting.{Setting}
 use Rattle.gravity_pull.specs.Pull.{g, sound, r3}
 use Rattle.gravity.specs.Acceleration.{accelerationAt}
 use Rattle.gravity_bodies.specs.Sky.{sky}
-use Rattle.injection.specs.Injection.{kept, injectionRefusal, injectionAnswer, launched, orderRefusal}
-use Rattle.start.specs.Start.{startRefusal}
+use Rattle.gravity_stored.specs.Injection.{kept, injectionRefusal, injectionAnswer, launched, storedRefusal}
+use Rattle.state_checks.specs.Common.{commonRefusal}
+use Rattle.run_target.specs.Target.{targetRefusal}
+use Rattle.run_checks.specs.Start.{inputsRefusal, startRefusal}
 use Rattle.run.specs.Run.{runTo}
 use Rattle.text_write.specs.Numerals.{digits, shortest, decimalOf, floatText}
 use Rattle.listing_write.specs.Lines.{headerLine, vectorText, stateLine, arrivedLine}
@@ -62,15 +64,17 @@ unfolding stripText readOrder u16At u32At u64At given
 order-read = refl
 
 launched-there : launched book setting injection ≡ state
-unfolding launched injectionAnswer injectionRefusal kept passes settingAllowed coefficientsAllowed termsAllowed centreAllowed coefficientOf u16At u32At u64At accelerationAt sky g sound r3 n rootOf neg add sub mul div lt eq ofBits ofInt
+unfolding launched injectionAnswer injectionRefusal commonRefusal kept passes settingAllowed coefficientsAllowed termsAllowed centreAllowed coefficientOf
+    u16At u32At u64At accelerationAt sky g sound r3 n rootOf neg add sub mul div lt eq ofBits ofInt
 launched-there = refl
 
-in-order : orderRefusal book setting state ≡ 0
-unfolding orderRefusal sameVector coefficientOf accelerationAt sky g sound r3 n rootOf neg add sub mul div lt eq ofBits ofInt toBits
+in-order : storedRefusal book setting state ≡ 0
+unfolding storedRefusal sameVector coefficientOf accelerationAt sky g sound r3 n rootOf neg add sub mul div lt eq ofBits ofInt toBits
 in-order = refl
 
 order-printed : orderText book (record { setting = setting; injection = injection; h = 1000; target = 0 }) ≡ printed
-unfolding orderText startRefusal passes settingAllowed coefficientsAllowed termsAllowed centreAllowed coefficientOf runTo statesAfter stateLines headerLine stateLine vectorText arrivedLine decimalOf shortest digits floatText u16At u32At u64At ofBits ofInt ofFields odd toBits size lt printed
+unfolding orderText startRefusal inputsRefusal targetRefusal commonRefusal passes settingAllowed coefficientsAllowed termsAllowed centreAllowed coefficientOf
+    runTo statesAfter stateLines headerLine stateLine vectorText arrivedLine decimalOf shortest digits floatText u16At u32At u64At ofBits ofInt ofFields odd toBits size lt printed
 order-printed = rw (launched-there, in-order)
 
 pub example : stripText Plain given ≡ printed

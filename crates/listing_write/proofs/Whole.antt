@@ -1,9 +1,8 @@
--- The text of a strip as a whole: the portions make it up, its states are the walk's, no input past the longest one changes it, and an
--- old order is a new one with zeros.
--- Assumes nothing.
+-- The text of a strip as a whole: the portions make it up, its states are the walk's, and no input past the longest one changes it. An old
+-- order is a new one with zeros. Assumes nothing.
 use Prim.Native.Nat.{ℕ, zero, suc, _+_, _-_, _*_, _<_, _≤_}
 use mathlib.Core.Bool.{Bool, true, false, and-false}
-use mathlib.Core.List.{List, [], _∷_, _++_, append-assoc}
+use mathlib.Core.List.{List, _++_, append-assoc}
 use mathlib.Core.Path.{_≡_, refl, sym, ap, _∙_}
 use native.Mathlib.Nat.{zero-add, add-zero, suc-mul, zero-mul}
 use native.Mathlib.Numerals.{add-one}
@@ -12,13 +11,13 @@ use borrow.Author.Tests.{le-ltb, lt-leb, ltb-true, ltb-false}
 use lib.Dec.{ltb}
 use lib.ListN.{length, getD, take, drop, length-drop}
 use lib.Seq.{take-all, length-take-le, drop-append-add, drop-at}
-use Rattle.basis.specs.Choice.{if_then_else_}
 use Rattle.state.specs.declared.State.{State}
 use Rattle.book.specs.Passes.{longestBook, passes}
 use Rattle.run.specs.Step.{Moved, On, Off, step}
 use Rattle.run.specs.Walk.{walk}
 use Rattle.gravity_stored.specs.Injection.{launched}
-use Rattle.start.specs.Start.{startRefusal}
+use Rattle.state_checks.specs.Common.{commonRefusal}
+use Rattle.run_checks.specs.Start.{inputsRefusal, startRefusal}
 use Rattle.run.specs.Run.{Reached, counted, runTo}
 use Rattle.run_checks.proofs.Allowed.{away}
 use Rattle.run.proofs.OneStep.{done}
@@ -75,13 +74,17 @@ module _ (f : State → Moved) (h target : ℕ) (some : 1 ≤ h) (clock : (s nex
       short : s .moment ≡ target → ⊥
       short e = omega (arith, m)
 
-      go : (m : Moved) → f s ≡ m → ((did : ℕ) (s : State) → s .moment + left * h ≡ target → courseText f left did s ≡ textOf f did s (runTo f target left s)) → courseText f (suc left) did s ≡ textOf f did s (runTo f target (suc left) s)
+      go : (m : Moved) → f s ≡ m
+          → ((did : ℕ) (s : State) → s .moment + left * h ≡ target → courseText f left did s ≡ textOf f did s (runTo f target left s))
+          → courseText f (suc left) did s ≡ textOf f did s (runTo f target (suc left) s)
       go (Off k) e later = rw (runRefused f target s short left k e, e, add-zero did)
       go (On next) e later =
           let c = clock s next e in
           let l : suc left - 1 ≡ left = omega arith in
           rw (runOn f target s short left next e)
-          (text-goes-on f did s (suc left) next (λ z. absurd (omega arith)) e ∙ rw l (ap (λ (t : List ℕ). stateLine next ++ t) (later (did + 1) next (omega (arith, m)))) ∙ sym (one-more f did s next (runTo f target left next) e))
+          (text-goes-on f did s (suc left) next (λ z. absurd (omega arith)) e
+          ∙ rw l (ap (λ (t : List ℕ). stateLine next ++ t) (later (did + 1) next (omega (arith, m))))
+          ∙ sym (one-more f did s next (runTo f target left next) e))
 
   pub run-course : (n : ℕ) (s : State) → s .moment + n * h ≡ target → runText f target n s ≡ stateLine s ++ courseText f n 0 s
   unfolding stateLines
@@ -102,7 +105,8 @@ order-course b o e =
     let may = mayWalk b (o .setting) s (o .h) (o .target) e in
     let long = may .long in
     rw e (ap (λ (t : List ℕ). headerLine (o .h) ++ t)
-    (run-course (step b (o .setting) (o .h)) (o .h) (o .target) (omega arith) (λ s next d. done b (o .setting) (o .h) s next d .moment) (stepsTo s (o .h) (o .target)) s (away (s .moment) (o .h) (o .target) (may .reachable))))
+    (run-course (step b (o .setting) (o .h)) (o .h) (o .target) (omega arith) (λ s next d. done b (o .setting) (o .h) s next d .moment)
+    (stepsTo s (o .h) (o .target)) s (away (s .moment) (o .h) (o .target) (may .reachable))))
 
 -- ---- an input longer than an order and the longest book need not be read to its end
 
@@ -111,7 +115,7 @@ unfolding passes
 too-long b h = rw (lt-leb (length b) longestBook h, and-false)
 
 refused-1 : (b : List ℕ) (o : Order) → passes b ≡ false → orderText b o ≡ loneRefusal 1
-unfolding orderText startRefusal
+unfolding orderText startRefusal inputsRefusal commonRefusal
 refused-1 b o e = rw e
 
 module _ (form : Form) where
@@ -130,7 +134,7 @@ module _ (form : Form) where
           long-refused (take n input) (rw (length-take-le n input (omega arith)) h) ∙ sym (long-refused input (omega arith))
       by-size false e = ap (stripText form) (take-all n input (ltb-false n (length input) e))
 
--- ---- document 02, R-7: strip prints of an old order what strip144 prints of the order with J, A and K zero behind the old 120 bytes
+-- ---- document 02, R-7: strip prints for an old order what strip144 prints for the order with J, A and K zero after the old 120 bytes
 
 pub old-as-new : (order : List ℕ) → length order ≡ 120 → (book : List ℕ) → stripText Plain (order ++ book) ≡ stripText Whole (order ++ zeros book)
 unfolding stripText

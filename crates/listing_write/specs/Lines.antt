@@ -1,6 +1,6 @@
--- Document 01, "strip": the lines that it prints. Each ends in a line feed, and its parts are parted by one space.
+-- Document 01, "strip": the lines that it prints. Each ends in a line feed, and one space separates its parts.
 use Prim.Native.Nat.{ℕ}
-use mathlib.Core.List.{List, [], _∷_, _++_}
+use mathlib.Core.List.{List, [], _++_}
 use lib.Ieee.{Float}
 use Rattle.state.specs.State.{position, velocity}
 use Rattle.state.specs.declared.Vector.{Vector}
@@ -8,22 +8,7 @@ use Rattle.state.specs.declared.State.{State}
 use Rattle.run.specs.declared.Outcome.{Outcome}
 use Rattle.run.specs.declared.Outcome.the-variants.{Arrived, Going, Refused}
 use Rattle.text_write.specs.Numerals.{decimalOf, floatText}
-
-abbrev pub lineFeed : List ℕ
-lineFeed = 10 ∷ []
-
-abbrev pub space : List ℕ
-space = 32 ∷ []
-
--- "STRIP ", "ARRIVED " and "REFUSED "
-abbrev pub stripWord : List ℕ
-stripWord = 83 ∷ 84 ∷ 82 ∷ 73 ∷ 80 ∷ 32 ∷ []
-
-abbrev pub arrivedWord : List ℕ
-arrivedWord = 65 ∷ 82 ∷ 82 ∷ 73 ∷ 86 ∷ 69 ∷ 68 ∷ 32 ∷ []
-
-abbrev pub refusedWord : List ℕ
-refusedWord = 82 ∷ 69 ∷ 70 ∷ 85 ∷ 83 ∷ 69 ∷ 68 ∷ 32 ∷ []
+use Rattle.listing_words.specs.Words.{space, lineFeed, stripWord, arrivedWord, refusedWord}
 
 -- a word, a number and the end of the line
 abbrev pub numbered : List ℕ → ℕ → List ℕ
@@ -52,7 +37,7 @@ arrivedLine n = numbered arrivedWord n
 unfoldable pub refusedLine : ℕ → ℕ → List ℕ
 refusedLine k n = refusedWord ++ decimalOf k ++ numbered space n
 
--- a run with a budget for all its steps is never left going
+-- a run with a budget for all its steps never answers going
 abbrev pub outcomeLine : Outcome → ℕ → List ℕ
 outcomeLine Arrived n = arrivedLine n
 outcomeLine Going n = []

@@ -1,4 +1,4 @@
--- Document 01, "strip": all that it prints, from all that it reads; and (02, R-7) all that strip144 prints, by the same definition.
+-- Document 01, "strip": the text that it prints, from the bytes that it reads. (02, R-7) strip144 has the same definition.
 use Prim.Native.Nat.{ℕ, zero, suc, _-_, _/_}
 use mathlib.Core.List.{List, [], _∷_, _++_}
 use lib.ListN.{drop}
@@ -7,7 +7,7 @@ use Rattle.state.specs.declared.State.{State}
 use Rattle.run.specs.Step.{Moved, On, Off, step}
 use Rattle.gravity_stored.specs.Injection.{launched}
 use Rattle.run_checks.specs.Start.{startRefusal}
-use Rattle.motion.specs.Run.{Reached, runTo}
+use Rattle.run.specs.Run.{runTo}
 use Rattle.listing_write.specs.Lines.{headerLine, stateLine, outcomeLine, loneRefusal}
 use Rattle.strip_order.specs.Order.{orderLength, readOrder}
 use Rattle.strip_order.specs.declared.Form.{Form}
@@ -15,7 +15,7 @@ use Rattle.strip_order.specs.declared.Order.{Order}
 use Rattle.strip_order.specs.declared.OrderAnswer.{OrderAnswer}
 use Rattle.strip_order.specs.declared.OrderAnswer.the-variants as answer
 
--- the states that up to n steps f reach after s, in order: a step refused ends them
+-- the states that up to n steps f reach after s, in order: a refused step ends them
 abbrev pub andThen : (State → List State) → Moved → List State
 andThen later (On next) = next ∷ later next
 andThen later (Off k) = []
@@ -33,12 +33,12 @@ abbrev pub runText : (State → Moved) → ℕ → ℕ → State → List ℕ
 runText f target budget s =
     let r = runTo f target budget s in stateLines (s ∷ statesAfter f (r .steps) s) ++ outcomeLine (r .outcome) (r .steps)
 
--- as many steps of h as lead from the state to the target
+-- the number of steps of h from the state to the target
 abbrev pub stepsTo : State → ℕ → ℕ → ℕ
 stepsTo s h target = (target - s .moment) / h
 
--- "if the order or book is refused, only REFUSED and the number"; document 02, R-8: the order's injection with the acceleration that the rule
--- gives it, and "an injection without an acceleration is refused at once .. (strip prints the lone `REFUSED`)"
+-- "if the order or book is refused, only REFUSED and the number"; document 02, R-8: the injection of the order with the acceleration that
+-- the rule gives it. "an injection without an acceleration is refused at once .. (strip prints the lone `REFUSED`)"
 unfoldable pub orderText : List ℕ → Order → List ℕ
 orderText book o =
     let s = launched book (o .setting) (o .injection) in

@@ -6,31 +6,26 @@ use borrow.Author.Needs.{needs}
 use Rattle.listing_write.proofs.lines.put_numbered.Statement.{statement}
 use Rattle.listing_write.proofs.lines.put_numbered.Tie as tie
 
-put-bytes-requires : tie.Need-put-bytes-requires
-put-bytes-requires c κs = search needs
-
 put-decimal-requires : tie.Need-put-decimal-requires
-put-decimal-requires c κs = omega (arith, decimal-fits (c .before .before .before .before .before .before .before .args .n) (omega arith), c .before .before .before .put-bytes .ensures .next, c .before .before .before .put-bytes .kept .0)
-
-slice-aggregate-put-bytes : tie.Need-slice-aggregate-put-bytes
-slice-aggregate-put-bytes c = search needs
+put-decimal-requires c κs = let at = c .before .before .before in omega (arith, decimal-fits (at .before .before .before .before .args .n) (omega arith), at .put-bytes)
 
 put-bytes-requires-2 : tie.Need-put-bytes-requires-2
-put-bytes-requires-2 c κs = omega (arith, decimal-fits (c .before .before .before .before .before .before .before .before .before .before .before .before .args .n) (omega arith), c .before .before .before .before .before .before .before .before .put-bytes .ensures .next, c .before .before .before .before .before .before .before .before .put-bytes .kept .0, c .before .before .before .before .put-decimal .ensures .next, c .before .before .before .before .put-decimal .kept .0)
-
-same-length : tie.Need-same-length
-same-length c = search needs
+put-bytes-requires-2 c κs =
+    let at2 = c .before .before .before .before in let at1 = at2 .before .before .before .before in
+    omega (arith, decimal-fits (at1 .before .before .before .before .args .n) (omega arith), at1 .put-bytes, at2 .put-decimal)
 
 returns : tie.Need-returns
-returns c = both (both (c .before .before .before .before .before .before .before .before .before .before .before .put-bytes .ensures) (c .before .before .before .before .before .before .before .put-decimal .ensures)) (c .before .before .put-bytes2 .ensures)
+returns c =
+    let at2 = c .before .before .before .before .before .before .before in
+    both (both (at2 .before .before .before .before .put-bytes .ensures) (at2 .put-decimal .ensures)) (c .before .before .put-bytes2 .ensures)
 
 pub put-numbered-spec : {M : Type 1} → statement M
 put-numbered-spec =
     tie.close
     (tie.spec
-    put-bytes-requires
+    (λ c κs. search needs)
     put-decimal-requires
-    slice-aggregate-put-bytes
+    (λ c. search needs)
     put-bytes-requires-2
-    same-length
+    (λ c. search needs)
     returns)

@@ -7,36 +7,28 @@ use borrow.Author.Needs.{needs}
 use Rattle.listing_write.proofs.lines.put_refused.Statement.{statement}
 use Rattle.listing_write.proofs.lines.put_refused.Tie as tie
 
-slice-aggregate-put-bytes : tie.Need-slice-aggregate-put-bytes
-slice-aggregate-put-bytes c = search needs
-
-put-bytes-requires : tie.Need-put-bytes-requires
-put-bytes-requires c κs = search needs
-
 put-decimal-requires : tie.Need-put-decimal-requires
-put-decimal-requires c κs = omega (arith, decimal-fits (c .before .before .before .before .before .before .before .args .refusal) (omega arith), c .before .before .before .put-bytes .ensures .next, c .before .before .before .put-bytes .kept .0)
-
-slice-aggregate-put-numbered : tie.Need-slice-aggregate-put-numbered
-slice-aggregate-put-numbered c = search needs
+put-decimal-requires c κs = let at = c .before .before .before in omega (arith, decimal-fits (at .before .before .before .before .args .refusal) (omega arith), at .put-bytes)
 
 put-numbered-requires : tie.Need-put-numbered-requires
-put-numbered-requires c κs = omega (arith, decimal-fits (c .before .before .before .before .before .before .before .before .before .before .before .before .args .refusal) (omega arith), c .before .before .before .before .before .before .before .before .put-bytes .ensures .next, c .before .before .before .before .before .before .before .before .put-bytes .kept .0, c .before .before .before .before .put-decimal .ensures .next, c .before .before .before .before .put-decimal .kept .0)
-
-same-length : tie.Need-same-length
-same-length c = search needs
+put-numbered-requires c κs =
+    let at2 = c .before .before .before .before in let at1 = at2 .before .before .before .before in
+    omega (arith, decimal-fits (at1 .before .before .before .before .args .refusal) (omega arith), at1 .put-bytes, at2 .put-decimal)
 
 returns : tie.Need-returns
 unfolding refusedLine
-returns c = both (both (c .before .before .before .before .before .before .before .before .before .before .before .put-bytes .ensures) (c .before .before .before .before .before .before .before .put-decimal .ensures)) (c .before .before .put-numbered .ensures)
+returns c =
+    let at2 = c .before .before .before .before .before .before .before in
+    both (both (at2 .before .before .before .before .put-bytes .ensures) (at2 .put-decimal .ensures)) (c .before .before .put-numbered .ensures)
 
 pub put-refused-spec : {M : Type 1} → statement M
 put-refused-spec =
     tie.close
     (tie.spec
-    slice-aggregate-put-bytes
-    put-bytes-requires
+    (λ c. search needs)
+    (λ c κs. search needs)
     put-decimal-requires
-    slice-aggregate-put-numbered
+    (λ c. search needs)
     put-numbered-requires
-    same-length
+    (λ c. search needs)
     returns)

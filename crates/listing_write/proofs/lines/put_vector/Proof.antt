@@ -7,23 +7,21 @@ use borrow.Author.Needs.{needs}
 use Rattle.listing_write.proofs.lines.put_vector.Statement.{statement}
 use Rattle.listing_write.proofs.lines.put_vector.Tie as tie
 
-put-spaced-requires : tie.Need-put-spaced-requires
-put-spaced-requires c κs = search needs
-
 put-spaced-requires-2 : tie.Need-put-spaced-requires-2
-put-spaced-requires-2 c κs = omega (arith, c .before .before .before .put-spaced .ensures .next, spaced-fits (c .before .before .before .before .before .before .args .v .x), c .before .before .before .put-spaced .kept .0)
+put-spaced-requires-2 c κs = let at1 = c .before .before .before in omega (arith, at1 .put-spaced, spaced-fits (at1 .before .before .before .args .v .x))
 
 put-spaced-requires-3 : tie.Need-put-spaced-requires-3
-put-spaced-requires-3 c κs = omega (arith, c .before .before .before .put-spaced2 .ensures .next, spaced-fits (c .before .before .before .before .before .before .before .before .before .before .args .v .y), c .before .before .before .put-spaced2 .kept .0, c .before .before .before .before .before .before .before .put-spaced .ensures .next, spaced-fits (c .before .before .before .before .before .before .before .before .before .before .args .v .x), c .before .before .before .before .before .before .before .put-spaced .kept .0)
-
-same-length : tie.Need-same-length
-same-length c = search needs
+put-spaced-requires-3 c κs =
+    let at2 = c .before .before .before in let at1 = at2 .before .before .before .before in let v = at1 .before .before .before .args .v in
+    omega (arith, at2 .put-spaced2, spaced-fits (v .y), at1 .put-spaced, spaced-fits (v .x))
 
 returns : tie.Need-returns
 unfolding vectorText
-returns c = both (both (c .before .before .before .before .before .before .before .before .before .before .put-spaced .ensures) (c .before .before .before .before .before .before .put-spaced2 .ensures)) (c .before .before .put-spaced3 .ensures)
+returns c =
+    let at2 = c .before .before .before .before .before .before in
+    both (both (at2 .before .before .before .before .put-spaced .ensures) (at2 .put-spaced2 .ensures)) (c .before .before .put-spaced3 .ensures)
 
 pub put-vector-spec : {M : Type 1} → statement M
 put-vector-spec =
     tie.close
-    (tie.spec put-spaced-requires put-spaced-requires-2 put-spaced-requires-3 same-length returns)
+    (tie.spec (λ c κs. search needs) put-spaced-requires-2 put-spaced-requires-3 (λ c. search needs) returns)
