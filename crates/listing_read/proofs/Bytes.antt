@@ -1,11 +1,11 @@
--- A line, one byte on: what the definition of its kind says of the rest. Assumes nothing.
+-- A line after one more byte: what the definition of its kind says about the rest. Assumes nothing.
 use Prim.Native.Nat.{ℕ, zero, suc, _+_, _-_, _*_, _%_, _<_, _≤_}
 use mathlib.Core.Bool.{Bool, true, false, _&&_}
 use mathlib.Core.List.{List, [], _∷_}
 use mathlib.Core.Path.{_≡_, refl, sym, ap, subst, _∙_}
 use native.Mathlib.Numerals.{add-one}
 use native.Mathlib.Omega.{arith}
-use borrow.Author.Tests.{lt-ltb, le-ltb, le-leb, lt-leb, leb-true, eq-eqb, ne-eqb}
+use borrow.Author.Tests.{lt-ltb, le-ltb, leb-true, eq-eqb, ne-eqb}
 use lib.Dec.{leb, ltb}
 use lib.ListN.{length, getD, drop, drop-of-length-le}
 use lib.Seq.{drop-cons}
@@ -17,8 +17,9 @@ use Rattle.listing_read.specs.declared.Word.{Word}
 use Rattle.listing_read.specs.declared.Word.the-variants.{Strip, Arrived, Refused, Steps}
 use Rattle.listing_read.specs.declared.Scan.{Scan}
 use Rattle.listing_read.specs.declared.Scan.the-variants.{Start, Letters, Digits, Moment, Component, Behind, Bad}
-use Rattle.reader.specs.Line.{isDecimal, hexValue, word, digits, number, headerLine, arrivedLine, refusedLine, appended, finiteBits, component, pushed, components, blank, momentFrom, stateLine, kindOf}
-use Rattle.reader.specs.Bytes.{lettersOf, endsAs, afterNumber, settled, told, begun, Spaced, Takes}
+use Rattle.listing_read.specs.Line.{isDecimal, hexValue, word, digits, number, headerLine, arrivedLine, refusedLine, appended, finiteBits}
+use Rattle.listing_read.specs.Line.{component, pushed, components, blank, momentFrom, stateLine, kindOf}
+use Rattle.listing_read.specs.Bytes.{lettersOf, endsAs, afterNumber, told, Spaced, Takes}
 
 -- ---- digits
 
@@ -175,6 +176,10 @@ module _ (r : Row) (b : ℕ) where
   row-bad zero n e = absurd (n refl)
   row-bad (suc more) n e = record { same = λ rest. rw (ne-eqb b 32 e); on = refl }
 
+-- one digit more, as the code adds it
+pub added : (bits b d : ℕ) → d ≡ hexValue b → d < 16 → appended bits (hexValue b) ≡ bits % 0x1000_0000_0000_0000 * 16 + d
+added bits b d e h = omega (arith, e)
+
 module _ (more bits : ℕ) (r : Row) (b d : ℕ) (e : d ≡ hexValue b) where
   pub no-hex : (left : ℕ) → 16 ≤ d → Takes (Component more left bits r) b Bad
   unfolding told component
@@ -182,7 +187,7 @@ module _ (more bits : ℕ) (r : Row) (b d : ℕ) (e : d ≡ hexValue b) where
 
   module _ (h : d < 16) where
     next-bits : appended bits (hexValue b) ≡ bits % 0x1000_0000_0000_0000 * 16 + d
-    next-bits = omega (arith, e)
+    next-bits = added bits b d e h
 
     pub hex-on : (left : ℕ) → 0 < left → Takes (Component more left bits r) b (Component more (left - 1) (bits % 0x1000_0000_0000_0000 * 16 + d) r)
     unfolding told component
@@ -191,7 +196,8 @@ module _ (more bits : ℕ) (r : Row) (b d : ℕ) (e : d ≡ hexValue b) where
         let k : suc left - 1 ≡ left = omega arith in
         record { same = λ rest. rw (lt-ltb (hexValue b) 16 (rw e at h), next-bits, k); on = refl }
 
-    pub hex-last : (left : ℕ) → left ≤ 0 → finiteBits (bits % 0x1000_0000_0000_0000 * 16 + d) ≡ true → Takes (Component more left bits r) b (Behind more (pushed r (bits % 0x1000_0000_0000_0000 * 16 + d)))
+    pub hex-last : (left : ℕ) → left ≤ 0 → finiteBits (bits % 0x1000_0000_0000_0000 * 16 + d) ≡ true
+        → Takes (Component more left bits r) b (Behind more (pushed r (bits % 0x1000_0000_0000_0000 * 16 + d)))
     unfolding told component
     hex-last zero none f = record { same = λ rest. rw (lt-ltb (hexValue b) 16 (rw e at h), next-bits, f); on = refl }
     hex-last (suc left) none f = absurd (omega arith)

@@ -1,20 +1,19 @@
 -- The kinds of a text's lines, read byte by byte, are those of its lines. Assumes nothing.
 use Prim.Native.Nat.{ℕ, suc, _+_, _<_}
 use mathlib.Core.List.{List, [], _∷_, _++_, map}
-use mathlib.Core.Path.{_≡_, refl, sym, ap, subst, _∙_}
+use mathlib.Core.Path.{_≡_, refl, sym, ap, subst}
 use native.Mathlib.Numerals.{add-one}
 use borrow.Author.Tests.{ne-eqb}
 use lib.ListN.{length, getD, drop}
 use lib.Seq.{drop-cons}
 use Rattle.listing_read.specs.declared.Row.{Row}
 use Rattle.listing_read.specs.declared.Line.{Line}
-use Rattle.reader.specs.declared.Line.the-variants as line
 use Rattle.listing_read.specs.declared.Scan.{Scan}
 use Rattle.listing_read.specs.declared.Scan.the-variants.{Start}
 use Rattle.listing_read.specs.declared.Found.{Found}
 use Rattle.listing_read.specs.Line.{kindOf}
-use Rattle.reader.specs.Form.{inFirst, linesOf, kindsOf, rowOf, foundRows, rowsOf}
-use Rattle.reader.specs.Bytes.{told, begun, Takes, kindsAfter, kindsFrom, rowHere, Passes}
+use Rattle.listing_read.specs.Form.{inFirst, linesOf, kindsOf, foundRows, rowsOf}
+use Rattle.listing_read.specs.Bytes.{told, Takes, kindsAfter, kindsFrom, rowHere, Passes}
 
 at-start : (ls : List (List ℕ)) → kindsAfter Start ls ≡ map kindOf ls
 unfolding told
@@ -35,7 +34,7 @@ in-first : (s r : Scan) (b : ℕ) → Takes s b r → (ls : List (List ℕ)) →
 in-first s r b t [] = rw (t .on) (ap (λ (l : Line). l ∷ []) (t .same []))
 in-first s r b t (l ∷ ls) = ap (λ (k : Line). k ∷ map kindOf ls) (t .same l)
 
--- any other byte stands in it
+-- any other byte belongs to the line
 pub kinds-byte : (s r : Scan) (b : ℕ) (text : List ℕ) → (b ≡ 10 → ⊥) → Takes s b r → kindsFrom s (b ∷ text) ≡ kindsFrom r text
 unfolding kindsFrom linesOf
 kinds-byte s r b text n t = rw (ne-eqb b 10 n) (in-first s r b t (linesOf text))

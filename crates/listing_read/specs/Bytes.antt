@@ -1,11 +1,12 @@
--- How a listing is read byte by byte, in blocks: what each value of a scan says of the rest of its line.
-use Prim.Native.Nat.{ℕ, suc, _+_, _≤_}
-use mathlib.Core.Bool.{Bool, true, false}
+-- How a listing is read byte by byte, in blocks: what each value of a scan says about the rest of its line.
+use Prim.Native.Nat.{ℕ, suc, _+_, _-_, _*_, _≤_}
+use mathlib.Core.Bool.{Bool, true, false, _&&_}
 use mathlib.Core.List.{List, [], _∷_, _++_, map}
 use mathlib.Core.Path.{_≡_}
-use lib.ListN.{length, drop}
+use lib.ListN.{length, drop, getD}
 use Rattle.base.specs.Choice.{if_then_else_, _<?_, _=?_}
-use Rattle.listing.specs.Lines.{stripWord, arrivedWord, refusedWord}
+use Rattle.base.specs.Limits.{isMoment}
+use Rattle.listing_words.specs.Words.{stripWord, arrivedWord, refusedWord}
 use Rattle.listing_read.specs.declared.Row.{Row}
 use Rattle.listing_read.specs.declared.Line.{Line}
 use Rattle.listing_read.specs.declared.Line.the-variants as line
@@ -21,7 +22,7 @@ use Rattle.listing_read.specs.declared.Found.{Found}
 use Rattle.listing_read.specs.declared.Found.the-variants.{Is, None}
 use Rattle.listing_read.specs.declared.Next.{Next}
 use Rattle.listing_read.specs.Form.{linesOf, rowOf, foundRows, placed, isOff, missing, refusedFrom, rowsOf}
-use Rattle.reader.specs.Line.{word, nothing, digits, number, finiteBits, component, pushed, components, momentFrom, kindOf}
+use Rattle.listing_read.specs.Line.{isDecimal, hexValue, word, nothing, digits, number, appended, finiteBits, component, pushed, components, blank, momentFrom, kindOf}
 
 abbrev pub lettersOf : Word → List ℕ
 lettersOf Strip = stripWord
@@ -29,25 +30,25 @@ lettersOf Arrived = arrivedWord
 lettersOf Refused = refusedWord
 lettersOf Steps = []
 
--- what a line is that ends behind the number after a word
+-- the kind of a line that ends after the number that follows a word
 abbrev pub endsAs : Word → Line
 endsAs Strip = line.Header
 endsAs Arrived = line.Outcome
 endsAs Refused = line.Lone
 endsAs Steps = line.Outcome
 
--- what may stand behind that number and a space
+-- what may follow that number and a space
 abbrev pub afterNumber : Word → List ℕ → Line
 afterNumber Refused = number line.Outcome nothing
 afterNumber Strip = nothing
 afterNumber Arrived = nothing
 afterNumber Steps = nothing
 
--- a component is whole: it has to be finite
+-- a component is complete: it must be finite
 abbrev pub settled : ℕ → Row → ℕ → List ℕ → Line
 settled more r bits behind = if finiteBits bits then components more (pushed r bits) behind else line.Bad
 
--- what the line is, by the rest of it
+-- the kind of the line, by the rest of it
 unfoldable pub told : Scan → List ℕ → Line
 told Start = kindOf
 told (Letters w i) = word (drop i (lettersOf w)) (number (endsAs w) (afterNumber w))
@@ -57,7 +58,7 @@ told (Component more left bits r) = component (suc left) bits (settled more r)
 told (Behind more r) = components more r
 told Bad = nothing
 
--- whether a byte of the line is read
+-- whether a byte of the line has been read
 abbrev pub begun : Scan → Bool
 begun Start = false
 begun (Letters w i) = true
@@ -67,16 +68,72 @@ begun (Component more left bits r) = true
 begun (Behind more r) = true
 begun Bad = true
 
--- what a space behind the number after a word leaves
+-- the scan after the number that follows a word, and a space
 abbrev pub Spaced : Word → Scan → Type 0
 Spaced w r = ((rest : List ℕ) → afterNumber w rest ≡ told r rest) × (begun r ≡ true)
 
--- r is the scan s, one byte on
+-- ---- the scan after one more byte of the line, by its values
+
+abbrev pub onFirst : ℕ → Scan
+onFirst b =
+    if b =? 83 then Letters Strip 1 else
+    if b =? 65 then Letters Arrived 1 else
+    if b =? 82 then Letters Refused 1 else
+    if isDecimal b then Moment (b - 48) else Bad
+
+abbrev pub onLetter : Word → ℕ → ℕ → Scan
+onLetter w i b =
+    if i <? length (lettersOf w)
+    then (if b =? getD (lettersOf w) i 0 then Letters w (i + 1) else Bad)
+    else (if isDecimal b then Digits w (48 <? b) else Bad)
+
+-- after the number of a refusal and a space: the steps; otherwise nothing
+abbrev pub behindNumber : Word → Scan
+behindNumber Refused = Letters Steps 0
+behindNumber Strip = Bad
+behindNumber Arrived = Bad
+behindNumber Steps = Bad
+
+abbrev pub onDigit : Word → Bool → ℕ → Scan
+onDigit w more b =
+    if b =? 32 then behindNumber w else
+    if more then (if isDecimal b then Digits w more else Bad) else Bad
+
+abbrev pub onBehind : ℕ → Row → ℕ → Scan
+onBehind more r b =
+    if more =? 0 then Bad else
+    if b =? 32 then Component (more - 1) 15 0 r else Bad
+
+abbrev pub onMoment : ℕ → ℕ → Scan
+onMoment t b =
+    if isDecimal b && (0 <? t) && isMoment (10 * t + (b - 48))
+    then Moment (10 * t + (b - 48))
+    else onBehind 6 (blank t) b
+
+abbrev pub wholeComponent : ℕ → ℕ → Row → Scan
+wholeComponent more bits r = if finiteBits bits then Behind more (pushed r bits) else Bad
+
+abbrev pub onHex : ℕ → ℕ → ℕ → Row → ℕ → Scan
+onHex more left bits r b =
+    if hexValue b <? 16
+    then (if 0 <? left then Component more (left - 1) (appended bits (hexValue b)) r else wholeComponent more (appended bits (hexValue b)) r)
+    else Bad
+
+unfoldable pub onByte : Scan → ℕ → Scan
+onByte Start b = onFirst b
+onByte (Letters w i) b = onLetter w i b
+onByte (Digits w more) b = onDigit w more b
+onByte (Moment t) b = onMoment t b
+onByte (Component more left bits r) b = onHex more left bits r b
+onByte (Behind more r) b = onBehind more r b
+onByte Bad b = Bad
+
+-- its law (`takes`): the kind of the line by the rest after the byte, and that the line has begun
 pub record Takes (s : Scan) (b : ℕ) (r : Scan) : Type 0 where
   pub same : (rest : List ℕ) → told s (b ∷ rest) ≡ told r rest
   pub on : begun r ≡ true
 
--- the kinds of the lines of a text, of whose first line the scan has read some bytes before
+-- the kinds of the lines of a text; the scan has read some bytes of the first line before
 abbrev pub kindsAfter : Scan → List (List ℕ) → List Line
 kindsAfter s [] = if begun s then told s [] ∷ [] else []
 kindsAfter s (l ∷ ls) = told s l ∷ map kindOf ls
@@ -84,12 +141,12 @@ kindsAfter s (l ∷ ls) = told s l ∷ map kindOf ls
 unfoldable pub kindsFrom : Scan → List ℕ → List Line
 kindsFrom s text = kindsAfter s (linesOf text)
 
--- the place of the last line's first byte: the last line seen starts at `last`, the one being read at `from`, and the text at `at`
+-- the place of the first byte of the last line. The last line seen starts at `last`, the one being read at `from`, and the text at `at`.
 unfoldable pub lastStart : ℕ → ℕ → ℕ → List ℕ → ℕ
 lastStart last from at [] = if from <? at then from else last
 lastStart last from at (b ∷ rest) = if b =? 10 then lastStart from (at + 1) (at + 1) rest else lastStart last from (at + 1) rest
 
--- what the reading of a listing will come to with the rest of its text
+-- the result of reading a listing, by the rest of its text
 abbrev pub refusalWith : Judge → List ℕ → ℕ
 refusalWith j rest = refusedFrom (j .place) (j .line) (kindsFrom (j .scan) rest)
 
@@ -99,7 +156,7 @@ countWith j rest = j .rows + length (rowsOf (kindsFrom (j .scan) rest))
 abbrev pub outcomeWith : Judge → List ℕ → ℕ
 outcomeWith j rest = lastStart (j .last) (j .from) (j .read) rest
 
--- one line more, unless it is off the form; one state more
+-- one more line, unless it is not of the form; one more state
 abbrev pub lineAfter : Place → ℕ → ℕ
 lineAfter q n = if isOff q then n else n + 1
 
@@ -124,14 +181,14 @@ lineEnded j next =
       last = j .from;
     }
 
--- lines and states are no more than bytes, and a line has begun where bytes of it are read
+-- there are at most as many lines and states as bytes, and a line has begun if bytes of it have been read
 pub record Counted (j : Judge) : Type 0 where
   pub lines : j .line ≤ j .read + 1
   pub states : j .rows ≤ j .read
   pub start : j .from ≤ j .read
   pub fresh : begun (j .scan) ≡ (j .from <? j .read)
 
--- r is the reading j, some bytes on
+-- r is the reading j after some more bytes
 pub record Goes (j : Judge) (bytes : List ℕ) (r : Judge) : Type 0 where
   pub refusal : (rest : List ℕ) → refusalWith j (bytes ++ rest) ≡ refusalWith r rest
   pub count : (rest : List ℕ) → countWith j (bytes ++ rest) ≡ countWith r rest
@@ -143,23 +200,41 @@ pub record Goes (j : Judge) (bytes : List ℕ) (r : Judge) : Type 0 where
 abbrev pub atTop : Judge
 atTop = record { place = Top; scan = Start; line = 1; rows = 0; read = 0; from = 0; last = 0 }
 
--- a listing's verdict: the line refused or 0, how many states, and where the last line starts
+-- the verdict on a listing: the refused line or 0, the number of states, and where the last line starts
 abbrev pub verdictOf : Judge → List ℕ → Verdict
 verdictOf j rest = record { refusal = refusalWith j rest; rows = countWith j rest; outcome = outcomeWith j rest }
 
--- the verdict where the text ends between two lines
+-- the verdict if the text ends between two lines
 abbrev pub closed : Judge → Verdict
 closed j = record { refusal = missing (j .place) (j .line); rows = j .rows; outcome = j .last }
 
--- a byte ends the line of a state where it is a line feed
+-- a byte ends the line of a state if it is a line feed
 abbrev pub rowHere : Scan → ℕ → Found
 rowHere s b = if b =? 10 then rowOf (told s []) else None
 
--- r is the scan s, one byte of the text on
+-- after one more byte of the text: a line feed starts a new line
+abbrev pub behindByte : Scan → ℕ → Scan
+behindByte s b = if b =? 10 then Start else onByte s b
+
+-- the search ends at a state, otherwise it continues
+abbrev pub foundOr : Found → Scan → ℕ → Next → Next
+foundOr (Is r) s at later = record { found = Is r; scan = s; at = at }
+foundOr None s at later = later
+
+-- the first state whose line ends in some bytes, which begin at `at`. The scan and the place are those after its line feed, or after all
+-- bytes if none ends there.
+unfoldable pub searched : List ℕ → ℕ → Scan → Next
+searched [] at s = record { found = None; scan = s; at = at }
+searched (b ∷ bytes) at s = foundOr (rowHere s b) (behindByte s b) (at + 1) (searched bytes (at + 1) (behindByte s b))
+
+-- the next state in a block from `at` on
+abbrev pub nextRow : List ℕ → ℕ → Scan → Next
+nextRow block at s = searched (drop at block) at s
+
+-- laws of these: the states still to come are those found now and those to come after them
 abbrev pub Passes : Scan → ℕ → Scan → Type 0
 Passes s b r = (rest : List ℕ) → rowsOf (kindsFrom s (b ∷ rest)) ≡ foundRows (rowHere s b) ++ rowsOf (kindsFrom r rest)
 
--- of the rows to come, one is found or none, and the text is read up to another place
 pub record Finds (block : List ℕ) (at : ℕ) (s : Scan) (n : Next) : Type 0 where
   pub rows : (rest : List ℕ) → rowsOf (kindsFrom s (drop at block ++ rest)) ≡ foundRows (n .found) ++ rowsOf (kindsFrom (n .scan) (drop (n .at) block ++ rest))
   pub ended : n .found ≡ None → length block ≤ n .at

@@ -1,3 +1,4 @@
 pub mod Line
 pub mod Form
 pub mod Bytes
+pub mod Reached

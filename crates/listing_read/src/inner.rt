@@ -1,19 +1,22 @@
-// A listing in blocks, whose bytes are few enough to be counted: inner functions of the programs.
+// A listing in blocks, short enough that its bytes can be counted. These are inner functions of the programs.
 
 use crate::Judge;
+use crate::Judged;
 use crate::Line;
 use crate::Place;
+use crate::Reached;
 use crate::Scan;
 use crate::Verdict;
+use crate::feed::to_feed;
 use crate::place_after;
 use crate::scanning::has_begun;
 use crate::scanning::line_end;
-use crate::scanning::take_byte;
 ghost use mathlib.Core.Path.{_≡_};
-ghost use mathlib.Core.List.{[], _∷_};
-ghost use Prim.Native.Nat.{_+_, _<_};
+ghost use mathlib.Core.List.{[]};
+ghost use Prim.Native.Nat.{_+_, _-_, _<_, _≤_};
 ghost use lib.ListN.{length};
 ghost use Rattle.listing_read.specs.Form.{isOff, missing};
+ghost use Rattle.listing_read.specs.Reached.{readOn, judgedLine};
 ghost use Rattle.listing_read.specs.Bytes.{lineAfter, rowsAfter, lineEnded, Counted, Goes, closed, verdictOf};
 
 pub fn is_off(place: Place) -> bool
@@ -28,7 +31,7 @@ pub fn is_off(place: Place) -> bool
     }
 }
 
-// One more for a place that is still of the form.
+// One more if the listing is still of the form.
 fn line_after(place: Place, line: u64) -> u64
     requires { ⌜ line + 1 < 0x1_0000_0000_0000_0000 ⌝ }
     ensures { λ r. ⌜ r ≡ lineAfter place line ⌝ }
@@ -69,29 +72,45 @@ fn end_line(j: Judge, next: u64) -> Judge
     }
 }
 
-fn judge_byte(j: Judge, b: u8) -> Judge
-    requires { ⌜ Counted j ⌝ }
-    requires { ⌜ j .read + 2 < 0x1_0000_0000_0000_0000 ⌝ }
-    ensures { λ r. ⌜ Goes j (b ∷ []) r ⌝ }
+// The reading, advanced inside its line.
+fn read_on(j: Judge, line: Reached, at: usize) -> Judge
+    requires { ⌜ at ≤ line .at ⌝ }
+    requires { ⌜ j .read + (line .at - at) < 0x1_0000_0000_0000_0000 ⌝ }
+    ensures { λ r. ⌜ r ≡ readOn j line at ⌝ }
 {
-    let read = j.read + 1;
-    if b == 10 {
-        return end_line(j, read);
-    }
-    let scan = j.scan;
+    let scan = line.scan;
     let place = j.place;
     Judge {
         place,
-        scan: take_byte(scan, b),
+        scan,
         line: j.line,
         rows: j.rows,
-        read,
+        read: j.read + ((line.at - at) as u64),
         from: j.from,
         last: j.last,
     }
 }
 
-// A block more.
+// The reading after the next line feed, or at the end of the block.
+fn judge_line(j: Judge, block: &[u8], at: usize) -> Judged
+    requires { ⌜ Counted j ⌝ }
+    requires { ⌜ at ≤ length (now block) ⌝ }
+    requires { ⌜ j .read + (length (now block) - at) + 2 < 0x1_0000_0000_0000_0000 ⌝ }
+    ensures { λ r. ⌜ r ≡ judgedLine (now (block .entry)) at j ⌝ }
+{
+    let scan = j.scan;
+    let line = to_feed(block, at, scan);
+    let judge = read_on(j, line, at);
+    if line.at < block.len() {
+        return Judged {
+            judge: end_line(judge, judge.read + 1),
+            at: line.at + 1,
+        };
+    }
+    Judged { judge, at: line.at }
+}
+
+// Reads one more block.
 pub fn judge_block(from: Judge, block: &[u8]) -> Judge
     requires { ⌜ Counted from ⌝ }
     requires { ⌜ from .read + length (now block) + 2 < 0x1_0000_0000_0000_0000 ⌝ }
@@ -100,8 +119,9 @@ pub fn judge_block(from: Judge, block: &[u8]) -> Judge
     let mut j = from;
     let mut i = 0;
     while i < block.len() {
-        j = judge_byte(j, block[i]);
-        i += 1;
+        let line = judge_line(j, block, i);
+        j = line.judge;
+        i = line.at;
     }
     j
 }

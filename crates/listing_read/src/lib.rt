@@ -1,6 +1,7 @@
-// The reader of listings. A line is never kept: what is known of it is a value that each byte takes on, so that a line of any
-// length costs no memory.
+// The reader of listings. It never keeps a line: each byte updates a small value, so a line of any length needs no
+// memory.
 
+pub mod feed;
 pub mod inner;
 mod letters;
 pub mod scanning;
@@ -8,11 +9,12 @@ pub mod scanning;
 ghost use mathlib.Core.Path.{_≡_};
 ghost use mathlib.Core.List.{[]};
 ghost use Rattle.listing_read.specs.Form.{rowOf, later, afterTop, afterHeader, afterState, placed};
-ghost use Rattle.reader.specs.Bytes.{atTop, told, rowHere, Passes, Finds};
+ghost use Rattle.listing_read.specs.Bytes.{atTop, told, rowHere, behindByte, nextRow};
+use feed::to_feed;
 use scanning::line_end;
 use scanning::take_byte;
 
-// A state as it stands in a line: its moment, and the bits of its six components.
+// A state as its line has it: its moment, and the bits of its six components.
 pub struct Row {
     pub moment: u64,
     pub x: u64,
@@ -23,7 +25,7 @@ pub struct Row {
     pub vz: u64,
 }
 
-// What a line is.
+// The kind of a line.
 pub enum Line {
     Header,
     State(Row),
@@ -32,8 +34,8 @@ pub enum Line {
     Bad,
 }
 
-// Where the reading of a listing stands: before its first line, behind the header, behind a state of that moment, behind the
-// outcome, or off the form.
+// The stage of reading a listing: before its first line, after the header, after a state of that moment, after the
+// outcome, or not of the form.
 pub enum Place {
     Top,
     First,
@@ -42,7 +44,7 @@ pub enum Place {
     Off,
 }
 
-// The words before numbers. Steps stands for the number behind a refusal, which has none.
+// The words before numbers. `Steps` is for the number after a refusal, which has no word.
 pub enum Word {
     Strip,
     Arrived,
@@ -50,25 +52,25 @@ pub enum Word {
     Steps,
 }
 
-// What is known of a line of which some bytes are read.
+// What is known of a line after some of its bytes.
 pub enum Scan {
     // no byte yet
     Start,
-    // so many letters of a word, or all of it
+    // that many letters of a word, or all of it
     Letters(Word, usize),
-    // a digit of the number behind a word; whether more may follow
+    // a digit of the number after a word; whether more may follow
     Digits(Word, bool),
     // digits of a moment
     Moment(u64),
-    // inside a component: components behind it, digits behind the next, the bits so far, and the row before it
+    // inside a component: components after it, digits after the next, the bits so far, and the row before it
     Component(u64, u64, u64, Row),
-    // behind the moment or a component: components to come
+    // after the moment or a component: components to come
     Behind(u64, Row),
     Bad,
 }
 
-// A listing of which some bytes are read: the place and the scan, the number of the line being read, the states and the bytes
-// so far, and where the line being read and the last one before it start.
+// A listing after some of its bytes: the stage and the scan, the number of the line being read, the states and the
+// bytes so far. Also where the line being read and the last one before it start.
 pub struct Judge {
     pub place: Place,
     pub scan: Scan,
@@ -77,6 +79,12 @@ pub struct Judge {
     pub read: u64,
     pub from: u64,
     pub last: u64,
+}
+
+// A reading, and its place in the block.
+pub struct Judged {
+    pub judge: Judge,
+    pub at: usize,
 }
 
 // The line that is not of the form, or 0; the states; and where the last line starts.
@@ -98,7 +106,13 @@ pub struct Next {
     pub at: usize,
 }
 
-// The place behind one line more.
+// What is known of a line up to its line feed or the end of the block, with that place.
+pub struct Reached {
+    pub scan: Scan,
+    pub at: usize,
+}
+
+// The stage after one more line.
 pub fn place_after(place: Place, line: Line) -> Place
     ensures { λ r. ⌜ r ≡ placed place line ⌝ }
 {
@@ -145,7 +159,7 @@ fn after_state(t: u64, line: Line) -> Place
     }
 }
 
-// "whose moments do not rise" is off the form.
+// "whose moments do not rise" is not of the form.
 fn place_later(t: u64, moment: u64) -> Place
     ensures { λ r. ⌜ r ≡ later t moment ⌝ }
 {
@@ -198,9 +212,9 @@ pub fn row_of(line: Line) -> Found
     }
 }
 
-// One byte on: behind a line feed a new line starts.
+// After one more byte: a line feed starts a new line.
 fn after_byte(scan: Scan, b: u8) -> Scan
-    ensures { λ r. ⌜ Passes scan b r ⌝ }
+    ensures { λ r. ⌜ r ≡ behindByte scan b ⌝ }
 {
     if b == 10 {
         return Scan::Start;
@@ -210,22 +224,26 @@ fn after_byte(scan: Scan, b: u8) -> Scan
 
 // The next state in the block from a place on.
 pub fn next_row(block: &[u8], at: usize, scan: Scan) -> Next
-    ensures { λ r. ⌜ Finds (now (block .entry)) at scan r ⌝ }
+    ensures { λ r. ⌜ r ≡ nextRow (now (block .entry)) at scan ⌝ }
 {
-    let mut s = scan;
-    let mut i = at;
+    let first = to_feed(block, at, scan);
+    let mut s = first.scan;
+    let mut i = first.at;
     while i < block.len() {
         let b = block[i];
         let found = row_here(s, b);
-        s = after_byte(s, b);
+        let behind = after_byte(s, b);
         i += 1;
         if let Found::Is(row) = found {
             return Next {
                 found: Found::Is(row),
-                scan: s,
+                scan: behind,
                 at: i,
             };
         }
+        let next = to_feed(block, i, behind);
+        s = next.scan;
+        i = next.at;
     }
     Next {
         found: Found::None,

@@ -11,13 +11,13 @@ use crate::letters::letters_in;
 ghost use mathlib.Core.Path.{_≡_};
 ghost use mathlib.Core.List.{[]};
 ghost use Rattle.listing_read.specs.Line.{finiteBits, pushed, blank};
-ghost use Rattle.reader.specs.Bytes.{told, begun, Spaced, Takes, endsAs};
+ghost use Rattle.listing_read.specs.Bytes.{told, begun, onFirst, onLetter, behindNumber, onDigit, onBehind, onMoment, onHex, onByte, endsAs};
 
-// A moment of this or more cannot take one digit more: a tenth of the end of time.
+// A tenth of the end of time: a moment of this or more cannot take another digit.
 const TENTH: u64 = 315_576_000_000;
 
 fn first_byte(b: u8) -> Scan
-    ensures { λ r. ⌜ Takes Scan.Start b r ⌝ }
+    ensures { λ r. ⌜ r ≡ onFirst b ⌝ }
 {
     if b == 83 {
         return Scan::Letters(Word::Strip, 1);
@@ -35,7 +35,7 @@ fn first_byte(b: u8) -> Scan
 }
 
 fn next_letter(w: Word, i: usize, b: u8) -> Scan
-    ensures { λ r. ⌜ Takes (Scan.Letters w i) b r ⌝ }
+    ensures { λ r. ⌜ r ≡ onLetter w i b ⌝ }
 {
     if i < letters_in(w) {
         if b == letter(w, i) {
@@ -50,7 +50,7 @@ fn next_letter(w: Word, i: usize, b: u8) -> Scan
 }
 
 fn next_digit(w: Word, more: bool, b: u8) -> Scan
-    ensures { λ r. ⌜ Takes (Scan.Digits w more) b r ⌝ }
+    ensures { λ r. ⌜ r ≡ onDigit w more b ⌝ }
 {
     if b == 32 {
         return behind_number(w);
@@ -64,9 +64,9 @@ fn next_digit(w: Word, more: bool, b: u8) -> Scan
     Scan::Bad
 }
 
-// Behind a number and a space: after a refusal the steps, else nothing.
+// After a number and a space: the steps if it is a refusal, else nothing.
 fn behind_number(w: Word) -> Scan
-    ensures { λ r. ⌜ Spaced w r ⌝ }
+    ensures { λ r. ⌜ r ≡ behindNumber w ⌝ }
 {
     match w {
         Word::Refused => Scan::Letters(Word::Steps, 0),
@@ -91,7 +91,7 @@ fn blank_row(t: u64) -> Row
 }
 
 fn moment_on(t: u64, b: u8) -> Scan
-    ensures { λ r. ⌜ Takes (Scan.Moment t) b r ⌝ }
+    ensures { λ r. ⌜ r ≡ onMoment t b ⌝ }
 {
     if is_decimal(b) {
         if 0 < t {
@@ -106,7 +106,7 @@ fn moment_on(t: u64, b: u8) -> Scan
 }
 
 fn behind(more: u64, row: Row, b: u8) -> Scan
-    ensures { λ r. ⌜ Takes (Scan.Behind more row) b r ⌝ }
+    ensures { λ r. ⌜ r ≡ onBehind more row b ⌝ }
 {
     if more == 0 {
         return Scan::Bad;
@@ -138,7 +138,7 @@ fn is_finite_bits(bits: u64) -> bool
 }
 
 fn next_hex(more: u64, left: u64, bits: u64, row: Row, b: u8) -> Scan
-    ensures { λ r. ⌜ Takes (Scan.Component more left bits row) b r ⌝ }
+    ensures { λ r. ⌜ r ≡ onHex more left bits row b ⌝ }
 {
     let d = hex_value(b);
     if 16 <= d {
@@ -154,9 +154,9 @@ fn next_hex(more: u64, left: u64, bits: u64, row: Row, b: u8) -> Scan
     Scan::Bad
 }
 
-// The scan, one byte of the line on.
+// The scan after one more byte of the line.
 pub fn take_byte(scan: Scan, b: u8) -> Scan
-    ensures { λ r. ⌜ Takes scan b r ⌝ }
+    ensures { λ r. ⌜ r ≡ onByte scan b ⌝ }
 {
     match scan {
         Scan::Start => first_byte(b),
@@ -189,7 +189,7 @@ fn end_of_row(more: u64, row: Row) -> Line
     Line::Bad
 }
 
-// What the line is, if it ends here.
+// The kind of the line, if it ends here.
 pub fn line_end(scan: Scan) -> Line
     ensures { λ r. ⌜ r ≡ told scan [] ⌝ }
 {
@@ -204,7 +204,7 @@ pub fn line_end(scan: Scan) -> Line
     }
 }
 
-// Whether a byte of the line is read.
+// Whether a byte of the line has been read.
 pub fn has_begun(scan: Scan) -> bool
     ensures { λ r. ⌜ r ≡ begun scan ⌝ }
 {

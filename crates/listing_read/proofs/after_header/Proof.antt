@@ -5,15 +5,6 @@ use borrow.Author.Needs.{needs}
 use Rattle.listing_read.proofs.after_header.Statement.{statement}
 use Rattle.listing_read.proofs.after_header.Tie as tie
 
-row-of-requires : tie.Need-row-of-requires
-row-of-requires c κs = search needs
-
-enum-known-found : tie.Need-enum-known-found
-enum-known-found c = search needs
-
-enum-told : tie.Need-enum-told
-enum-told c = search needs
-
 returns : tie.Need-returns
 returns c = ap headed (sym (c .before .found .given .1) ∙ c .before .before .before .row-of .ensures)
 
@@ -22,4 +13,4 @@ returns-2 c = ap headed (sym (c .enum-told .given .1) ∙ c .before .before .row
 
 pub after-header-spec : {M : Type 1} → statement M
 after-header-spec =
-    tie.close (tie.spec row-of-requires enum-known-found enum-told returns returns-2)
+    tie.close (tie.spec (λ c κs. search needs) (λ c. search needs) (λ c. search needs) returns returns-2)

@@ -5,14 +5,8 @@ use borrow.Author.Needs.{needs}
 use Rattle.listing_read.proofs.last_row.Statement.{statement}
 use Rattle.listing_read.proofs.last_row.Tie as tie
 
-line-end-requires : tie.Need-line-end-requires
-line-end-requires c κs = search needs
-
-row-of-requires : tie.Need-row-of-requires
-row-of-requires c κs = search needs
-
 returns : tie.Need-returns
 returns c = c .row-of .ensures ∙ ap rowOf (c .before .line-end .ensures)
 
 pub last-row-spec : {M : Type 1} → statement M
-last-row-spec = tie.close (tie.spec line-end-requires row-of-requires returns)
+last-row-spec = tie.close (tie.spec (λ c κs. search needs) (λ c κs. search needs) returns)

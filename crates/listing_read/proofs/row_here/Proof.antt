@@ -4,9 +4,6 @@ use borrow.Author.Needs.{needs}
 use Rattle.listing_read.proofs.row_here.Statement.{statement}
 use Rattle.listing_read.proofs.row_here.Tie as tie
 
-last-row-requires : tie.Need-last-row-requires
-last-row-requires c κs = search needs
-
 returns : tie.Need-returns
 returns c = rw (eq-eqb _ 10 (c .before .if1 .taken)) (c .last-row .ensures)
 
@@ -14,4 +11,4 @@ returns-2 : tie.Need-returns-2
 returns-2 c = rw (ne-eqb _ 10 (c .if1 .left))
 
 pub row-here-spec : {M : Type 1} → statement M
-row-here-spec = tie.close (tie.spec last-row-requires returns returns-2)
+row-here-spec = tie.close (tie.spec (λ c κs. search needs) returns returns-2)

@@ -1,19 +1,13 @@
--- `reader::letters::strip_letter` meets its contract: behind the last letter there is none. Assumes nothing.
+-- `listing_read::letters::strip_letter` meets its contract: after the last letter there is none. Assumes nothing.
 use mathlib.Core.Path.{sym}
 use lib.ListN.{List·getD-eq-default}
-use Rattle.listing.specs.Lines.{stripWord}
+use Rattle.listing_words.specs.Words.{stripWord}
 use borrow.Author.Needs.{needs}
 use Rattle.listing_read.proofs.letters.strip_letter.Statement.{statement}
 use Rattle.listing_read.proofs.letters.strip_letter.Tie as tie
-
-array-read-result : tie.Need-array-read-result
-array-read-result c = search needs
-
-returns : tie.Need-returns
-returns c = search needs
 
 returns-2 : tie.Need-returns-2
 returns-2 c = sym (List·getD-eq-default stripWord 0 (c .if1 .left))
 
 pub strip-letter-spec : {M : Type 1} → statement M
-strip-letter-spec = tie.close (tie.spec array-read-result returns returns-2)
+strip-letter-spec = tie.close (tie.spec (λ c. search needs) (λ c. search needs) returns-2)
