@@ -1,7 +1,7 @@
 -- The report on the states of two listings, turn by turn, while it is written into a buffer. Assumes nothing.
 use Prim.Native.Nat.{ℕ, _+_, _<_, _≤_}
 use mathlib.Core.Bool.{Bool, true, false}
-use mathlib.Core.List.{List, [], _∷_, _++_, append-assoc}
+use mathlib.Core.List.{List, [], _++_, append-assoc}
 use mathlib.Core.Path.{_≡_, refl, sym, ap, ap₂, _∙_}
 use native.Mathlib.Omega.{arith}
 use borrow.Author.Tests.{lt-ltb, le-ltb}
@@ -152,14 +152,14 @@ module _ (a b : List ℕ) (r s : Reading) (before : List ℕ) (f g : Reading) (o
         second-used = λ e. (let z : _≡_ {A = ℕ} 0 1 = cc in absurd (omega arith));
       }
 
--- ---- each turn leaves a state behind
+-- ---- each turn passes a state
 
 abbrev pub ahead : List ℕ → List ℕ → Reading → Reading → ℕ
 ahead a b f g = length (coming f a []) + length (coming g b [])
 
 both-ahead : (x y : Bool) (r s : Row) (ra rb : List Row)
-    → length (left ((if x then takes true false else if y then takes false true else takes true true) .first) (Is r) ra) + length (left ((if x then takes true false else if y then takes false true else takes true true) .second) (Is s) rb)
-    < length (foundRows (Is r) ++ ra) + length (foundRows (Is s) ++ rb)
+    → let t = if x then takes true false else if y then takes false true else takes true true in
+    length (left (t .first) (Is r) ra) + length (left (t .second) (Is s) rb) < length (foundRows (Is r) ++ ra) + length (foundRows (Is s) ++ rb)
 both-ahead true y r s ra rb = omega arith
 both-ahead false true r s ra rb = omega arith
 both-ahead false false r s ra rb = omega arith

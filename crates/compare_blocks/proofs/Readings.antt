@@ -1,26 +1,25 @@
 -- A reading: when it waits, when its states are at an end, and what it is before its next block. Assumes nothing.
-use Prim.Native.Nat.{ℕ, _+_, _<_, _≤_}
+use Prim.Native.Nat.{ℕ}
 use mathlib.Core.Bool.{Bool, true, false}
-use mathlib.Core.List.{List, [], _∷_, _++_}
-use mathlib.Core.Path.{_≡_, refl, sym, ap, _∙_}
+use mathlib.Core.List.{List, [], _++_}
+use mathlib.Core.Path.{_≡_, refl, sym, subst, _∙_}
 use native.Mathlib.Omega.{arith}
 use borrow.Author.Tests.{ltb-false}
 use lib.Dec.{ltb}
 use lib.ListN.{length, drop, drop-of-length-le}
 use Rattle.base.specs.Choice.{if_then_else_}
-use Rattle.reader.specs.declared.Row.{Row}
 use Rattle.listing_read.specs.declared.Found.{Found}
 use Rattle.listing_read.specs.declared.Found.the-variants.{Is, None}
-use Rattle.reader.specs.declared.Scan.{Scan}
 use Rattle.listing_read.specs.declared.Scan.the-variants.{Start}
 use Rattle.listing_read.specs.declared.Next.{Next}
-use Rattle.reader.specs.Form.{linesOf, foundRows, rowsOf}
-use Rattle.reader.specs.Bytes.{begun, kindsFrom, Finds}
+use Rattle.listing_read.specs.Form.{linesOf, rowsOf}
+use Rattle.listing_read.specs.Bytes.{kindsFrom, nextRow, Finds}
+use Rattle.listing_read.proofs.Taking.{finds}
 use Rattle.compare_report.specs.Turns.{Ended, left}
 use Rattle.compare_blocks.specs.declared.Reading.{Reading}
 use Rattle.compare_blocks.specs.Sides.{coming, Rests, Shut, isNone, waiting, Fills, leaving, onward, goingOn}
 
--- a reading waits where its text goes on and its next state is not known
+-- a reading waits if its text continues and its next state is not known
 abbrev waits : Bool → Found → Bool
 waits over f = if over then false else isNone f
 
@@ -58,8 +57,10 @@ pub stays : (block : List ℕ) (r : Reading) → waiting r ≡ false → Fills b
 stays block r e =
     record { rows = λ rest. refl; over = refl; shut = λ h. h; used = λ w. (let z : _≡_ {A = ℕ} 0 1 = cc in absurd (omega arith)) }
 
-pub looks : (block : List ℕ) (r s : Reading) (n : Next) → waiting r ≡ true → Finds block (r .at) (r .scan) n → s .found ≡ n .found → s .scan ≡ n .scan → s .at ≡ n .at → s .over ≡ r .over → Fills block r s
-looks block r s n w f a b c d =
+pub looks : (block : List ℕ) (r s : Reading) (n : Next) → waiting r ≡ true → n ≡ nextRow block (r .at) (r .scan) → s .found ≡ n .found
+    → s .scan ≡ n .scan → s .at ≡ n .at → s .over ≡ r .over → Fills block r s
+looks block r s n w q a b c d =
+    let f : Finds block (r .at) (r .scan) n = subst (Finds block (r .at) (r .scan)) (sym q) (finds block (r .at) (r .scan)) in
     record {
       rows = λ rest. rw (waiting-none r w, a, b, c) (f .rows rest);
       over = d;
@@ -67,7 +68,7 @@ looks block r s n w f a b c d =
       used = λ e. rw c (f .ended (sym a ∙ waiting-none s e));
     }
 
--- ---- nothing comes behind a text that is over
+-- ---- nothing follows a text that is over
 
 no-more : rowsOf (kindsFrom Start []) ≡ []
 unfolding rowsOf kindsFrom linesOf
@@ -78,7 +79,7 @@ ends f block rest w shut behind n =
     let o : f .over ≡ true = known-over f w n in
     rw (shut .start o, drop-of-length-le block (shut .used o), behind o) no-more
 
--- ---- a state that was reported is behind
+-- ---- a state that was reported is done
 
 module _ (f : Reading) where
   pub left-is : (t : Bool) (block rest : List ℕ) → left t (f .found) (rowsOf (kindsFrom (f .scan) (drop (f .at) block ++ rest))) ≡ coming (leaving t f) block rest

@@ -1,12 +1,13 @@
-// A portion of the report: inner functions of the program, which knows that a text that is over has no more bytes in its block.
+// A portion of the report: inner functions of the program. It knows that a text that is over has no more bytes in its
+// block.
 
 use crate::Halt;
 use crate::Portion;
 use crate::Reading;
 use compare_report::side_of;
+use compare_text::inner::put_turn;
 use listing_read::Found;
 use listing_read::next_row;
-use reporting::known::put_turn;
 ghost use mathlib.Core.Bool.{true};
 ghost use mathlib.Core.Path.{_≡_};
 ghost use lib.ListN.{length};
@@ -24,7 +25,7 @@ fn is_none(found: Found) -> bool
     }
 }
 
-// Whether more of the listing has to be read before its next state is known.
+// Whether more of the listing must be read before its next state is known.
 fn waits(r: Reading) -> bool
     ensures { λ s. ⌜ s ≡ waiting r ⌝ }
 {
@@ -51,7 +52,7 @@ fn searched(block: &[u8], r: Reading) -> Reading
     }
 }
 
-// The next state is looked for where it is not known.
+// Looks for the next state, if it is not known.
 fn filled(block: &[u8], r: Reading) -> Reading
     ensures { λ s. ⌜ Fills (now (block .entry)) r s ⌝ }
 {
@@ -104,7 +105,7 @@ fn halt_of(first: Reading, second: Reading) -> Halt
     wait_for(false, false, true)
 }
 
-// The next state is behind, if it was reported.
+// The next state is done, if it was reported.
 fn leave(r: Reading, reported: bool) -> Reading
     ensures { λ s. ⌜ s ≡ leaving reported r ⌝ }
 {
@@ -131,7 +132,7 @@ fn portion_of(first: Reading, second: Reading, written: usize, halt: Halt) -> Po
     }
 }
 
-// What is reported of the states in two blocks, moment by moment, while there is room for one moment more.
+// The report on the states in two blocks, moment by moment, while there is room for one moment more.
 pub fn portion(a: &[u8], b: &[u8], from: Reading, beside: Reading, out: &mut [u8]) -> Portion
     requires { ⌜ Shut (length (now a)) from ⌝ }
     requires { ⌜ Shut (length (now b)) beside ⌝ }

@@ -1,3 +1,4 @@
 pub mod Puts
 pub mod Turning
 pub mod Alike
+pub mod Parts

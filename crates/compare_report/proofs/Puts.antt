@@ -11,7 +11,8 @@ use Rattle.listing_read.specs.declared.Row.{Row}
 use Rattle.compare_report.specs.declared.Component.{Component}
 use Rattle.compare_report.specs.declared.Component.the-variants.{X, Y, Z, VX, VY, VZ}
 use Rattle.compare_steps.specs.Steps.{steps}
-use Rattle.parting.specs.Report.{Difference, component, atOne, onlyWord, twoNumbers, diffLine, lineOf, textOf}
+use Rattle.listing_words.specs.Words.{onlyWord}
+use Rattle.compare_report.specs.Report.{Difference, component, atOne, twoNumbers, diffLine, lineOf, textOf}
 use Rattle.compare_report.specs.Turns.{Put, onlyText}
 
 pub none : (out : List ℕ) (at room : ℕ) → Put out at [] out at room
@@ -47,9 +48,14 @@ module _ (t : ℕ) (k : Component) (a b : ℕ) where
   unfolding textOf
   bits-differ out after at r n w = rw (ne-eqb a b n, append-nil (diffLine t k (steps a b))) w
 
-pub one-text : (r s : Row) → textOf (atOne r s) ≡ textOf (component (r .moment) X (r .x) (s .x)) ++ textOf (component (r .moment) Y (r .y) (s .y)) ++ textOf (component (r .moment) Z (r .z) (s .z)) ++ textOf (component (r .moment) VX (r .vx) (s .vx)) ++ textOf (component (r .moment) VY (r .vy) (s .vy)) ++ textOf (component (r .moment) VZ (r .vz) (s .vz))
+pub one-text : (r s : Row)
+    → let at = component (r .moment) in
+    textOf (atOne r s) ≡ textOf (at X (r .x) (s .x)) ++ textOf (at Y (r .y) (s .y)) ++ textOf (at Z (r .z) (s .z))
+    ++ textOf (at VX (r .vx) (s .vx)) ++ textOf (at VY (r .vy) (s .vy)) ++ textOf (at VZ (r .vz) (s .vz))
 unfolding atOne
-one-text r s = six (component (r .moment) X (r .x) (s .x)) (component (r .moment) Y (r .y) (s .y)) (component (r .moment) Z (r .z) (s .z)) (component (r .moment) VX (r .vx) (s .vx)) (component (r .moment) VY (r .vy) (s .vy)) (component (r .moment) VZ (r .vz) (s .vz))
+one-text r s =
+    six (component (r .moment) X (r .x) (s .x)) (component (r .moment) Y (r .y) (s .y)) (component (r .moment) Z (r .z) (s .z))
+    (component (r .moment) VX (r .vx) (s .vx)) (component (r .moment) VY (r .vy) (s .vy)) (component (r .moment) VZ (r .vz) (s .vz))
   where
     six : (a b c d e f : List Difference) → textOf (a ++ b ++ c ++ d ++ e ++ f) ≡ textOf a ++ textOf b ++ textOf c ++ textOf d ++ textOf e ++ textOf f
     six a b c d e f = rw (text-append (a ++ b ++ c ++ d ++ e) f, text-append (a ++ b ++ c ++ d) e, text-append (a ++ b ++ c) d, text-append (a ++ b) c, text-append a b)

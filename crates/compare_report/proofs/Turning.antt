@@ -1,15 +1,13 @@
--- The report on the states, turn by turn: the next state of each side, what is reported of them, and the rest. Assumes nothing.
-use Prim.Native.Nat.{ℕ}
+-- The report on the states, turn by turn: the next state of each side, the report on them, and the rest. Assumes nothing.
 use mathlib.Core.Bool.{Bool, true, false}
-use mathlib.Core.List.{List, [], _∷_, _++_}
+use mathlib.Core.List.{List, _∷_, _++_}
 use mathlib.Core.Path.{_≡_, refl, ap, _∙_}
 use lib.Dec.{ltb}
-use Rattle.basis.specs.Choice.{if_then_else_}
 use Rattle.listing_read.specs.declared.Row.{Row}
 use Rattle.listing_read.specs.declared.Found.{Found}
 use Rattle.listing_read.specs.declared.Found.the-variants.{Is, None}
 use Rattle.listing_read.specs.Form.{foundRows}
-use Rattle.parting.specs.Report.{Difference, parted, textOf}
+use Rattle.compare_report.specs.Report.{parted, textOf}
 use Rattle.compare_report.specs.Turns.{sideOf, differencesAt, left, Ended}
 use Rattle.compare_report.proofs.Puts.{text-append}
 

@@ -6,6 +6,7 @@ use mathlib.Core.Path.{_≡_}
 use lib.ListN.{length}
 use Rattle.base.specs.Choice.{if_then_else_, _<?_, _=?_}
 use Rattle.text_write.specs.Numerals.{decimalOf}
+use Rattle.listing_words.specs.Words.{space, lineFeed, sameWord, onlyWord, diffWord, headerWord, outcomeWord, refused13, bar, dash, xName, yName, zName, vxName, vyName, vzName}
 use Rattle.listing_read.specs.declared.Row.{Row}
 use Rattle.listing_read.specs.Form.{linesOf, formRefusal, rowsIn}
 use Rattle.compare_report.specs.declared.Component.{Component}
@@ -45,25 +46,6 @@ parted (r ∷ rs) (s ∷ ss) =
 
 -- ---- the lines
 
-abbrev pub space : List ℕ
-space = 32 ∷ []
-
-abbrev pub lineFeed : List ℕ
-lineFeed = 10 ∷ []
-
--- "ONLY ", "DIFF ", "SAME " and "REFUSED 13 "
-abbrev pub onlyWord : List ℕ
-onlyWord = 79 ∷ 78 ∷ 76 ∷ 89 ∷ 32 ∷ []
-
-abbrev pub diffWord : List ℕ
-diffWord = 68 ∷ 73 ∷ 70 ∷ 70 ∷ 32 ∷ []
-
-abbrev pub sameWord : List ℕ
-sameWord = 83 ∷ 65 ∷ 77 ∷ 69 ∷ 32 ∷ []
-
-abbrev pub refusedWord : List ℕ
-refusedWord = 82 ∷ 69 ∷ 70 ∷ 85 ∷ 83 ∷ 69 ∷ 68 ∷ 32 ∷ 49 ∷ 51 ∷ 32 ∷ []
-
 -- a word and a number; a word and two numbers as a line
 abbrev pub numbered : List ℕ → ℕ → List ℕ
 numbered word n = word ++ decimalOf n
@@ -73,12 +55,12 @@ twoNumbers word m n = numbered word m ++ numbered space n ++ lineFeed
 
 -- a component's name with the spaces around it
 abbrev pub name : Component → List ℕ
-name X = 32 ∷ 120 ∷ 32 ∷ []
-name Y = 32 ∷ 121 ∷ 32 ∷ []
-name Z = 32 ∷ 122 ∷ 32 ∷ []
-name VX = 32 ∷ 118 ∷ 120 ∷ 32 ∷ []
-name VY = 32 ∷ 118 ∷ 121 ∷ 32 ∷ []
-name VZ = 32 ∷ 118 ∷ 122 ∷ 32 ∷ []
+name X = space ++ xName ++ space
+name Y = space ++ yName ++ space
+name Z = space ++ zName ++ space
+name VX = space ++ vxName ++ space
+name VY = space ++ vyName ++ space
+name VZ = space ++ vzName ++ space
 
 -- ONLY LISTING MOMENT, and DIFF MOMENT COMPONENT STEPS
 unfoldable pub diffLine : ℕ → Component → ℕ → List ℕ
@@ -92,8 +74,8 @@ unfoldable pub textOf : List Difference → List ℕ
 textOf [] = []
 textOf (d ∷ ds) = lineOf d ++ textOf ds
 
--- "Header and outcome lines (a lone REFUSED line is an outcome) are compared whole": the first line and the last. A listing without
--- states is a lone refusal and has no header, for which - stands
+-- "Header and outcome lines (a lone REFUSED line is an outcome) are compared whole": the first line and the last. A listing without states
+-- is a lone refusal. It has no header, and - is printed for it.
 abbrev pub firstOf : List (List ℕ) → List ℕ
 firstOf [] = []
 firstOf (l ∷ ls) = l
@@ -104,12 +86,12 @@ lastOf (l ∷ []) = l
 lastOf (l ∷ m ∷ ls) = lastOf (m ∷ ls)
 
 unfoldable pub headerOf : ℕ → List ℕ → List ℕ
-headerOf states text = if states =? 0 then 45 ∷ [] else firstOf (linesOf text)
+headerOf states text = if states =? 0 then dash else firstOf (linesOf text)
 
 unfoldable pub outcomeOf : List ℕ → List ℕ
 outcomeOf text = lastOf (linesOf text)
 
--- a line as it stands at the front of a text
+-- the first line of a text
 unfoldable pub untilFeed : List ℕ → List ℕ
 untilFeed [] = []
 untilFeed (b ∷ bs) = if b =? 10 then [] else b ∷ untilFeed bs
@@ -120,18 +102,9 @@ same (a ∷ rest) [] = false
 same [] (b ∷ more) = false
 same (a ∷ rest) (b ∷ more) = if a =? b then same rest more else false
 
-abbrev pub bar : List ℕ
-bar = 32 ∷ 124 ∷ 32 ∷ []
-
--- WORD FIRST-LINE | SECOND-LINE, where the lines differ
+-- WORD FIRST-LINE | SECOND-LINE, if the lines differ
 unfoldable pub linesText : List ℕ → List ℕ → List ℕ → List ℕ
 linesText word a b = if same a b then [] else word ++ a ++ bar ++ b ++ lineFeed
-
-abbrev pub headerWord : List ℕ
-headerWord = 72 ∷ 69 ∷ 65 ∷ 68 ∷ 69 ∷ 82 ∷ 32 ∷ []
-
-abbrev pub outcomeWord : List ℕ
-outcomeWord = 79 ∷ 85 ∷ 84 ∷ 67 ∷ 79 ∷ 77 ∷ 69 ∷ 32 ∷ []
 
 unfoldable pub headerText : List ℕ → List ℕ → List ℕ
 headerText a b = linesText headerWord (headerOf (length (rowsIn a)) a) (headerOf (length (rowsIn b)) b)
@@ -146,7 +119,7 @@ outcomeText a b = linesText outcomeWord (outcomeOf a) (outcomeOf b)
 unfoldable pub sameLine : ℕ → List ℕ
 sameLine n = numbered sameWord n ++ lineFeed
 
--- the end of the report, which has a line of its own where nothing was reported
+-- the end of the report: a line of its own if nothing was reported
 abbrev pub endText : Bool → ℕ → List ℕ
 endText true n = []
 endText false n = sameLine n
@@ -166,11 +139,11 @@ partText Outcome a b = outcomeText a b
 partText End a b = endText (anyDifference a b) (length (rowsIn a))
 partText Over a b = []
 
--- "13 with its line number, first listing first": REFUSED 13 LISTING LINE; nothing where both are of the form
+-- "13 with its line number, first listing first": REFUSED 13 LISTING LINE; nothing if both are of the form
 unfoldable pub firstRefusal : ℕ → ℕ → ℕ → ℕ → List ℕ
 firstRefusal k line l other =
-    if 0 <? line then twoNumbers refusedWord k line else
-    if 0 <? other then twoNumbers refusedWord l other else []
+    if 0 <? line then twoNumbers refused13 k line else
+    if 0 <? other then twoNumbers refused13 l other else []
 
 abbrev pub refusalText : ℕ → ℕ → List ℕ
 refusalText first second = firstRefusal 1 first 2 second
@@ -192,7 +165,15 @@ fromPart Outcome a b = fromOutcome a b
 fromPart End a b = fromEnd a b
 fromPart Over a b = []
 
--- part q stands behind part p
+-- the next part, in the order of the report
+abbrev pub partAfter : Part → Part
+partAfter Header = States
+partAfter States = Outcome
+partAfter Outcome = End
+partAfter End = Over
+partAfter Over = Over
+
+-- its law (`follows`): part q comes after part p
 abbrev pub Follows : Part → Part → Type 0
 Follows p q = (a b : List ℕ) → fromPart p a b ≡ partText p a b ++ fromPart q a b
 

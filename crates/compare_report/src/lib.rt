@@ -1,11 +1,11 @@
-// Where two listings part: whose state comes next, and the order of the report's parts.
+// Where two listings differ: which listing has the next state, and the order of the parts of the report.
 
 pub mod same;
 
 use listing_read::Found;
 use listing_read::Row;
 ghost use mathlib.Core.Path.{_≡_};
-ghost use Rattle.parting.specs.Report.{Follows};
+ghost use Rattle.compare_report.specs.Report.{partAfter};
 ghost use Rattle.compare_report.specs.Turns.{takes, sideOf};
 
 pub enum Component {
@@ -17,13 +17,13 @@ pub enum Component {
     VZ,
 }
 
-// Whose state is the next in moment order: the first listing's, the second's, both, or neither's.
+// Which listing has the next state in moment order: the first, the second, both, or neither.
 pub struct Side {
     pub first: bool,
     pub second: bool,
 }
 
-// The parts of a report, in their order; behind the end it is over.
+// The parts of a report, in their order. After the end it is over.
 pub enum Part {
     Header,
     States,
@@ -32,9 +32,9 @@ pub enum Part {
     Over,
 }
 
-// The part that stands behind another in the report.
+// The next part of the report.
 pub fn next_part(part: Part) -> Part
-    ensures { λ r. ⌜ Follows part r ⌝ }
+    ensures { λ r. ⌜ r ≡ partAfter part ⌝ }
 {
     match part {
         Part::Header => Part::States,

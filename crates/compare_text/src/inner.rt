@@ -1,9 +1,9 @@
 // The lines of the report, for a buffer with room for them.
 
 use compare_report::Component;
+use compare_steps::steps_between;
 use listing_read::Found;
 use listing_read::Row;
-use steps::steps_between;
 use text_write::inner::put_bytes;
 use text_write::inner::put_decimal;
 ghost use Prim.Native.Nat.{_+_, _≤_};
@@ -29,7 +29,7 @@ fn put_two(out: &mut [u8], at: usize, word: &[u8], m: u64, n: u64) -> usize
     put_bytes(out, end, b"\n")
 }
 
-// A component's name with the spaces around it, and its float steps.
+// The name of a component with the spaces around it, and its float steps.
 fn put_steps(out: &mut [u8], at: usize, k: Component, n: u64) -> usize
     requires { ⌜ at + 24 ≤ length (now out) ⌝ }
     ensures { λ r. ⌜ Put (now (out .entry)) at (numbered (name k) n) (now (out .exit)) r 24 ⌝ }
@@ -53,7 +53,7 @@ fn put_diff(out: &mut [u8], at: usize, moment: u64, k: Component, n: u64) -> usi
     put_bytes(out, end, b"\n")
 }
 
-// A line where the bits differ.
+// A line if the bits differ.
 fn put_component(out: &mut [u8], at: usize, moment: u64, k: Component, a: u64, b: u64) -> usize
     requires { ⌜ at + 50 ≤ length (now out) ⌝ }
     ensures { λ r. ⌜ Put (now (out .entry)) at (textOf (component moment k a b)) (now (out .exit)) r 50 ⌝ }
@@ -117,7 +117,7 @@ fn put_without(out: &mut [u8], at: usize, second: Found) -> usize
     }
 }
 
-// What is reported of the next state in moment order.
+// The report on the next state in moment order.
 pub fn put_turn(out: &mut [u8], at: usize, first: Found, second: Found) -> usize
     requires { ⌜ at + 300 ≤ length (now out) ⌝ }
     ensures { λ r. ⌜ Put (now (out .entry)) at (textOf (differencesAt first second)) (now (out .exit)) r 300 ⌝ }
@@ -128,7 +128,7 @@ pub fn put_turn(out: &mut [u8], at: usize, first: Found, second: Found) -> usize
     }
 }
 
-// Of two listings, each with its line that is not of the form or 0, the first that has one, or nothing.
+// For two listings, each with its line that is not of the form or 0: the first that has one, or nothing.
 fn put_first_refusal(out: &mut [u8], at: usize, k: u64, line: u64, l: u64, other: u64) -> usize
     requires { ⌜ at + 300 ≤ length (now out) ⌝ }
     ensures { λ r. ⌜ Put (now (out .entry)) at (firstRefusal k line l other) (now (out .exit)) r 300 ⌝ }
@@ -150,7 +150,7 @@ pub fn put_refusal(out: &mut [u8], at: usize, first: u64, second: u64) -> usize
     put_first_refusal(out, at, 1, first, 2, second)
 }
 
-// The end of the report, after something was reported or nothing.
+// The end of the report, by whether anything was reported.
 pub fn put_end(out: &mut [u8], at: usize, reported: bool, states: u64) -> usize
     requires { ⌜ at + 300 ≤ length (now out) ⌝ }
     ensures { λ r. ⌜ Put (now (out .entry)) at (endText reported states) (now (out .exit)) r 300 ⌝ }

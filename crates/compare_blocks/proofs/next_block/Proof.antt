@@ -9,12 +9,9 @@ returns : tie.Need-returns
 unfolding onward
 returns c = rw (lt-ltb 0 _ (c .if1 .taken))
 
-last-row-requires : tie.Need-last-row-requires
-last-row-requires c κs = search needs
-
 returns-2 : tie.Need-returns-2
 unfolding onward
 returns-2 c = rw (le-ltb 0 _ (c .before .if1 .left), c .last-row .ensures)
 
 pub next-block-spec : {M : Type 1} → statement M
-next-block-spec = tie.close (tie.spec returns last-row-requires returns-2)
+next-block-spec = tie.close (tie.spec returns (λ c κs. search needs) returns-2)

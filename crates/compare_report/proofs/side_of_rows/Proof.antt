@@ -4,20 +4,11 @@ use borrow.Author.Needs.{needs}
 use Rattle.compare_report.proofs.side_of_rows.Statement.{statement}
 use Rattle.compare_report.proofs.side_of_rows.Tie as tie
 
-next-of-requires : tie.Need-next-of-requires
-next-of-requires c κs = search needs
-
 returns : tie.Need-returns
 returns c = rw (lt-ltb _ _ (c .before .if1 .taken)) (c .next-of .ensures)
 
-next-of-requires-2 : tie.Need-next-of-requires-2
-next-of-requires-2 c κs = search needs
-
 returns-2 : tie.Need-returns-2
 returns-2 c = rw (le-ltb _ _ (c .before .before .before .before .if1 .left), lt-ltb _ _ (c .before .if2 .taken)) (c .next-of2 .ensures)
-
-next-of-requires-3 : tie.Need-next-of-requires-3
-next-of-requires-3 c κs = search needs
 
 returns-3 : tie.Need-returns-3
 returns-3 c = rw (le-ltb _ _ (c .before .before .before .before .if1 .left), le-ltb _ _ (c .before .if2 .left)) (c .next-of3 .ensures)
@@ -25,4 +16,4 @@ returns-3 c = rw (le-ltb _ _ (c .before .before .before .before .if1 .left), le-
 pub side-of-rows-spec : {M : Type 1} → statement M
 side-of-rows-spec =
     tie.close
-    (tie.spec next-of-requires returns next-of-requires-2 returns-2 next-of-requires-3 returns-3)
+    (tie.spec (λ c κs. search needs) returns (λ c κs. search needs) returns-2 (λ c κs. search needs) returns-3)

@@ -3,18 +3,6 @@ use borrow.Author.Needs.{needs}
 use Rattle.compare_report.proofs.side_with.Statement.{statement}
 use Rattle.compare_report.proofs.side_with.Tie as tie
 
-enum-known-second : tie.Need-enum-known-second
-enum-known-second c = search needs
-
-side-of-rows-requires : tie.Need-side-of-rows-requires
-side-of-rows-requires c κs = search needs
-
-enum-told : tie.Need-enum-told
-enum-told c = search needs
-
-next-of-requires : tie.Need-next-of-requires
-next-of-requires c κs = search needs
-
 returns : tie.Need-returns
 returns c = rw (c .before .before .second .given .1) (c .side-of-rows .ensures)
 
@@ -24,4 +12,4 @@ returns-2 c = rw (c .before .enum-told .given .1) (c .next-of .ensures)
 pub side-with-spec : {M : Type 1} → statement M
 side-with-spec =
     tie.close
-    (tie.spec enum-known-second side-of-rows-requires enum-told next-of-requires returns returns-2)
+    (tie.spec (λ c. search needs) (λ c κs. search needs) (λ c. search needs) (λ c κs. search needs) returns returns-2)

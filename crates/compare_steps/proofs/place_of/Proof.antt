@@ -5,19 +5,13 @@ use borrow.Author.Needs.{needs}
 use Rattle.compare_steps.proofs.place_of.Statement.{statement}
 use Rattle.compare_steps.proofs.place_of.Tie as tie
 
-add-result : tie.Need-add-result
-add-result c = search needs
-
 returns : tie.Need-returns
 unfolding place
 returns c = rw (lt-ltb _ _ (c .if1 .taken))
-
-sub-result : tie.Need-sub-result
-sub-result c = search needs
 
 returns-2 : tie.Need-returns-2
 unfolding place
 returns-2 c = rw (le-ltb _ _ (c .if1 .left))
 
 pub place-of-spec : {M : Type 1} → statement M
-place-of-spec = tie.close (tie.spec add-result returns sub-result returns-2)
+place-of-spec = tie.close (tie.spec (λ c. search needs) returns (λ c. search needs) returns-2)

@@ -5,15 +5,6 @@ use borrow.Author.Needs.{needs}
 use Rattle.compare_steps.proofs.steps_between.Statement.{statement}
 use Rattle.compare_steps.proofs.steps_between.Tie as tie
 
-place-of-requires : tie.Need-place-of-requires
-place-of-requires c κs = search needs
-
-place-of-requires-2 : tie.Need-place-of-requires-2
-place-of-requires-2 c κs = search needs
-
-sub-result : tie.Need-sub-result
-sub-result c = search needs
-
 returns : tie.Need-returns
 unfolding steps
 returns c = rw (← c .before .place-of2 .ensures, ← c .before .before .place-of .ensures, lt-ltb _ _ (c .if1 .taken))
@@ -23,4 +14,4 @@ unfolding steps
 returns-2 c = rw (← c .before .place-of2 .ensures, ← c .before .before .place-of .ensures, le-ltb _ _ (c .if1 .left))
 
 pub steps-between-spec : {M : Type 1} → statement M
-steps-between-spec = tie.close (tie.spec place-of-requires place-of-requires-2 sub-result returns returns-2)
+steps-between-spec = tie.close (tie.spec (λ c κs. search needs) (λ c κs. search needs) (λ c. search needs) returns returns-2)

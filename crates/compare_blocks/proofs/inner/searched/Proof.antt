@@ -5,11 +5,7 @@ use borrow.Author.Needs.{needs}
 use Rattle.compare_blocks.proofs.inner.searched.Statement.{statement}
 use Rattle.compare_blocks.proofs.inner.searched.Tie as tie
 
-next-row-requires : tie.Need-next-row-requires
-next-row-requires c κs = search needs
-
-returns : tie.Need-returns
-returns c = looks _ _ _ _ (c .before .before .pre) (c .next-row .ensures) refl refl refl refl
-
 pub searched-spec : {M : Type 1} → statement M
-searched-spec = tie.close (tie.spec next-row-requires returns)
+searched-spec =
+    tie.close
+    (tie.spec (λ c κs. search needs) (λ c. looks _ _ _ _ (c .before .before .pre) (c .next-row .ensures) refl refl refl refl))

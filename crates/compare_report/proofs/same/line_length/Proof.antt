@@ -1,6 +1,6 @@
 -- `compare_report::same::line_length` meets its contract: before i there is no line feed. Assumes nothing.
 use Prim.Native.Nat.{_+_, _-_, _≤_}
-use mathlib.Core.Path.{_≡_, refl}
+use mathlib.Core.Path.{_≡_}
 use native.Mathlib.Omega.{arith}
 use lib.ListN.{length, drop}
 use denote.Ref.{now}
@@ -16,23 +16,13 @@ Inv-loop block i₀ i = (i ≤ length block) × (i + length (untilFeed (drop i b
 abbrev μ-loop : tie.MeasureT-loop
 μ-loop block i₀ i = length block - i
 
-loop-holds : tie.Need-loop-holds Inv-loop μ-loop
-loop-holds c = (omega arith, omega arith)
-
-shared-slice-read-if1 : tie.Need-shared-slice-read-if1 Inv-loop μ-loop
-shared-slice-read-if1 c = search needs
-
 returns : tie.Need-returns Inv-loop μ-loop
 returns c = omega (arith, c .before .before .before .loop .inv .1, feed-here (now (c .before .before .before .before .args .block)) (c .before .before .before .loop .i) (omega arith) (c .if1 .taken))
 
-add-i : tie.Need-add-i Inv-loop μ-loop
-add-i c = search needs
-
-loop-less : tie.Need-loop-less Inv-loop μ-loop
-loop-less c = search needs
-
 loop-again : tie.Need-loop-again Inv-loop μ-loop
-loop-again c = let e = feed-on (now (c .before .before .before .before .args .block)) (c .before .before .before .loop .i) (omega arith) (c .if1 .left) in let k = c .before .before .before .loop .inv .1 in (omega arith, omega arith)
+loop-again c =
+    let e = feed-on (now (c .before .before .before .before .args .block)) (c .before .before .before .loop .i) (omega arith) (c .if1 .left) in
+    let k = c .before .before .before .loop .inv .1 in (omega arith, omega arith)
 
 returns-2 : tie.Need-returns-2 Inv-loop μ-loop
 returns-2 c = omega (arith, c .before .loop .inv .1, feed-end (now (c .before .before .args .block)) (c .before .loop .i) (c .loop-test .left))
@@ -43,10 +33,10 @@ line-length-spec =
     (tie.spec
     Inv-loop
     μ-loop
-    loop-holds
-    shared-slice-read-if1
+    (λ c. (omega arith, omega arith))
+    (λ c. search needs)
     returns
-    add-i
-    loop-less
+    (λ c. search needs)
+    (λ c. search needs)
     loop-again
     returns-2)

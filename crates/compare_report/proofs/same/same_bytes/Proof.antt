@@ -16,29 +16,15 @@ Inv-loop a b i₀ i = (i ≤ length a) × (same (drop i a) (drop i b) ≡ same a
 abbrev μ-loop : tie.MeasureT-loop
 μ-loop a b i₀ i = length a - i
 
-returns : tie.Need-returns Inv-loop μ-loop
-returns c = lengths-differ _ _ (c .if1 .taken)
-
-loop-holds : tie.Need-loop-holds Inv-loop μ-loop
-loop-holds c = (omega arith, refl)
-
-shared-slice-read-if2 : tie.Need-shared-slice-read-if2 Inv-loop μ-loop
-shared-slice-read-if2 c = search needs
-
-shared-slice-read-if2-2 : tie.Need-shared-slice-read-if2-2 Inv-loop μ-loop
-shared-slice-read-if2-2 c = search needs
-
 returns-2 : tie.Need-returns-2 Inv-loop μ-loop
-returns-2 c = sym (same-not (now (c .before .before .before .before .before .before .args .a)) (now (c .before .before .before .before .before .before .args .b)) (c .before .before .before .before .loop .i) (omega arith) (omega arith) (c .if2 .taken)) ∙ c .before .before .before .before .loop .inv .1
-
-add-i : tie.Need-add-i Inv-loop μ-loop
-add-i c = search needs
-
-loop-less : tie.Need-loop-less Inv-loop μ-loop
-loop-less c = search needs
+returns-2 c =
+    let at = c .before .before .before .before in
+    sym (same-not (now (at .before .before .args .a)) (now (at .before .before .args .b)) (at .loop .i) (omega arith) (omega arith) (c .if2 .taken)) ∙ at .loop .inv .1
 
 loop-again : tie.Need-loop-again Inv-loop μ-loop
-loop-again c = (omega arith, sym (same-on (now (c .before .before .before .before .before .before .args .a)) (now (c .before .before .before .before .before .before .args .b)) (c .before .before .before .before .loop .i) (omega arith) (omega arith) (c .if2 .left)) ∙ c .before .before .before .before .loop .inv .1)
+loop-again c =
+    let at = c .before .before .before .before in
+    (omega arith, sym (same-on (now (at .before .before .args .a)) (now (at .before .before .args .b)) (at .loop .i) (omega arith) (omega arith) (c .if2 .left)) ∙ at .loop .inv .1)
 
 returns-3 : tie.Need-returns-3 Inv-loop μ-loop
 returns-3 c = sym (same-end (now (c .before .before .before .args .a)) (now (c .before .before .before .args .b)) (c .before .loop .i) (omega arith) (omega arith)) ∙ c .before .loop .inv .1
@@ -49,12 +35,12 @@ same-bytes-spec =
     (tie.spec
     Inv-loop
     μ-loop
-    returns
-    loop-holds
-    shared-slice-read-if2
-    shared-slice-read-if2-2
+    (λ c. lengths-differ _ _ (c .if1 .taken))
+    (λ c. (omega arith, refl))
+    (λ c. search needs)
+    (λ c. search needs)
     returns-2
-    add-i
-    loop-less
+    (λ c. search needs)
+    (λ c. search needs)
     loop-again
     returns-3)

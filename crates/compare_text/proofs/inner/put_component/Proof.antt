@@ -4,20 +4,10 @@ use borrow.Author.Needs.{needs}
 use Rattle.compare_text.proofs.inner.put_component.Statement.{statement}
 use Rattle.compare_text.proofs.inner.put_component.Tie as tie
 
-returns : tie.Need-returns
-returns c = bits-same _ _ _ _ _ _ (c .if1 .taken)
-
-steps-between-requires : tie.Need-steps-between-requires
-steps-between-requires c κs = search needs
-
-put-diff-requires : tie.Need-put-diff-requires
-put-diff-requires c κs = search needs
-
-same-length : tie.Need-same-length
-same-length c = search needs
-
 returns-2 : tie.Need-returns-2
 returns-2 c = bits-differ _ _ _ _ _ _ _ _ (c .before .before .before .before .before .if1 .left) (rw (c .before .before .before .steps-between .ensures) at (c .before .before .put-diff .ensures))
 
 pub put-component-spec : {M : Type 1} → statement M
-put-component-spec = tie.close (tie.spec returns steps-between-requires put-diff-requires same-length returns-2)
+put-component-spec =
+    tie.close
+    (tie.spec (λ c. bits-same _ _ _ _ _ _ (c .if1 .taken)) (λ c κs. search needs) (λ c κs. search needs) (λ c. search needs) returns-2)

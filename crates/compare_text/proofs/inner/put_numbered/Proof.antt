@@ -6,17 +6,22 @@ use borrow.Author.Needs.{needs}
 use Rattle.compare_text.proofs.inner.put_numbered.Statement.{statement}
 use Rattle.compare_text.proofs.inner.put_numbered.Tie as tie
 
-put-bytes-requires : tie.Need-put-bytes-requires
-put-bytes-requires c κs = search needs
-
 put-decimal-requires : tie.Need-put-decimal-requires
-put-decimal-requires c κs = omega (arith, decimal-fits (c .before .before .before .before .before .before .before .args .n) (omega arith), c .before .before .before .put-bytes .ensures .next, c .before .before .before .put-bytes .kept .0)
-
-same-length : tie.Need-same-length
-same-length c = search needs
+put-decimal-requires c κs =
+    omega (
+      arith,
+      decimal-fits (c .before .before .before .before .before .before .before .args .n) (omega arith),
+      c .before .before .before .put-bytes .ensures .next,
+      c .before .before .before .put-bytes .kept .0,
+    )
 
 returns : tie.Need-returns
-returns c = record { wrote = both (c .before .before .before .before .before .before .put-bytes .ensures) (c .before .before .put-decimal .ensures); short = omega (arith, decimal-fits (c .before .before .before .before .before .before .before .before .before .before .args .n) (omega arith), c .before .before .before .before .before .before .put-bytes .ensures .next, c .before .before .put-decimal .ensures .next) }
+returns c =
+    let at = c .before .before .before .before .before .before in
+    record {
+      wrote = both (at .put-bytes .ensures) (c .before .before .put-decimal .ensures);
+      short = omega (arith, decimal-fits (at .before .before .before .before .args .n) (omega arith), at .put-bytes .ensures .next, c .before .before .put-decimal .ensures .next);
+    }
 
 pub put-numbered-spec : {M : Type 1} → statement M
-put-numbered-spec = tie.close (tie.spec put-bytes-requires put-decimal-requires same-length returns)
+put-numbered-spec = tie.close (tie.spec (λ c κs. search needs) put-decimal-requires (λ c. search needs) returns)

@@ -5,18 +5,6 @@ use borrow.Author.Needs.{needs}
 use Rattle.compare_text.proofs.inner.put_without.Statement.{statement}
 use Rattle.compare_text.proofs.inner.put_without.Tie as tie
 
-enum-known-second : tie.Need-enum-known-second
-enum-known-second c = search needs
-
-put-only-requires : tie.Need-put-only-requires
-put-only-requires c κs = search needs
-
-enum-told : tie.Need-enum-told
-enum-told c = search needs
-
-same-length : tie.Need-same-length
-same-length c = search needs
-
 returns : tie.Need-returns
 returns c = rw (c .before .before .before .before .before .second .given .1) (c .before .before .put-only .ensures)
 
@@ -25,4 +13,4 @@ unfolding textOf
 returns-2 c = rw (c .enum-told .given .1) (none _ _ 300)
 
 pub put-without-spec : {M : Type 1} → statement M
-put-without-spec = tie.close (tie.spec enum-known-second put-only-requires enum-told same-length returns returns-2)
+put-without-spec = tie.close (tie.spec (λ c. search needs) (λ c κs. search needs) (λ c. search needs) (λ c. search needs) returns returns-2)
