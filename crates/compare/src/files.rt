@@ -1,4 +1,4 @@
-// Files read in blocks, from any place: one that cannot be read so, as a pipe, cannot be read twice.
+// Reads files in blocks, from any place. A file that does not allow this, such as a pipe, cannot be read twice.
 
 use listing_read::Verdict;
 use listing_read::inner::judge_block;
@@ -6,10 +6,10 @@ use listing_read::inner::verdict;
 use listing_read::top;
 ghost use Rattle.io.specs.Counts.{Counts};
 
-// Where no file has a byte.
-const END: u64 = 0x4000_0000_0000_0000;
+// A place past the end of every file.
+pub const END: u64 = 0x4000_0000_0000_0000;
 
-// The bytes of a block that were read: none at the end of the file.
+// The number of bytes read into a block: 0 at the end of the file.
 pub struct Got {
     pub n: usize,
     pub failed: bool,
@@ -31,7 +31,7 @@ fn tell_once(name: &[u8]) {
     os::fail(b" twice");
 }
 
-// The file of a name, open for reading, or -1 where it cannot be read; then standard error says why.
+// Opens the file of a name for reading. If that fails, returns -1 and prints the reason on standard error.
 pub fn opened(name: &[u8]) -> i32 {
     let fd = os::open_read(name);
     if fd < 0 {

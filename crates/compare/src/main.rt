@@ -1,26 +1,27 @@
-// The program compare: says where two strip listings part. Each file is read twice, once to judge its form and once to report,
-// in blocks. What it cannot read or write it tells on standard error.
+// The program compare: prints where two strip listings differ. It reads each file twice, in blocks: once to check its
+// form and once to report. If it cannot read or write, it prints the error on standard error.
 //
-// No contract can say what a program reads or writes. What it should print is parting's definition `report` of the two texts:
-// the contracts of reader, parting and sides say what is found in each block and what each text is that is printed here, and
-// compared's laws that these texts, in this order, make up the whole.
+// No contract can say what a program reads or writes. The definition `report` (compare_report) says what it should
+// print for the two texts. Every text that is printed here comes from a function with a contract. compare_laws proves
+// that these texts, in this order, make up the whole.
 
 mod files;
 mod lines;
 mod states;
 
-use files::Judged;
-use lines::Line;
 use compare_report::Part;
 use compare_report::next_part;
-use reader::Verdict;
 use compare_text::inner::put_end;
 use compare_text::inner::put_refusal;
+use files::Judged;
+use listing_read::Verdict;
 ghost use Prim.Native.Nat.{_≤_};
+ghost use mathlib.Core.Bool.{true};
 ghost use mathlib.Core.Path.{_≡_};
+ghost use Rattle.base.specs.Choice.{if_then_else_, _<?_};
 ghost use lib.ListN.{length};
 
-// What printing came to: whether anything was printed, or what could not be read or written.
+// The result of printing: whether anything was printed, or what could not be read or written.
 pub enum Printed {
     Done(bool),
     FirstUnread,
@@ -28,11 +29,10 @@ pub enum Printed {
     Unwritten,
 }
 
-// A listing of the form: its file, how many states it has, and where its last line starts.
+// A listing of the form: its file, and the verdict on it.
 pub struct Listing {
     pub fd: i32,
-    pub states: u64,
-    pub outcome: u64,
+    pub verdict: Verdict,
 }
 
 fn print_refusal(first: u64, second: u64) -> Printed {
@@ -47,28 +47,22 @@ fn print_end(reported: bool, states: u64) -> Printed {
     lines::print_bytes(&line[..n])
 }
 
-fn header_of(l: Listing) -> Line {
-    Line {
-        fd: l.fd,
-        from: 0,
-        there: 0 < l.states,
+// Whether anything was reported, counting a text of that many bytes.
+pub fn any(reported: bool, written: usize) -> bool
+    ensures { λ r. ⌜ r ≡ (if reported then true else 0 <? written) ⌝ }
+{
+    if reported {
+        return true;
     }
-}
-
-fn outcome_of(l: Listing) -> Line {
-    Line {
-        fd: l.fd,
-        from: l.outcome,
-        there: true,
-    }
+    0 < written
 }
 
 fn print_part(part: Part, first: Listing, second: Listing, reported: bool) -> Printed {
     match part {
-        Part::Header => lines::print_lines(b"HEADER ", header_of(first), header_of(second)),
+        Part::Header => lines::print_lines(part, first, second),
         Part::States => states::print_states(first.fd, second.fd),
-        Part::Outcome => lines::print_lines(b"OUTCOME ", outcome_of(first), outcome_of(second)),
-        Part::End => print_end(reported, first.states),
+        Part::Outcome => lines::print_lines(part, first, second),
+        Part::End => print_end(reported, first.verdict.rows),
         Part::Over => Printed::Done(false),
     }
 }
@@ -98,11 +92,7 @@ fn print_report(first: Listing, second: Listing) -> Printed {
 }
 
 fn listing_of(fd: i32, v: Verdict) -> Listing {
-    Listing {
-        fd,
-        states: v.rows,
-        outcome: v.outcome,
-    }
+    Listing { fd, verdict: v }
 }
 
 fn print_after(first: Listing, fd: i32) -> Printed {
@@ -116,7 +106,7 @@ fn print_after(first: Listing, fd: i32) -> Printed {
     print_report(first, listing_of(fd, v))
 }
 
-// The first listing is judged to its end before the second is looked at.
+// The first listing is checked to its end before the second is read.
 fn print_compared(fd: i32, other: i32) -> Printed {
     let judged = files::judge(fd);
     let Judged::Is(v) = judged else {

@@ -1,6 +1,7 @@
 // The states of both listings, reported as they are read.
 
 use crate::Printed;
+use crate::any;
 use crate::files::read_at;
 use compare_blocks::go_on;
 use compare_blocks::inner::portion;
@@ -11,7 +12,7 @@ ghost use mathlib.Core.Path.{_≡_};
 ghost use lib.ListN.{length};
 ghost use Rattle.compare_blocks.specs.Sides.{Shut};
 
-// A file of which some bytes are read, the last n of them in its block.
+// A file of which some bytes are read; the last n of them are in its block.
 struct Source {
     fd: i32,
     read: u64,
@@ -19,7 +20,7 @@ struct Source {
     failed: bool,
 }
 
-// The next block, if it is wanted.
+// Reads the next block, if it is wanted.
 fn refilled(wanted: bool, s: Source, block: &mut [u8]) -> Source
     requires { ⌜ s .n ≤ length (now block) ⌝ }
     ensures { λ r. ⌜ (r .n ≤ length (now (block .exit))) × (wanted ≡ false → r .n ≡ s .n) ⌝ }
@@ -47,15 +48,8 @@ fn unread(fd: i32) -> Source
     }
 }
 
-fn any(reported: bool, written: usize) -> bool {
-    if reported {
-        return true;
-    }
-    0 < written
-}
-
-// Portion after portion, and a block more where one is waited for. The number of portions is one that no report uses up:
-// nothing else says that a file ends.
+// Portion after portion, with one more block whenever the report waits for one. The number of portions is a limit
+// that no report reaches. The loop needs one, because nothing else shows that a file ends.
 pub fn print_states(fd: i32, other: i32) -> Printed {
     let mut a = io::large_buffer();
     let mut b = io::large_buffer();

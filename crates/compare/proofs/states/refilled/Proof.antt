@@ -6,21 +6,11 @@ use borrow.Author.Needs.{needs}
 use Rattle.compare.proofs.states.refilled.Statement.{statement}
 use Rattle.compare.proofs.states.refilled.Tie as tie
 
-read-at-requires : tie.Need-read-at-requires
-read-at-requires c κs = search needs
-
-wrapping-add-u64-requires : tie.Need-wrapping-add-u64-requires
-wrapping-add-u64-requires c κs = search needs
-
-same-length : tie.Need-same-length
-same-length c = search needs
-
 returns : tie.Need-returns
-returns c = let t = c .before .before .before .before .before .before .before .if1 .taken in (c .before .before .before .before .read-at .ensures .0, λ e. (let z : _≡_ {A = ℕ} 0 1 = cc in absurd (omega arith)))
-
-returns-2 : tie.Need-returns-2
-returns-2 c = search needs
+returns c =
+    let at = c .before .before .before .before in
+    let t = at .before .before .before .if1 .taken in (at .read-at .ensures .0, λ e. (let z : _≡_ {A = ℕ} 0 1 = cc in absurd (omega arith)))
 
 pub refilled-spec : {M : Type 1} → statement M
 refilled-spec =
-    tie.close (tie.spec read-at-requires wrapping-add-u64-requires same-length returns returns-2)
+    tie.close (tie.spec (λ c κs. search needs) (λ c κs. search needs) (λ c. search needs) returns (λ c. search needs))
