@@ -1,18 +1,18 @@
--- The laws of float steps (document 02, R-1): none only between equal bits, as many one way as the other, adding up through a float
--- between, and one between the two zeros. Assumes nothing.
+-- The laws of float steps (document 02, R-1): zero only between equal bits, the same in both directions, adding up through a float between,
+-- and one between the two zeros. Assumes nothing.
 use Prim.Native.Nat.{ℕ, _+_, _-_, _<_, _≤_}
 use mathlib.Core.Bool.{Bool, true, false}
-use mathlib.Core.Path.{_≡_, refl, sym, ap, _∙_}
+use mathlib.Core.Path.{_≡_, refl, ap}
 use native.Mathlib.Omega.{arith}
 use borrow.Author.Tests.{lt-ltb, le-ltb, ltb-true, ltb-false}
 use lib.Dec.{ltb}
-use Rattle.steps.specs.Steps.{place, apart, steps}
+use Rattle.compare_steps.specs.Steps.{place, distance, steps}
 
 halves : (t : Bool) (b : ℕ) {P : Type 0} → ltb b 0x8000_0000_0000_0000 ≡ t → (b < 0x8000_0000_0000_0000 → P) → (0x8000_0000_0000_0000 ≤ b → P) → P
 halves true b e low high = low (ltb-true b 0x8000_0000_0000_0000 e)
 halves false b e low high = high (ltb-false b 0x8000_0000_0000_0000 e)
 
--- where the sign is clear, and where it is set
+-- the two cases: the sign is clear, or it is set
 pub by-sign : (b : ℕ) {P : Type 0} → (b < 0x8000_0000_0000_0000 → P) → (0x8000_0000_0000_0000 ≤ b → P) → P
 by-sign b low high = halves (ltb b 0x8000_0000_0000_0000) b refl low high
 
@@ -24,27 +24,27 @@ pub place-set : (b : ℕ) → 0x8000_0000_0000_0000 ≤ b → place b ≡ 0xffff
 unfolding place
 place-set b h = rw (le-ltb b 0x8000_0000_0000_0000 h)
 
--- no two patterns of 64 bits stand at one place
+-- no two patterns of 64 bits have the same place
 pub place-one : (a b : ℕ) → a < 0x1_0000_0000_0000_0000 → b < 0x1_0000_0000_0000_0000 → place a ≡ place b → a ≡ b
 place-one a b h g e =
     by-sign a
     (λ low. by-sign b (λ small. omega (arith, place-clear a low, place-clear b small, e)) (λ big. omega (arith, place-clear a low, place-set b big, e)))
     (λ high. by-sign b (λ small. omega (arith, place-set a high, place-clear b small, e)) (λ big. omega (arith, place-set a high, place-set b big, e)))
 
-either-way : (t : Bool) (p q : ℕ) {P : Type 0} → ltb p q ≡ t → (p < q → apart p q ≡ q - p → P) → (q ≤ p → apart p q ≡ p - q → P) → P
+either-way : (t : Bool) (p q : ℕ) {P : Type 0} → ltb p q ≡ t → (p < q → distance p q ≡ q - p → P) → (q ≤ p → distance p q ≡ p - q → P) → P
 either-way true p q e up down = up (ltb-true p q e) (rw e)
 either-way false p q e up down = down (ltb-false p q e) (rw e)
 
-by-order : (p q : ℕ) {P : Type 0} → (p < q → apart p q ≡ q - p → P) → (q ≤ p → apart p q ≡ p - q → P) → P
+by-order : (p q : ℕ) {P : Type 0} → (p < q → distance p q ≡ q - p → P) → (q ≤ p → distance p q ≡ p - q → P) → P
 by-order p q up down = either-way (ltb p q) p q refl up down
 
-pub none-apart : (p q : ℕ) → apart p q ≡ 0 → p ≡ q
+pub none-apart : (p q : ℕ) → distance p q ≡ 0 → p ≡ q
 none-apart p q e = by-order p q (λ h d. omega arith) (λ h d. omega arith)
 
-pub both-ways : (p q : ℕ) → apart p q ≡ apart q p
+pub both-ways : (p q : ℕ) → distance p q ≡ distance q p
 both-ways p q = by-order p q (λ h d. by-order q p (λ g c. omega arith) (λ g c. omega arith)) (λ h d. by-order q p (λ g c. omega arith) (λ g c. omega arith))
 
-pub adds-up : (p q r : ℕ) → p ≤ q → q ≤ r → apart p r ≡ apart p q + apart q r
+pub adds-up : (p q r : ℕ) → p ≤ q → q ≤ r → distance p r ≡ distance p q + distance q r
 adds-up p q r h g =
     by-order p q
     (λ a d. by-order q r (λ b e. by-order p r (λ c f. omega arith) (λ c f. omega arith)) (λ b e. by-order p r (λ c f. omega arith) (λ c f. omega arith)))

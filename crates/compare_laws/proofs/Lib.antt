@@ -6,3 +6,8 @@ pub mod Printed
 pub mod Whole
 pub mod OneAnswer
 pub mod Counting
+pub mod Order
+pub mod Runs
+pub mod Same
+pub mod Spelling
+pub mod LastFeed

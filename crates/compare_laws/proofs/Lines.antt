@@ -1,11 +1,11 @@
 -- The lines that strip writes are of the form. Assumes nothing.
-use Prim.Native.Nat.{ℕ, zero, suc, _+_, _*_, _/_, _%_, _^_, _<_, _≤_}
-use mathlib.Core.Bool.{Bool, true, false}
+use Prim.Native.Nat.{ℕ, zero, suc, _+_, _*_, _/_, _%_, _^_, _<_}
+use mathlib.Core.Bool.{true}
 use mathlib.Core.List.{List, [], _∷_, _++_, append-assoc, append-nil}
 use mathlib.Core.Path.{_≡_, refl, sym, ap, subst, _∙_}
 use native.Mathlib.Nat.{pow-succ'}
 use native.Mathlib.Omega.{arith}
-use borrow.Author.Tests.{lt-ltb, le-ltb, le-leb, lt-leb, ne-eqb}
+use borrow.Author.Tests.{lt-ltb, le-ltb, le-leb, lt-leb}
 use lib.Dec.{T, ltb}
 use lib.Ieee.{Float, nan, inf, fin, binary64, fits, ofBits, toBits}
 use lib.Ieee.Bits.{ofBits-toBits, toBits-lt}
@@ -14,16 +14,16 @@ use Rattle.base.specs.Limits.{endOfTime}
 use Rattle.state.specs.State.{position, velocity}
 use Rattle.state.specs.declared.Vector.{Vector}
 use Rattle.state.specs.declared.State.{State}
-use Rattle.fields.specs.Patterns.{bitsOf}
 use Rattle.text_write.specs.Numerals.{glyph, hex16, decimalOf, floatText}
 use Rattle.text_write.specs.Numerals as text
 use Rattle.text_write.proofs.Decimal.{by-size}
-use Rattle.book.proofs.FiniteBits.{finite-bits}
-use Rattle.listing.specs.Lines.{stripWord, arrivedWord, refusedWord, spaced, vectorText}
+use Rattle.base_bytes.proofs.FiniteBits.{finite-bits}
+use Rattle.listing_words.specs.Words.{stripWord, arrivedWord, refusedWord}
+use Rattle.listing_write.specs.Lines.{spaced, vectorText}
 use Rattle.listing_read.specs.declared.Row.{Row}
 use Rattle.listing_read.specs.declared.Line.{Line}
 use Rattle.listing_read.specs.declared.Line.the-variants as line
-use Rattle.reader.specs.Line.{hexValue, nothing, word, number, digits, headerLine, arrivedLine, refusedLine, appended, finiteBits, component, pushed, components, blank, momentFrom, kindOf}
+use Rattle.listing_read.specs.Line.{hexValue, nothing, word, number, digits, headerLine, arrivedLine, refusedLine, finiteBits, component, pushed, components, blank, momentFrom, kindOf}
 use Rattle.compare_laws.proofs.Texts.{Plain, plain-none, plain-on, plain-append}
 use Rattle.compare_laws.proofs.Numbers.{number-read, moment-kind, decimal-plain}
 
@@ -91,7 +91,10 @@ module _ (after : ℕ → List ℕ → Line) where
 pub hex-plain : (k n : ℕ) → Plain (text.digits 16 k n)
 unfolding text.digits
 hex-plain zero n = plain-none
-hex-plain (suc k) n = plain-on (text.digits 16 k (n / 16)) (glyph (n % 16)) (hex-plain k (n / 16)) (λ e. by-size (n % 16) (λ small. let q : glyph (n % 16) ≡ 48 + n % 16 = rw (lt-ltb (n % 16) 10 small) in omega arith) (λ big. let q : glyph (n % 16) ≡ 87 + n % 16 = rw (le-ltb (n % 16) 10 big) in omega arith))
+hex-plain (suc k) n =
+    plain-on (text.digits 16 k (n / 16)) (glyph (n % 16)) (hex-plain k (n / 16))
+    (λ e. by-size (n % 16) (λ small. let q : glyph (n % 16) ≡ 48 + n % 16 = rw (lt-ltb (n % 16) 10 small) in omega arith)
+    (λ big. let q : glyph (n % 16) ≡ 87 + n % 16 = rw (le-ltb (n % 16) 10 big) in omega arith))
 
 -- ---- a float that fits its format and is finite
 
@@ -147,7 +150,7 @@ pub record FineState (s : State) : Type 0 where
   pub position-fine : FineVector (position s)
   pub velocity-fine : FineVector (velocity s)
 
-no-more : (r : Row) → components 0 r [] ≡ line.State r
+pub no-more : (r : Row) → components 0 r [] ≡ line.State r
 unfolding components
 no-more r = refl
 
@@ -173,7 +176,9 @@ float-plain x f = plain-append (32 ∷ []) (floatText x) space-plain (subst Plai
 
 vector-plain : (v : Vector) → FineVector v → Plain (vectorText v)
 unfolding vectorText
-vector-plain v f = plain-append (spaced (v .x) ++ spaced (v .y)) (spaced (v .z)) (plain-append (spaced (v .x)) (spaced (v .y)) (float-plain (v .x) (f .x-fine)) (float-plain (v .y) (f .y-fine))) (float-plain (v .z) (f .z-fine))
+vector-plain v f =
+    plain-append (spaced (v .x) ++ spaced (v .y)) (spaced (v .z))
+    (plain-append (spaced (v .x)) (spaced (v .y)) (float-plain (v .x) (f .x-fine)) (float-plain (v .y) (f .y-fine))) (float-plain (v .z) (f .z-fine))
 
 pub state-plain : (s : State) → FineState s → Plain (stateText s)
 state-plain s f =
@@ -188,10 +193,16 @@ pub strip-plain : Plain stripWord
 strip-plain = byte-on 83 _ (λ e. omega arith) (byte-on 84 _ (λ e. omega arith) (byte-on 82 _ (λ e. omega arith) (byte-on 73 _ (λ e. omega arith) (byte-on 80 _ (λ e. omega arith) space-plain))))
 
 pub arrived-plain : Plain arrivedWord
-arrived-plain = byte-on 65 _ (λ e. omega arith) (byte-on 82 _ (λ e. omega arith) (byte-on 82 _ (λ e. omega arith) (byte-on 73 _ (λ e. omega arith) (byte-on 86 _ (λ e. omega arith) (byte-on 69 _ (λ e. omega arith) (byte-on 68 _ (λ e. omega arith) space-plain))))))
+arrived-plain =
+    byte-on 65 _ (λ e. omega arith)
+    (byte-on 82 _ (λ e. omega arith)
+    (byte-on 82 _ (λ e. omega arith) (byte-on 73 _ (λ e. omega arith) (byte-on 86 _ (λ e. omega arith) (byte-on 69 _ (λ e. omega arith) (byte-on 68 _ (λ e. omega arith) space-plain))))))
 
 pub refused-plain : Plain refusedWord
-refused-plain = byte-on 82 _ (λ e. omega arith) (byte-on 69 _ (λ e. omega arith) (byte-on 70 _ (λ e. omega arith) (byte-on 85 _ (λ e. omega arith) (byte-on 83 _ (λ e. omega arith) (byte-on 69 _ (λ e. omega arith) (byte-on 68 _ (λ e. omega arith) space-plain))))))
+refused-plain =
+    byte-on 82 _ (λ e. omega arith)
+    (byte-on 69 _ (λ e. omega arith)
+    (byte-on 70 _ (λ e. omega arith) (byte-on 85 _ (λ e. omega arith) (byte-on 83 _ (λ e. omega arith) (byte-on 69 _ (λ e. omega arith) (byte-on 68 _ (λ e. omega arith) space-plain))))))
 
 pub numbered-plain : (word : List ℕ) (n : ℕ) → Plain word → Plain (word ++ decimalOf n)
 numbered-plain word n p = plain-append word (decimalOf n) p (decimal-plain n n (omega arith))

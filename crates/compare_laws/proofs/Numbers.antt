@@ -1,10 +1,10 @@
 -- Numbers as strip writes them are numbers of the form. Assumes nothing.
 use Prim.Native.Nat.{ℕ, zero, suc, _+_, _-_, _*_, _/_, _%_, _<_, _≤_}
-use mathlib.Core.Bool.{Bool, true, false}
+use mathlib.Core.Bool.{Bool, true}
 use mathlib.Core.List.{List, [], _∷_, _++_, append-assoc}
 use mathlib.Core.Path.{_≡_, refl, sym, ap, subst, _∙_}
 use native.Mathlib.Omega.{arith}
-use borrow.Author.Tests.{lt-ltb, le-ltb, le-leb, ne-eqb}
+use borrow.Author.Tests.{lt-ltb, le-leb, ne-eqb}
 use lib.Dec.{ltb}
 use Rattle.base.specs.Limits.{endOfTime}
 use Rattle.text_write.specs.Numerals.{glyph, decimalOf}
@@ -13,7 +13,7 @@ use Rattle.listing_read.specs.declared.Line.{Line}
 use Rattle.listing_read.specs.Line.{isDecimal, number, digits, momentFrom, stateLine, kindOf}
 use Rattle.compare_laws.proofs.Texts.{Plain, plain-none, plain-on}
 
-glyph-small : (d : ℕ) → d < 10 → glyph d ≡ 48 + d
+pub glyph-small : (d : ℕ) → d < 10 → glyph d ≡ 48 + d
 glyph-small d h = rw (lt-ltb d 10 h)
 
 decimal-digit : (d : ℕ) → d < 10 → isDecimal (48 + d) ≡ true
@@ -116,4 +116,5 @@ decimal-plain zero n h = subst Plain (sym (decimal-short n (omega arith))) (plai
 decimal-plain (suc most) n h =
     by-size n
     (λ small. subst Plain (sym (decimal-short n small)) (plain-on [] (glyph n) plain-none (λ e. omega (arith, glyph-small n small))))
-    (λ big. subst Plain (sym (decimal-long n big)) (plain-on (decimalOf (n / 10)) (glyph (n % 10)) (decimal-plain most (n / 10) (omega arith)) (λ e. omega (arith, glyph-small (n % 10) (omega arith)))))
+    (λ big. subst Plain (sym (decimal-long n big))
+    (plain-on (decimalOf (n / 10)) (glyph (n % 10)) (decimal-plain most (n / 10) (omega arith)) (λ e. omega (arith, glyph-small (n % 10) (omega arith)))))

@@ -1,6 +1,6 @@
 -- "Each difference is reported once and nothing else is", "in moment order": what is reported of a moment is what the states of both
 -- listings at that moment say, and the moments do not fall. Assumes nothing.
-use Prim.Native.Nat.{ℕ, suc, _+_, _<_, _≤_}
+use Prim.Native.Nat.{ℕ, _+_, _<_, _≤_}
 use mathlib.Core.Bool.{Bool, true, false}
 use mathlib.Core.List.{List, [], _∷_, _++_, append-nil, append-assoc}
 use mathlib.Core.Path.{_≡_, refl, sym, ap, ap₂, _∙_}
@@ -9,12 +9,10 @@ use borrow.Author.Tests.{lt-ltb, le-ltb, ltb-true, ltb-false, eq-eqb, ne-eqb, eq
 use lib.Dec.{ltb, eqb}
 use Rattle.base.specs.Choice.{if_then_else_}
 use Rattle.listing_read.specs.declared.Row.{Row}
-use Rattle.reader.specs.declared.Found.{Found}
-use Rattle.reader.specs.declared.Found.the-variants.{Is, None}
+use Rattle.listing_read.specs.declared.Found.the-variants.{None}
 use Rattle.listing_read.specs.declared.Line.{Line}
 use Rattle.listing_read.specs.declared.Line.the-variants as line
-use Rattle.reader.specs.declared.Place.{Place}
-use Rattle.reader.specs.declared.Place.the-variants.{Top, First, After, Done, Off}
+use Rattle.listing_read.specs.declared.Place.the-variants.{Top, First, After, Done}
 use Rattle.listing_read.specs.Form.{kindsOf, refusedFrom, formRefusal, rowsOf, rowsIn}
 use Rattle.compare_report.specs.declared.Component.{Component}
 use Rattle.compare_report.specs.declared.Component.the-variants.{X, Y, Z, VX, VY, VZ}
@@ -85,13 +83,19 @@ module _ (t : ℕ) (r s : Row) where
   unfolding atOne
   one-here e =
       let k = component-here t (r .moment) e in
-      six-are t (component (r .moment) X (r .x) (s .x)) (component (r .moment) Y (r .y) (s .y)) (component (r .moment) Z (r .z) (s .z)) (component (r .moment) VX (r .vx) (s .vx)) (component (r .moment) VY (r .vy) (s .vy)) (component (r .moment) VZ (r .vz) (s .vz)) (component (r .moment) X (r .x) (s .x)) (component (r .moment) Y (r .y) (s .y)) (component (r .moment) Z (r .z) (s .z)) (component (r .moment) VX (r .vx) (s .vx)) (component (r .moment) VY (r .vy) (s .vy)) (component (r .moment) VZ (r .vz) (s .vz)) (k X (r .x) (s .x)) (k Y (r .y) (s .y)) (k Z (r .z) (s .z)) (k VX (r .vx) (s .vx)) (k VY (r .vy) (s .vy)) (k VZ (r .vz) (s .vz))
+      six-are t (component (r .moment) X (r .x) (s .x)) (component (r .moment) Y (r .y) (s .y)) (component (r .moment) Z (r .z) (s .z))
+      (component (r .moment) VX (r .vx) (s .vx)) (component (r .moment) VY (r .vy) (s .vy)) (component (r .moment) VZ (r .vz) (s .vz)) (component
+      (r .moment) X (r .x) (s .x)) (component (r .moment) Y (r .y) (s .y)) (component (r .moment) Z (r .z) (s .z)) (component (r .moment) VX (r .vx)
+      (s .vx)) (component (r .moment) VY (r .vy) (s .vy)) (component (r .moment) VZ (r .vz) (s .vz)) (k X (r .x) (s .x)) (k Y (r .y) (s .y)) (k Z
+      (r .z) (s .z)) (k VX (r .vx) (s .vx)) (k VY (r .vy) (s .vy)) (k VZ (r .vz) (s .vz))
 
   one-other : (r .moment ≡ t → ⊥) → reportedAt t (atOne r s) ≡ []
   unfolding atOne
   one-other n =
       let k = component-other t (r .moment) n in
-      six-are t (component (r .moment) X (r .x) (s .x)) (component (r .moment) Y (r .y) (s .y)) (component (r .moment) Z (r .z) (s .z)) (component (r .moment) VX (r .vx) (s .vx)) (component (r .moment) VY (r .vy) (s .vy)) (component (r .moment) VZ (r .vz) (s .vz)) [] [] [] [] [] [] (k X (r .x) (s .x)) (k Y (r .y) (s .y)) (k Z (r .z) (s .z)) (k VX (r .vx) (s .vx)) (k VY (r .vy) (s .vy)) (k VZ (r .vz) (s .vz))
+      six-are t (component (r .moment) X (r .x) (s .x)) (component (r .moment) Y (r .y) (s .y)) (component (r .moment) Z (r .z) (s .z))
+      (component (r .moment) VX (r .vx) (s .vx)) (component (r .moment) VY (r .vy) (s .vy)) (component (r .moment) VZ (r .vz)
+      (s .vz)) [] [] [] [] [] [] (k X (r .x) (s .x)) (k Y (r .y) (s .y)) (k Z (r .z) (s .z)) (k VX (r .vx) (s .vx)) (k VY (r .vy) (s .vy)) (k VZ (r .vz) (s .vz))
 
 -- ---- what is reported of a moment is what both listings have of it
 
@@ -129,7 +133,9 @@ in-both t r s rs ss q h g later =
     let a : stateOf t rs ≡ None = none-before t (r .moment + 1) rs (h .1) (omega arith) in
     let b : stateOf t ss ≡ None = none-before t (s .moment + 1) ss (g .1) (omega arith) in
     let none : reportedAt t (parted rs ss) ≡ [] = later ∙ ap₂ differencesAt a b in
-    rw (one-here t r s e, none, append-nil (atOne r s), eq-eqb (r .moment) t e, eq-eqb (s .moment) t (sym q ∙ e), le-ltb (r .moment) (s .moment) (omega arith), le-ltb (s .moment) (r .moment) (omega arith)))
+    rw (one-here t r s e, none, append-nil (atOne r s), eq-eqb (r .moment) t e, eq-eqb (s .moment) t (sym q ∙ e))
+    (rw (le-ltb (r .moment) (s .moment) (omega arith), le-ltb (s .moment) (r .moment) (omega arith))
+    ))
     (λ n. rw (one-other t r s n, ne-eqb (r .moment) t n, ne-eqb (s .moment) t (λ e. n (q ∙ e))) later)
 
 from-here : (low : ℕ) (r : Row) (rs : List Row) → Rising low (r ∷ rs) → Rising (r .moment) (r ∷ rs)
@@ -145,8 +151,10 @@ exactly t (r ∷ rs) (s ∷ ss) low high h g =
     (λ l. rw (lt-ltb (r .moment) (s .moment) l) (first-only t r rs (s ∷ ss) (from-here low r rs h) (omega arith, g .1) (exactly t rs (s ∷ ss) (r .moment + 1) high (h .1) g)))
     (λ l.
     is-less (s .moment) (r .moment)
-    (λ k. rw (le-ltb (r .moment) (s .moment) l, lt-ltb (s .moment) (r .moment) k) (second-only t s (r ∷ rs) ss (from-here high s ss g) (omega arith, h .1) (exactly t (r ∷ rs) ss low (s .moment + 1) h (g .1))))
-    (λ k. rw (le-ltb (r .moment) (s .moment) l, le-ltb (s .moment) (r .moment) k) (in-both t r s rs ss (omega arith) (from-here low r rs h) (from-here high s ss g) (exactly t rs ss (r .moment + 1) (s .moment + 1) (h .1) (g .1)))))
+    (λ k. rw (le-ltb (r .moment) (s .moment) l, lt-ltb (s .moment) (r .moment) k)
+    (second-only t s (r ∷ rs) ss (from-here high s ss g) (omega arith, h .1) (exactly t (r ∷ rs) ss low (s .moment + 1) h (g .1))))
+    (λ k. rw (le-ltb (r .moment) (s .moment) l, le-ltb (s .moment) (r .moment) k)
+    (in-both t r s rs ss (omega arith) (from-here low r rs h) (from-here high s ss g) (exactly t rs ss (r .moment + 1) (s .moment + 1) (h .1) (g .1)))))
 
 -- ---- in moment order
 
@@ -183,11 +191,13 @@ in-order (r ∷ rs) (s ∷ ss) low h g =
     (λ l. rw (lt-ltb (r .moment) (s .moment) l) (h .0, in-order-from (r .moment) (r .moment + 1) (parted rs (s ∷ ss)) (omega arith) (in-order rs (s ∷ ss) (r .moment + 1) (h .1) (omega arith, g .1))))
     (λ l.
     is-less (s .moment) (r .moment)
-    (λ k. rw (le-ltb (r .moment) (s .moment) l, lt-ltb (s .moment) (r .moment) k) (g .0, in-order-from (s .moment) (s .moment + 1) (parted (r ∷ rs) ss) (omega arith) (in-order (r ∷ rs) ss (s .moment + 1) (omega arith, h .1) (g .1))))
+    (λ k. rw (le-ltb (r .moment) (s .moment) l, lt-ltb (s .moment) (r .moment) k)
+    (g .0, in-order-from (s .moment) (s .moment + 1) (parted (r ∷ rs) ss) (omega arith) (in-order (r ∷ rs) ss (s .moment + 1) (omega arith, h .1) (g .1))))
     (λ k.
     let e : s .moment ≡ r .moment = omega arith in
     rw (le-ltb (r .moment) (s .moment) l, le-ltb (s .moment) (r .moment) k)
-    (in-order-from low (r .moment) (atOne r s ++ parted rs ss) (h .0) (one-order r s (parted rs ss) (in-order-from (r .moment) (r .moment + 1) (parted rs ss) (omega arith) (in-order rs ss (r .moment + 1) (h .1) (rw e at (g .1))))))))
+    (in-order-from low (r .moment) (atOne r s ++ parted rs ss) (h .0)
+    (one-order r s (parted rs ss) (in-order-from (r .moment) (r .moment + 1) (parted rs ss) (omega arith) (in-order rs ss (r .moment + 1) (h .1) (rw e at (g .1))))))))
 
 -- ---- the states of a listing of the form rise
 
@@ -201,7 +211,8 @@ unfolding refusedFrom rowsOf
 after-rows [] t n some e = absurd (omega arith)
 after-rows (line.State r ∷ ls) t n some e = go (ltb t (r .moment)) refl e (after-rows ls)
   where
-    go : (x : Bool) → ltb t (r .moment) ≡ x → refusedFrom (After t) n (line.State r ∷ ls) ≡ 0 → ((t n : ℕ) → 1 ≤ n → refusedFrom (After t) n ls ≡ 0 → Rising (t + 1) (rowsOf ls)) → Rising (t + 1) (r ∷ rowsOf ls)
+    go : (x : Bool) → ltb t (r .moment) ≡ x → refusedFrom (After t) n (line.State r ∷ ls) ≡ 0
+        → ((t n : ℕ) → 1 ≤ n → refusedFrom (After t) n ls ≡ 0 → Rising (t + 1) (rowsOf ls)) → Rising (t + 1) (r ∷ rowsOf ls)
     go true q e later = (omega (arith, ltb-true t (r .moment) q), later (r .moment) (n + 1) (omega arith) (rw q at e))
     go false q e later = let z : n ≡ 0 = rw q at e in absurd (omega arith)
 after-rows (line.Outcome ∷ ls) t n some e = rw (done-rows (n + 1) ls (omega arith) e) (omega arith)

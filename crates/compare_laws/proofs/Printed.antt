@@ -26,10 +26,12 @@ use Rattle.gravity_stored.specs.Injection.{keptBy, launched}
 use Rattle.gravity_stored.proofs.Launched.{launched-bare}
 use Rattle.run_checks.specs.Start.{startRefusal}
 use Rattle.run_checks.proofs.Passed.{passed}
-use Rattle.motion.specs.Step.{Moved, On, Off, andThen, arrive, along, weighed, stepH, half, sixth, velocity2, velocity3, velocity4, lastly, stage2, stage3, stage4, movedBy, keeping, step}
+use Rattle.run.specs.Step.{Moved, On, Off, andThen, arrive, along, stepH, half, sixth, movedBy, keeping, step}
+use Rattle.run.specs.Stages.{velocity2, velocity3, lastly, stage3, stage4}
 use Rattle.run.proofs.OneStep.{done}
 use Rattle.run.proofs.Start.{mayWalk}
-use Rattle.listing.specs.Lines.{stripWord, arrivedWord, refusedWord, headerLine, stateLine, arrivedLine, refusedLine, loneRefusal}
+use Rattle.listing_words.specs.Words.{stripWord, arrivedWord, refusedWord}
+use Rattle.listing_write.specs.Lines.{headerLine, stateLine, arrivedLine, refusedLine, loneRefusal}
 use Rattle.strip_order.specs.Order.{orderLength, orderOf, readOrder}
 use Rattle.listing_write.specs.Strip.{stepsTo, orderText, stripText}
 use Rattle.listing_write.specs.Course.{afterStep, courseText}
@@ -40,13 +42,13 @@ use Rattle.listing_write.proofs.Whole.{order-course}
 use Rattle.text_write.specs.Numerals.{decimalOf}
 use Rattle.listing_read.specs.declared.Line.{Line}
 use Rattle.listing_read.specs.declared.Line.the-variants as line
-use Rattle.reader.specs.declared.Place.{Place}
-use Rattle.reader.specs.declared.Place.the-variants.{Top, First, After, Done, Off}
+use Rattle.listing_read.specs.declared.Place.the-variants.{Top, First, After, Off}
 use Rattle.listing_read.specs.Line.{kindOf}
 use Rattle.listing_read.specs.Form.{linesOf, kindsOf, refusedFrom, formRefusal}
 use Rattle.compare_laws.proofs.Texts.{Plain, plain-append, feed-lines}
 use Rattle.compare_laws.proofs.Numbers.{decimal-plain}
-use Rattle.compared.proofs.Lines.{Fine, FineVector, FineState, rowFor, stateText, header-kind, arrived-kind, lone-kind, refused-kind, state-line-kind, space-plain, state-plain, strip-plain, arrived-plain, refused-plain, numbered-plain}
+use Rattle.compare_laws.proofs.Lines.{Fine, FineVector, FineState, rowFor, stateText, header-kind, arrived-kind, lone-kind, refused-kind}
+use Rattle.compare_laws.proofs.Lines.{state-line-kind, space-plain, state-plain, strip-plain, arrived-plain, refused-plain, numbered-plain}
 
 -- ---- floats of a state that a step leads to
 
@@ -216,7 +218,8 @@ unfolding formRefusal
 lone-form k = ap (refusedFrom Top 1) (kinds-lone k) ∙ lone-ends
 
 order-fits : (form : Form) (input : List ℕ) → Fits (orderOf form input .injection)
-order-fits form input = record { x = ofBits-fits binary64 _; y = ofBits-fits binary64 _; z = ofBits-fits binary64 _; vx = ofBits-fits binary64 _; vy = ofBits-fits binary64 _; vz = ofBits-fits binary64 _ }
+order-fits form input =
+    record { x = ofBits-fits binary64 _; y = ofBits-fits binary64 _; z = ofBits-fits binary64 _; vx = ofBits-fits binary64 _; vy = ofBits-fits binary64 _; vz = ofBits-fits binary64 _ }
 
 not-started : (b : List ℕ) (o : Order) → eqb (startRefusal b (o .setting) (launched b (o .setting) (o .injection)) (o .h) (o .target)) 0 ≡ false
     → orderText b o ≡ loneRefusal (startRefusal b (o .setting) (launched b (o .setting) (o .injection)) (o .h) (o .target))

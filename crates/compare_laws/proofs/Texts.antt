@@ -1,20 +1,19 @@
--- What the program finds in a text, block by block, is what the report's definition says of the text. Assumes nothing.
-use Prim.Native.Nat.{ℕ, zero, suc, _+_, _<_, _≤_}
+-- What the program finds in a text, block by block, is what the definition of the report says about the text. Assumes nothing.
+use Prim.Native.Nat.{ℕ, zero, suc, _+_}
 use mathlib.Core.Bool.{Bool, true, false}
 use mathlib.Core.List.{List, [], _∷_, _++_, append-assoc, append-nil}
-use mathlib.Core.Path.{_≡_, refl, sym, ap, ap₂, subst, _∙_}
-use native.Mathlib.Nat.{zero-add, add-zero, add-assoc}
+use mathlib.Core.Path.{_≡_, refl, sym, ap, subst, _∙_}
+use native.Mathlib.Nat.{zero-add, add-zero}
 use native.Mathlib.Omega.{arith}
 use borrow.Author.Tests.{lt-ltb, le-ltb, ltb-true, ltb-false, ne-eqb, eqb-true, eqb-false}
 use lib.Dec.{ltb, eqb}
-use lib.ListN.{length, take, drop, length-append}
+use lib.ListN.{length, drop, length-append}
 use lib.Seq.{drop-append-seam}
 use Rattle.base.specs.Choice.{if_then_else_}
 use Rattle.listing_read.specs.declared.Judge.{Judge}
 use Rattle.listing_read.specs.declared.Place.the-variants.{Top}
 use Rattle.listing_read.specs.declared.Scan.the-variants.{Start}
-use Rattle.reader.specs.declared.Line.{Line}
-use Rattle.reader.specs.Form.{inFirst, linesOf, refusedFrom, formRefusal, rowsOf, rowsIn}
+use Rattle.listing_read.specs.Form.{inFirst, linesOf, refusedFrom, formRefusal, rowsOf}
 use Rattle.listing_read.specs.Bytes.{kindsFrom, lastStart, refusalWith, countWith, outcomeWith, atTop, Goes, verdictOf}
 use Rattle.listing_read.proofs.Lines.{kinds-start}
 use Rattle.compare_report.specs.Report.{firstOf, lastOf, outcomeOf, untilFeed, same}
@@ -47,7 +46,7 @@ first-line (b ∷ text) = go (eqb b 10) (first-line text)
 
 -- ---- the last line starts at lastStart
 
--- the front of a line, and the lines behind it
+-- the front of a line, and the lines after it
 abbrev pub pre : List ℕ → List (List ℕ) → List (List ℕ)
 pre [] ls = ls
 pre (b ∷ cur) ls = inFirst b (pre cur ls)
@@ -102,7 +101,7 @@ feed-until : (cur rest : List ℕ) → Plain cur → untilFeed (cur ++ (10 ∷ r
 unfolding untilFeed
 feed-until cur rest p = p .until (10 ∷ rest) ∙ append-nil cur
 
--- the last of some lines, or another line where there are none
+-- the last of some lines, or another line if there are none
 abbrev lastOr : List ℕ → List (List ℕ) → List ℕ
 lastOr d [] = d
 lastOr d (l ∷ ls) = lastOf (l ∷ ls)
@@ -129,7 +128,8 @@ last-end last before (c ∷ cur) p =
 last-feed : (last : ℕ) (before cur rest : List ℕ) → Plain cur → Last (length before) (before ++ (cur ++ (10 ∷ []))) [] rest → Last last before cur (10 ∷ rest)
 unfolding lastStart
 last-feed last before cur rest p later =
-    let all : before ++ (cur ++ (10 ∷ [])) ++ rest ≡ before ++ (cur ++ (10 ∷ rest)) = append-assoc before (cur ++ (10 ∷ [])) rest ∙ ap (λ (l : List ℕ). before ++ l) (append-assoc cur (10 ∷ []) rest) in
+    let all : before ++ (cur ++ (10 ∷ [])) ++ rest ≡ before ++ (cur ++ (10 ∷ rest)) =
+    append-assoc before (cur ++ (10 ∷ [])) rest ∙ ap (λ (l : List ℕ). before ++ l) (append-assoc cur (10 ∷ []) rest) in
     let size : length (before ++ (cur ++ (10 ∷ []))) ≡ length before + length cur + 1 = omega (arith, length-append before (cur ++ (10 ∷ [])), length-append cur (10 ∷ [])) in
     let moved = rw (add-zero, size, all, drop-append-seam before (cur ++ (10 ∷ rest)), feed-until cur rest p) at later in
     let d = lineAt last (before ++ (cur ++ (10 ∷ rest))) in
@@ -149,7 +149,7 @@ last-from (b ∷ rest) last before cur p = go (eqb b 10) refl (last-from rest)
     go true e later = subst (λ (k : ℕ). Last last before cur (k ∷ rest)) (sym (eqb-true b 10 e)) (last-feed last before cur rest p (later (length before) (before ++ (cur ++ (10 ∷ []))) [] plain-none))
     go false e later = last-byte last before cur rest b (eqb-false b 10 e) (later last before (cur ++ (b ∷ [])) (plain-on cur b p (eqb-false b 10 e)))
 
-some-line : (b : ℕ) (ls : List (List ℕ)) → inFirst b ls ≡ [] → ⊥
+pub some-line : (b : ℕ) (ls : List (List ℕ)) → inFirst b ls ≡ [] → ⊥
 some-line b [] e = let z : _≡_ {A = ℕ} 0 1 = cc in absurd (omega arith)
 some-line b (l ∷ ls) e = let z : _≡_ {A = ℕ} 0 1 = cc in absurd (omega arith)
 
@@ -171,7 +171,7 @@ last-line text = sym (last-from text 0 [] [] plain-none ∙ no-line text (linesO
 
 -- ---- lines in blocks
 
--- "any length": the bytes before a line feed in a block, and those of the next blocks where it has none
+-- "any length": the bytes before a line feed in a block; if it has none, also those of the next blocks
 pub until-cut : (a b : List ℕ) → untilFeed (a ++ b) ≡ (if ltb (length (untilFeed a)) (length a) then untilFeed a else a ++ untilFeed b)
 unfolding untilFeed
 until-cut [] b = refl
@@ -187,7 +187,7 @@ until-cut (x ∷ a) b = go (eqb x 10) (until-cut a b)
     go true later = rw (lt-ltb 0 (suc (length a)) (omega arith))
     go false later = shift (ltb (length (untilFeed a)) (length a)) refl later
 
--- lines of one length are the same where each of their blocks is
+-- lines of one length are the same if each of their blocks is
 pub same-cut : (a b c d : List ℕ) → length a ≡ length b → same (a ++ c) (b ++ d) ≡ (if same a b then same c d else false)
 unfolding same
 same-cut [] [] c d e = refl

@@ -2,10 +2,10 @@
 -- Assumes nothing.
 use Prim.Native.Nat.{ℕ, _+_, _<_, _≤_}
 use mathlib.Core.Bool.{Bool, true, false}
-use mathlib.Core.List.{List, [], _∷_, _++_, append-nil}
-use mathlib.Core.Path.{_≡_, refl, sym, ap, ap₂, _∙_}
+use mathlib.Core.List.{List, [], _++_}
+use mathlib.Core.Path.{_≡_, refl, sym, ap, ap₂}
 use native.Mathlib.Omega.{arith}
-use borrow.Author.Tests.{lt-ltb, le-ltb}
+use borrow.Author.Tests.{lt-ltb}
 use lib.Dec.{ltb}
 use lib.ListN.{length, drop, drop-of-length-le}
 use Rattle.base.specs.Choice.{if_then_else_}
@@ -49,7 +49,7 @@ module _ (r : Reading) (block : List ℕ) (none : r .found ≡ None) (used : len
   unfolding onward
   text-over = rw (none, drop-of-length-le block used) (last-row (r .scan))
 
--- where the report is over no state is to come
+-- when the report is over, no state is to come
 
 abbrev sideBy : Bool → Bool → Bool × Bool
 sideBy x y = ((if x then takes true false else if y then takes false true else takes true true) .first, (if x then takes true false else if y then takes false true else takes true true) .second)
@@ -71,7 +71,10 @@ pub record Ended (p q x y : Bool) : Type 0 where
   pub no-first : x ≡ false
   pub no-second : y ≡ false
 
-is-over : (p q x y : Bool) → (if p then waitsFor true false false else if q then waitsFor false true false else if x then waitsFor false false false else if y then waitsFor false false false else waitsFor false false true) .over ≡ true → Ended p q x y
+is-over : (p q x y : Bool)
+    → (if p then waitsFor true false false else if q then waitsFor false true false
+    else if x then waitsFor false false false else if y then waitsFor false false false else waitsFor false false true) .over ≡ true
+    → Ended p q x y
 is-over true q x y e = let z : _≡_ {A = ℕ} 0 1 = cc in absurd (omega arith)
 is-over false true x y e = let z : _≡_ {A = ℕ} 0 1 = cc in absurd (omega arith)
 is-over false false true y e = let z : _≡_ {A = ℕ} 0 1 = cc in absurd (omega arith)

@@ -1,4 +1,4 @@
--- What the laws of the report speak of.
+-- Definitions for the laws of the report.
 use Prim.Native.Nat.{ℕ, _+_, _≤_}
 use mathlib.Core.List.{List, [], _∷_}
 use lib.ListN.{length}
@@ -9,10 +9,9 @@ use Rattle.listing_read.specs.declared.Found.the-variants.{Is, None}
 use Rattle.listing_read.specs.declared.Verdict.{Verdict}
 use Rattle.listing_read.specs.Form.{formRefusal, rowsIn}
 use Rattle.listing_read.specs.Bytes.{lastStart}
-use Rattle.parting.specs.declared.Component.{Component}
 use Rattle.compare_report.specs.Report.{Difference, only, differs}
 
--- the verdict on a text: the line refused, the number of its states, and where its last line starts
+-- the verdict on a text: the refused line, the number of its states, and where its last line starts
 abbrev pub verdictOn : List ℕ → Verdict
 verdictOn text = record { refusal = formRefusal text; rows = length (rowsIn text); outcome = lastStart 0 0 0 text }
 
@@ -30,7 +29,7 @@ abbrev pub momentOf : Difference → ℕ
 momentOf (only k t) = t
 momentOf (differs t k n) = t
 
--- what is reported of a moment
+-- what the report says about a moment
 abbrev pub reportedAt : ℕ → List Difference → List Difference
 reportedAt t [] = []
 reportedAt t (d ∷ ds) = if momentOf d =? t then d ∷ reportedAt t ds else reportedAt t ds

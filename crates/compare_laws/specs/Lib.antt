@@ -1,1 +1,4 @@
 pub mod Laws
+pub mod Order
+pub mod Runs
+pub mod Same
