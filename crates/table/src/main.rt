@@ -1,9 +1,9 @@
-// The program table: reads a strip listing from standard input and writes it as comma-separated rows, as it goes. A refusal is told
-// on standard error behind the rows before it, and so is what cannot be read or written.
+// The program table: reads a strip listing from standard input and writes it as comma-separated rows while it reads.
+// A refusal is printed on standard error after the rows before it, and so is an error of reading or writing.
 //
-// No contract can say what a program reads or writes. What it should write is tabling's definition `tableOf` of the text that it
-// reads: the contracts of tabling say what each text is that is written here, and the laws of tabled that these texts, in this
-// order, make up the whole.
+// No contract can say what a program reads or writes. The definition `tableOf` (table_blocks) says what it should
+// write for the text that it reads. Every text that is written here comes from a function with a contract. table_laws
+// proves that these texts, in this order, make up the whole.
 
 use libc::STDERR_FILENO;
 use libc::STDIN_FILENO;
@@ -13,23 +13,30 @@ use table_blocks::inner::finish;
 use table_blocks::inner::portion;
 use table_blocks::inner::put_refusal;
 use table_blocks::opening;
+use table_rows::inner::put_heading;
 ghost use Prim.Native.Nat.{_≤_};
 ghost use lib.ListN.{length};
 ghost use Rattle.table_blocks.specs.Steps.{Stands};
 
-// Where the reading stands, and whether all rows so far were written.
+// The stage of reading, and whether all rows so far were written.
 struct Printed {
     standing: Standing,
     whole: bool,
 }
 
-// Whether all of the text was written; if not, standard error says why.
+// Whether the whole text was written; if not, prints the reason on standard error.
 fn print(part: &[u8]) -> bool {
     if io::write_all(STDOUT_FILENO, part) {
         return true;
     }
     os::fail(b"table: cannot write the table");
     false
+}
+
+fn print_heading() -> bool {
+    let mut row = [0u8; 64];
+    let n = put_heading(&mut row, 0);
+    print(&row[..n])
 }
 
 // The rows of a block, portion after portion.
@@ -71,7 +78,7 @@ fn tell_refusal(number: u64, line: u64) {
     io::write_all(STDERR_FILENO, &room[..n]);
 }
 
-// The end of the text, or of what is read of it.
+// The end of the text, or of the part that is read.
 fn print_end(standing: Standing, out: &mut [u8])
     requires { ⌜ Stands standing ⌝ }
     requires { ⌜ 157 ≤ length (now out) ⌝ }
@@ -119,7 +126,7 @@ fn main() {
         io::write_all(STDERR_FILENO, b"use: table < LISTING\n");
         return;
     }
-    if print(b"time,x,y,z,vx,vy,vz\r\n") {
+    if print_heading() {
         let mut block = io::large_buffer();
         let mut out = io::large_buffer();
         print_rows(&mut block, &mut out);

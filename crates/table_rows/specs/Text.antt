@@ -1,28 +1,23 @@
 -- Document 02, R-13: "comma-separated rows (RFC 4180): the heading row time,x,y,z,vx,vy,vz, then a row a state".
 use Prim.Native.Nat.{ℕ}
 use mathlib.Core.Bool.{Bool, true}
-use mathlib.Core.List.{List, [], _∷_, _++_}
+use mathlib.Core.List.{List, _++_}
 use lib.Ieee.{binary64, ofBits}
 use Rattle.base.specs.Choice.{if_then_else_}
+use Rattle.listing_words.specs.Words.{xName, yName, zName, vxName, vyName, vzName, timeName, comma, endOfRow}
 use Rattle.listing_read.specs.declared.Row.{Row}
 use Rattle.text_decimal.specs.declared.Places.{Places}
 use Rattle.text_decimal.specs.declared.Places.the-variants.{Three, Six}
 use Rattle.text_decimal.specs.Numeral.{numeral, isLarge}
 use Rattle.text_time.specs.Stamp.{stampText}
 
--- a comma, and the end of a row: RFC 4180's CRLF
-abbrev pub comma : List ℕ
-comma = 44 ∷ []
-
-abbrev pub endOfRow : List ℕ
-endOfRow = 13 ∷ 10 ∷ []
-
 -- time,x,y,z,vx,vy,vz
 abbrev pub heading : List ℕ
 heading =
-    116 ∷ 105 ∷ 109 ∷ 101 ∷ 44 ∷ 120 ∷ 44 ∷ 121 ∷ 44 ∷ 122 ∷ 44 ∷ 118 ∷ 120 ∷ 44 ∷ 118 ∷ 121 ∷ 44 ∷ 118 ∷ 122 ∷ 13 ∷ 10 ∷ []
+    timeName ++ comma ++ xName ++ comma ++ yName ++ comma ++ zName
+    ++ comma ++ vxName ++ comma ++ vyName ++ comma ++ vzName ++ endOfRow
 
--- a number behind a comma
+-- a number after a comma
 unfoldable pub field : Places → ℕ → List ℕ
 field places bits = comma ++ numeral places (ofBits binary64 bits)
 

@@ -1,8 +1,9 @@
-// Rows for a buffer with room for them. The writers put a text at a place of the buffer and answer the place after it.
+// Rows for a buffer with room for them. The writers put a text at a place of the buffer and return the place after
+// it.
 
+use listing_read::Row;
 use text_decimal::Places;
 use text_decimal::inner::put_numeral;
-use reader::Row;
 use text_time::inner::put_stamp;
 use text_write::inner::put_bytes;
 ghost use mathlib.Core.Path.{_≡_};
@@ -11,7 +12,15 @@ ghost use Prim.Native.Nat.{_+_, _≤_, _<_};
 ghost use lib.ListN.{length};
 ghost use Rattle.base.specs.Limits.{endOfTime};
 ghost use Rattle.text_write.specs.Written.{Wrote};
-ghost use Rattle.rows.specs.Text.{field, fields, rowText, large, anyLarge, hasLarge};
+ghost use Rattle.table_rows.specs.Text.{heading, field, fields, rowText, large, anyLarge, hasLarge};
+
+// The first row: 21 bytes.
+pub fn put_heading(out: &mut [u8], at: usize) -> usize
+    requires { ⌜ at + 21 ≤ length (now out) ⌝ }
+    ensures { λ r. ⌜ Wrote (now (out .entry)) at heading (now (out .exit)) r ⌝ }
+{
+    put_bytes(out, at, b"time,x,y,z,vx,vy,vz\r\n")
+}
 
 // 22 bytes at most.
 fn put_field(out: &mut [u8], at: usize, bits: u64, places: Places) -> usize

@@ -2,8 +2,8 @@
 
 pub mod inner;
 
+use listing_read::Row;
 use text_decimal::is_large;
-use reader::Row;
 ghost use mathlib.Core.Path.{_≡_};
 ghost use Rattle.table_rows.specs.Text.{anyLarge, hasLarge};
 

@@ -1,6 +1,5 @@
 -- `table_rows::inner::put_field` meets its contract. Assumes nothing.
-use Prim.Native.Nat.{_+_}
-use mathlib.Core.Path.{_≡_, refl, sym, ap, _∙_}
+use mathlib.Core.Path.{_∙_}
 use native.Mathlib.Omega.{arith}
 use Rattle.text_write.proofs.Writing.{both, byte}
 use lib.ListN.{length-set}
@@ -8,15 +7,6 @@ use Rattle.table_rows.specs.Text.{field}
 use borrow.Author.Needs.{needs}
 use Rattle.table_rows.proofs.inner.put_field.Statement.{statement}
 use Rattle.table_rows.proofs.inner.put_field.Tie as tie
-use Rattle.rows.proofs.known.put_field.Reads as reads
-use Rattle.rows.proofs.known.put_field.Lts as lts
-use Rattle.numeral.proofs.known.put_numeral.Reads as put-numeral-reads
-
-slice-write-out : tie.Need-slice-write-out
-slice-write-out c = search needs
-
-add-put-numeral : tie.Need-add-put-numeral
-add-put-numeral c = search needs
 
 put-numeral-requires : tie.Need-put-numeral-requires
 put-numeral-requires c κs = (c .before .before .pre .0, rw length-set (omega arith))
@@ -30,4 +20,4 @@ returns c = both (byte _ _ 44 (omega arith)) (c .before .before .put-numeral .en
 
 pub put-field-spec : {M : Type 1} → statement M
 put-field-spec =
-    tie.close (tie.spec slice-write-out add-put-numeral put-numeral-requires same-length returns)
+    tie.close (tie.spec (λ c. search needs) (λ c. search needs) put-numeral-requires same-length returns)
