@@ -1,7 +1,7 @@
--- A table, some bytes on. Assumes nothing.
-use Prim.Native.Nat.{ℕ, zero, suc, _+_, _<_, _≤_}
-use mathlib.Core.Bool.{Bool, true, false, true≢false}
-use mathlib.Core.List.{List, [], _∷_, _++_, append-assoc, append-nil}
+-- A table after some more bytes. Assumes nothing.
+use Prim.Native.Nat.{ℕ, _+_, _<_, _≤_}
+use mathlib.Core.Bool.{Bool, true, false}
+use mathlib.Core.List.{List, [], _∷_, _++_, append-assoc}
 use mathlib.Core.Path.{_≡_, refl, sym, ap, ap₂, subst, _∙_}
 use native.Mathlib.Numerals.{add-one}
 use native.Mathlib.Omega.{arith}
@@ -25,12 +25,11 @@ use Rattle.listing_read.specs.declared.Scan.the-variants.{Start}
 use Rattle.listing_read.specs.Form.{linesOf, rowOf, placed, isOff}
 use Rattle.listing_read.specs.Bytes.{told, begun, Takes, kindsFrom}
 use Rattle.listing_read.proofs.Lines.{kinds-feed, kinds-byte}
-use Rattle.rows.specs.Text.{rowText, hasLarge}
+use Rattle.table_rows.specs.Text.{hasLarge}
 use Rattle.table_rows.proofs.Sizes.{row-short}
 use Rattle.table_blocks.specs.declared.Standing.{Standing}
 use Rattle.table_blocks.specs.declared.Standing.the-variants.{Going, Refused}
 use Rattle.table_blocks.specs.declared.Step.{Step}
-use Rattle.tabling.specs.declared.Portion.{Portion}
 use Rattle.table_blocks.specs.declared.End.{End}
 use Rattle.table_blocks.specs.Table.{Table, refusedBy, behind, stateRefusal, foundRefusal, refusalAt, foundText, atEnd, tableFrom}
 use Rattle.table_blocks.specs.Steps.{tableWith, Held, Stands, Fresh, Steps, Feeds, Tabled, Ends}
@@ -62,7 +61,7 @@ found-short : (f : Found) → foundRefusal f ≡ 0 → length (foundText f) ≤ 
 found-short None e = omega arith
 found-short (Is r) e = row-short r (state-fits r e .1)
 
--- ---- lines are no more than milliseconds
+-- ---- there are at most as many lines as milliseconds
 
 pub line-most : (p : Place) (n : ℕ) → Held p n → n ≤ endOfTime + 3
 line-most Top n h = omega arith
@@ -138,7 +137,8 @@ module _ (place : Place) (scan : Scan) (n : ℕ) (kind : Line) (q : Place) (f : 
       ∙ line-told place n l ls (sym at-line ∙ z)
       ∙ ap₂ (λ (x : Found) (p : Place). behind (foundText x) (tableFrom p (n + 1) ls)) (sym (g ∙ ap rowOf k)) (sym (e ∙ ap (placed place) k))
 
-  pub feeds-row : (before after : List ℕ) (at next : ℕ) → Held place n → r ≡ 0 → Wrote before at (foundText f) after next → Feeds (Going place scan n) before at after (record { standing = Going q Start (n + 1); next = next })
+  pub feeds-row : (before after : List ℕ) (at next : ℕ) → Held place n → r ≡ 0 → Wrote before at (foundText f) after next
+      → Feeds (Going place scan n) before at after (record { standing = Going q Start (n + 1); next = next })
   feeds-row before after at next h z w =
       let s : length (foundText f) ≤ 157 = found-short f (found-fits q f (sym m ∙ z)) in
       record {
@@ -177,7 +177,8 @@ module _ (place : Place) (scan : Scan) (n : ℕ) where
   unfolding tableWith
   byte-table b r e t rest = ap (tableFrom place n) (kinds-byte scan r b rest e t)
 
-  pub byte-steps : (b : ℕ) (r : Scan) (before : List ℕ) (at : ℕ) → Held place n → (b ≡ 10 → ⊥) → Takes scan b r → Steps (Going place scan n) (b ∷ []) before at before (record { standing = Going place r n; next = at })
+  pub byte-steps : (b : ℕ) (r : Scan) (before : List ℕ) (at : ℕ) → Held place n → (b ≡ 10 → ⊥) → Takes scan b r
+      → Steps (Going place scan n) (b ∷ []) before at before (record { standing = Going place r n; next = at })
   byte-steps b r before at h e t = record { text = []; wrote = nothing before at; table = λ rest. byte-table b r e t rest; short = omega arith; stands = going-stands place r n h }
 
 refused-with : (r n : ℕ) (a b : List ℕ) → tableWith (Refused r n) a ≡ behind [] (tableWith (Refused r n) b)

@@ -1,6 +1,6 @@
--- How a table is made byte by byte: where the reading stands, and what a portion of it is.
+-- How a table is made byte by byte: the stages of reading, and what a portion of it is.
 use Prim.Native.Nat.{ℕ, _+_, _≤_, _<_}
-use mathlib.Core.Bool.{Bool, true, false}
+use mathlib.Core.Bool.{false}
 use mathlib.Core.List.{List, [], _∷_, _++_}
 use mathlib.Core.Path.{_≡_}
 use lib.ListN.{length, take, drop}
@@ -17,12 +17,12 @@ use Rattle.table_blocks.specs.declared.Portion.{Portion}
 use Rattle.table_blocks.specs.declared.End.{End}
 use Rattle.table_blocks.specs.Table.{Table, refusedBy, behind, tableFrom}
 
--- what the rest of the text still gives
+-- the table of the rest of the text
 unfoldable pub tableWith : Standing → List ℕ → Table
 tableWith (Going place scan line) rest = tableFrom place line (kindsFrom scan rest)
 tableWith (Refused number line) rest = refusedBy number line
 
--- line n stands before a place: since moments rise, lines are no more than milliseconds
+-- line n comes before a stage. Moments rise, so there are no more lines than milliseconds.
 abbrev pub Held : Place → ℕ → Type 0
 Held Top n = n ≤ 1
 Held First n = n ≤ 2
@@ -34,12 +34,12 @@ unfoldable pub Stands : Standing → Type 0
 Stands (Going place scan line) = Held place line
 Stands (Refused number line) = 0 ≤ line
 
--- no byte of the line is read
+-- no byte of the line has been read
 unfoldable pub Fresh : Standing → Type 0
 Fresh (Going place scan line) = begun scan ≡ false
 Fresh (Refused number line) = 0 ≤ line
 
--- some bytes more: what is written of them, and where the reading stands then
+-- some more bytes: what is written for them, and the stage after them
 pub record Steps (from : Standing) (bytes before : List ℕ) (at : ℕ) (after : List ℕ) (s : Step) : Type 0 where
   pub text : List ℕ
   pub wrote : Wrote before at text after (s .next)
@@ -47,12 +47,13 @@ pub record Steps (from : Standing) (bytes before : List ℕ) (at : ℕ) (after :
   pub short : s .next ≤ at + 157
   pub stands : Stands (s .standing)
 
--- a line feed more
+-- one more line feed
 pub record Feeds (from : Standing) (before : List ℕ) (at : ℕ) (after : List ℕ) (s : Step) : Type 0 where
   pub steps : Steps from (10 ∷ []) before at after s
   pub fresh : Fresh (s .standing)
 
--- a portion: the rows of the bytes from a place of a block on, as many as there is room for. What stands in out afterwards and the table of the rest are the table before it
+-- a portion: the rows of the bytes from a place of a block on, as many as there is room for. The text in out afterwards and the table of
+-- the rest make up the table before it.
 pub record Tabled (block : List ℕ) (at : ℕ) (from : Standing) (before after : List ℕ) (p : Portion) : Type 0 where
   pub table : (rest : List ℕ) → tableWith from (drop at block ++ rest) ≡ behind (take (p .written) after) (tableWith (p .standing) (drop (p .at) block ++ rest))
   pub within : p .written ≤ length after

@@ -1,9 +1,10 @@
-// A table in portions that fit a lent buffer: inner functions of the program, which knows that the room is there.
+// A table in portions that fit a caller's buffer: inner functions of the program, which knows that there is room.
 
 use crate::End;
 use crate::Portion;
 use crate::Standing;
 use crate::Step;
+use crate::feed::to_line_end;
 use crate::refusal_at;
 use listing_read::Found;
 use listing_read::Place;
@@ -75,7 +76,7 @@ fn go_on(out: &mut [u8], at: usize, place: Place, scan: Scan, line: u64, b: u8) 
     }
 }
 
-// One byte on.
+// One byte further.
 fn take(out: &mut [u8], at: usize, standing: Standing, b: u8) -> Step
     requires { ⌜ Stands standing ⌝ }
     requires { ⌜ at + 157 ≤ length (now out) ⌝ }
@@ -90,7 +91,7 @@ fn take(out: &mut [u8], at: usize, standing: Standing, b: u8) -> Step
     }
 }
 
-// The rows of the bytes of a block from a place on, while there is room for one row more.
+// The rows of the bytes of a block from a place on, while there is room for one more row.
 pub fn portion(block: &[u8], from: usize, standing: Standing, out: &mut [u8]) -> Portion
     requires { ⌜ Stands standing ⌝ }
     ensures { λ r. ⌜ Tabled (now (block .entry)) from standing (now (out .entry)) (now (out .exit)) r ⌝ }
@@ -107,9 +108,11 @@ pub fn portion(block: &[u8], from: usize, standing: Standing, out: &mut [u8]) ->
             };
         }
         let step = take(out, at, s, block[i]);
-        s = step.standing;
+        let behind = step.standing;
         at = step.next;
-        i += 1;
+        let line = to_line_end(block, i + 1, behind);
+        s = line.standing;
+        i = line.at;
     }
     Portion {
         standing: s,

@@ -1,5 +1,6 @@
-// The table of a listing, made byte by byte: the first line that is refused decides, and the rows before it are written.
+// The table of a listing, made byte by byte. The first refused line decides, and the rows before it are written.
 
+mod feed;
 pub mod inner;
 
 use listing_read::Found;
@@ -12,10 +13,17 @@ ghost use mathlib.Core.Path.{_≡_};
 ghost use Rattle.table_blocks.specs.Table.{stateRefusal, foundRefusal, refusalAt};
 ghost use Rattle.table_blocks.specs.Steps.{opened};
 
-// Where the reading of a listing stands: at a place, with a scan of a line of that number; or refused, by a number and a line.
+// The stage of reading a listing: a place of the form, with a scan of the line of that number; or refused, with a
+// number and a line.
 pub enum Standing {
     Going(Place, Scan, u64),
     Refused(u64, u64),
+}
+
+// The stage of reading, and its place in the block.
+pub struct Ahead {
+    pub standing: Standing,
+    pub at: usize,
 }
 
 // The place after what was written.
@@ -24,7 +32,7 @@ pub struct Step {
     pub next: usize,
 }
 
-// The bytes written, and the place in the block behind them.
+// The bytes written, and the place in the block after them.
 pub struct Portion {
     pub standing: Standing,
     pub at: usize,
@@ -66,7 +74,7 @@ fn found_refusal(found: Found) -> u64
     }
 }
 
-// The number by which a line is refused that leads to a place, or 0.
+// The refusal number of a line that leads to a stage, or 0.
 pub fn refusal_at(place: Place, found: Found) -> u64
     ensures { λ r. ⌜ r ≡ refusalAt place found ⌝ }
 {

@@ -1,14 +1,14 @@
 -- `table_blocks::inner::portion` meets its contract. Assumes nothing.
-use Prim.Native.Nat.{_+_, _-_}
-use mathlib.Core.Path.{_≡_, refl, sym, ap, _∙_}
+use Prim.Native.Nat.{ℕ, _+_, _-_, _<_, _≤_}
+use mathlib.Core.Path.{_≡_, refl, _∙_}
 use native.Mathlib.Omega.{arith}
 use lib.ListN.{length}
+use denote.Ref.{now}
+use borrow.Author.Needs.{needs}
 use Rattle.table_blocks.proofs.Reading.{Made, begins, goes-on, tabled}
+use Rattle.table_blocks.proofs.Lines.{ahead-least, made-ahead}
 use Rattle.table_blocks.proofs.inner.portion.Statement.{statement}
 use Rattle.table_blocks.proofs.inner.portion.Tie as tie
-use Rattle.tabling.proofs.known.portion.Reads as reads
-use Rattle.tabling.proofs.known.portion.Lts as lts
-use Rattle.tabling.proofs.known.take.Reads as take-reads
 
 abbrev Inv-loop : tie.InvT-loop
 Inv-loop block from out₀ s₀ i₀ at₀ out s i at = (length out ≡ length out₀) × Made block from s₀ out₀ s i at out
@@ -16,38 +16,29 @@ Inv-loop block from out₀ s₀ i₀ at₀ out s i at = (length out ≡ length o
 abbrev μ-loop : tie.MeasureT-loop
 μ-loop block from out₀ s₀ i₀ at₀ out s i at = length block - i
 
-loop-holds : tie.Need-loop-holds Inv-loop μ-loop
-loop-holds c = (refl, begins _ _ _ _ (c .before .before .pre))
+-- from a place after i on
+nearer : (n i to : ℕ) → i < n → i + 1 ≤ to → n - to < n - i
+nearer n i to h l = omega arith
+
+one-behind : (from i : ℕ) → from ≤ i → from < i + 1
+one-behind from i h = omega arith
 
 add-if1 : tie.Need-add-if1 Inv-loop μ-loop
 add-if1 c = let w = c .before .loop .inv .1 .within in omega (arith, c .before .loop .inv .0, c .before .before .before .before .good)
 
-same-length : tie.Need-same-length Inv-loop μ-loop
-same-length c = c .before .before .loop .inv .0
-
-returns : tie.Need-returns Inv-loop μ-loop
-returns c = tabled _ _ _ _ _ _ _ _ (c .before .before .loop .inv .1) (λ h. c .if1 .taken)
-
-shared-slice-read-take : tie.Need-shared-slice-read-take Inv-loop μ-loop
-shared-slice-read-take c = omega (arith, c .before .before .before .loop-test .taken)
-
-take-requires : tie.Need-take-requires Inv-loop μ-loop
-take-requires c κs = (c .before .before .before .before .loop .inv .1 .stands, c .before .before .if1 .left)
-
-add-i : tie.Need-add-i Inv-loop μ-loop
-add-i c = omega arith
-
 loop-less : tie.Need-loop-less Inv-loop μ-loop
-loop-less c = omega (arith, c .before .before .before .before .before .before .loop-test .taken)
+loop-less c =
+    let test = c .before .before .before .before .before .before .before in
+    let block = now (test .before .before .before .before .args .block) in
+    rw (c .to-line-end .ensures) (nearer (length block) (test .before .loop .i) _ (test .loop-test .taken) (ahead-least block (test .before .loop .i + 1) _))
 
 loop-again : tie.Need-loop-again Inv-loop μ-loop
-loop-again c = (c .before .before .take .kept .0 ∙ c .before .before .before .before .before .before .before .loop .inv .0, goes-on _ _ _ _ _ _ _ _ (c .before .before .before .before .before .before .before .loop .inv .1) _ _ (c .before .before .before .before .before .before .loop-test .taken) (c .before .before .take .ensures))
-
-same-length-2 : tie.Need-same-length-2 Inv-loop μ-loop
-same-length-2 c = c .before .loop .inv .0
-
-returns-2 : tie.Need-returns-2 Inv-loop μ-loop
-returns-2 c = tabled _ _ _ _ _ _ _ _ (c .before .loop .inv .1) (λ h. absurd (omega (arith, c .loop-test .left)))
+loop-again c =
+    let taken = c .before .before .before in
+    let test = taken .before .before .before .before in
+    let loop = test .before in
+    let m = goes-on _ _ _ _ _ _ _ _ (loop .loop .inv .1) _ _ (test .loop-test .taken) (taken .take .ensures) in
+    (taken .take .kept .0 ∙ loop .loop .inv .0, rw (c .to-line-end .ensures) (made-ahead _ _ _ _ _ _ _ _ (one-behind _ _ (loop .loop .inv .1 .least)) m))
 
 pub portion-spec : {M : Type 1} → statement M
 portion-spec =
@@ -55,14 +46,15 @@ portion-spec =
     (tie.spec
     Inv-loop
     μ-loop
-    loop-holds
+    (λ c. (refl, begins _ _ _ _ (c .before .before .pre)))
     add-if1
-    same-length
-    returns
-    shared-slice-read-take
-    take-requires
-    add-i
+    (λ c. c .before .before .loop .inv .0)
+    (λ c. tabled _ _ _ _ _ _ _ _ (c .before .before .loop .inv .1) (λ h. c .if1 .taken))
+    (λ c. omega (arith, c .before .before .before .loop-test .taken))
+    (λ c κs. (c .before .before .before .before .loop .inv .1 .stands, c .before .before .if1 .left))
+    (λ c. omega arith)
+    (λ c κs. search needs)
     loop-less
     loop-again
-    same-length-2
-    returns-2)
+    (λ c. c .before .loop .inv .0)
+    (λ c. tabled _ _ _ _ _ _ _ _ (c .before .loop .inv .1) (λ h. absurd (omega (arith, c .loop-test .left)))))
