@@ -2,7 +2,7 @@
 -- been written." Assumes nothing.
 use Prim.Native.Nat.{ℕ, zero, suc, _+_, _<_, _≤_}
 use mathlib.Core.Bool.{Bool, true, false}
-use mathlib.Core.List.{List, [], _∷_, _++_, append-assoc, append-nil}
+use mathlib.Core.List.{List, [], _∷_, _++_}
 use mathlib.Core.Path.{_≡_, refl, sym, ap, ap₂, _∙_}
 use native.Mathlib.Omega.{arith}
 use borrow.Author.Tests.{eq-eqb, ne-eqb, lt-ltb, le-ltb, eqb-true, eqb-false}
@@ -17,10 +17,10 @@ use Rattle.listing_read.specs.declared.Found.the-variants.{Is, None}
 use Rattle.listing_read.specs.declared.Place.{Place}
 use Rattle.listing_read.specs.declared.Place.the-variants.{Top, First, After, Done, Off}
 use Rattle.listing_read.specs.Form.{kindsOf, rowOf, foundRows, placed, isOff, refusedFrom, formRefusal, rowsOf, rowsIn}
-use Rattle.rows.specs.Text.{heading, rowText, hasLarge}
-use Rattle.tabling.specs.Table.{Table, over, refusedBy, behind, foundRefusal, refusalAt, foundText, atEnd, tableFrom, tableOf, refusalText, written, told}
+use Rattle.table_rows.specs.Text.{heading}
+use Rattle.table_blocks.specs.Table.{Table, over, refusedBy, behind, foundRefusal, refusalAt, foundText, tableFrom, tableOf, refusalText, written, told}
 use Rattle.table_blocks.proofs.Reading.{line-told, line-refused}
-use Rattle.tabled.specs.Laws.{rowsText, foundLarge, largeFrom, comesFirst, decided, refusalOf, linesBefore, firstLarge, refusalIn}
+use Rattle.table_laws.specs.Laws.{rowsText, foundLarge, largeFrom, decided, refusalOf, linesBefore, firstLarge, refusalIn}
 use Rattle.table_laws.proofs.Ranges.{InRange, AllInRange, all-in-range}
 
 -- ---- a line more
@@ -50,7 +50,7 @@ abbrev InRangeFound : Found → Type 0
 InRangeFound None = Unit {0}
 InRangeFound (Is r) = r .moment < endOfTime
 
--- a line in range is refused by 13 where it is not of the form, else by 17 where a component is large
+-- a line in range is refused with 13 if it is not of the form, else with 17 if a component is large
 by-large : (f : Found) (b : Bool) → foundLarge f ≡ b → InRangeFound f → foundRefusal f ≡ (if b then 17 else 0)
 by-large None b e h = rw (sym e)
 by-large (Is r) b e h = rw (lt-ltb (r .moment) endOfTime h, e)

@@ -2,17 +2,18 @@
 use Prim.Native.Nat.{ℕ, zero, suc, _+_, _-_, _*_, _<_, _≤_}
 use mathlib.Core.Bool.{Bool, true, false, _&&_}
 use mathlib.Core.List.{List, [], _∷_, map}
-use mathlib.Core.Path.{_≡_, refl, sym, ap, _∙_}
+use mathlib.Core.Path.{_≡_, refl, ap}
 use native.Mathlib.Omega.{arith}
 use borrow.Author.Tests.{ltb-true, leb-true}
 use lib.Dec.{ltb, leb, eqb}
 use Rattle.base.specs.Choice.{if_then_else_}
 use Rattle.base.specs.Limits.{endOfTime, isMoment}
-use Rattle.listing.specs.Lines.{stripWord, arrivedWord, refusedWord}
+use Rattle.listing_words.specs.Words.{stripWord, arrivedWord, refusedWord}
 use Rattle.listing_read.specs.declared.Row.{Row}
 use Rattle.listing_read.specs.declared.Line.{Line}
 use Rattle.listing_read.specs.declared.Line.the-variants as line
-use Rattle.reader.specs.Line.{isDecimal, hexValue, word, nothing, digits, number, headerLine, arrivedLine, refusedLine, appended, finiteBits, component, pushed, components, blank, momentFrom, stateLine, kindOf}
+use Rattle.listing_read.specs.Line.{isDecimal, hexValue, word, nothing, digits, number, headerLine, arrivedLine, refusedLine, appended, finiteBits}
+use Rattle.listing_read.specs.Line.{component, pushed, components, blank, momentFrom, stateLine, kindOf}
 use Rattle.listing_read.specs.Form.{linesOf, kindsOf}
 
 abbrev pub InRange : Line → Type 0

@@ -1,5 +1,5 @@
 -- What the program writes, portion after portion, is the table of the text that it reads, however the text is cut into blocks. Assumes nothing.
-use Prim.Native.Nat.{ℕ, _≤_}
+use Prim.Native.Nat.{ℕ}
 use mathlib.Core.List.{List, [], _∷_, _++_, append-assoc, append-nil}
 use mathlib.Core.Path.{_≡_, refl, sym, ap, _∙_}
 use lib.ListN.{length, take, drop, drop-of-length-le}
@@ -13,7 +13,7 @@ use Rattle.table_blocks.specs.Steps.{tableWith, opened}
 use Rattle.table_blocks.proofs.Reading.{behind-behind}
 use Rattle.table_laws.specs.Laws.{Part, Block, bytesOf, partsText, blocksText, standingAfter, standingBehind, Portions, Blocks, MayStop, Printing, output, errors}
 
--- the heading, before any line is judged, and the table of all of the text behind it
+-- the heading, before any line is checked, and then the table of the whole text
 pub opened-all : (text : List ℕ) → tableOf text ≡ behind heading (tableWith opened text)
 unfolding tableOf tableWith
 opened-all text = ap (λ ks. behind heading (tableFrom Top 1 ks)) (sym (kinds-start text))
@@ -40,7 +40,7 @@ blocks-whole s (b ∷ bs) h rest =
     ∙ ap (behind t) (blocks-whole s' bs (h .1) rest)
     ∙ behind-behind t (blocksText bs) (tableWith (standingBehind s' bs) rest)
 
--- rows are written as the text is read: whatever follows the blocks, its table begins with the heading and the rows of their portions
+-- rows are written as the text is read: for every rest of the text, its table begins with the heading and the rows of the portions
 pub so-far : (bs : List Block) → Blocks opened bs → (rest : List ℕ)
     → tableOf (bytesOf bs ++ rest) ≡ behind (heading ++ blocksText bs) (tableWith (standingBehind opened bs) rest)
 so-far bs h rest =
@@ -48,7 +48,7 @@ so-far bs h rest =
     ∙ ap (behind heading) (blocks-whole opened bs h rest)
     ∙ behind-behind heading (blocksText bs) (tableWith (standingBehind opened bs) rest)
 
--- where reading stops the rest of the text gives nothing
+-- after reading stops, the rest of the text gives nothing
 nothing-more : (s : Standing) (left : List ℕ) → MayStop s left → tableWith s left ≡ tableWith s []
 unfolding tableWith
 nothing-more (Going place scan line) left h = rw h
@@ -61,11 +61,13 @@ module _ (text : List ℕ) (p : Printing text) where
       let t = heading ++ blocksText (p .blocks) in
       let e = p .ends in
       let last = take (p .end .next) (p .after) in
+      let front : take (p .behind-it) (p .first-row) ≡ heading = p .headed .bytes in
       ap tableOf (p .read)
       ∙ so-far (p .blocks) (p .portions) (p .left)
       ∙ ap (behind t) (nothing-more s (p .left) (p .stops) ∙ e .table ∙ ap (λ (l : List ℕ). behind l (refusedBy (p .end .number) (p .end .line))) (sym (e .wrote .bytes)))
       ∙ behind-behind t last (refusedBy (p .end .number) (p .end .line))
-      ∙ ap (λ (l : List ℕ). behind l (refusedBy (p .end .number) (p .end .line))) (append-assoc heading (blocksText (p .blocks)) last)
+      ∙ ap (λ (l : List ℕ). behind l (refusedBy (p .end .number) (p .end .line)))
+      (append-assoc heading (blocksText (p .blocks)) last ∙ ap (λ (h : List ℕ). h ++ (blocksText (p .blocks) ++ last)) (sym front))
 
   -- "rows before it have been written"
   pub all-written : output p ≡ written text

@@ -1,4 +1,4 @@
--- What the laws of a table speak of: the program's blocks and portions, one after the other.
+-- Definitions for the laws of a table: the blocks and portions of the program, one after the other.
 use Prim.Native.Nat.{ℕ, _+_, _≤_}
 use mathlib.Core.Bool.{Bool, true, false}
 use mathlib.Core.List.{List, [], _∷_, _++_}
@@ -19,13 +19,13 @@ use Rattle.table_blocks.specs.declared.End.{End}
 use Rattle.table_blocks.specs.Table.{Table, over, refusedBy, refusalText}
 use Rattle.table_blocks.specs.Steps.{Tabled, Ends, opened}
 
--- a portion: the lent buffer before it and after it, and what the call answered
+-- a portion: the caller's buffer before it and after it, and the result of the call
 pub record Part : Type 0 where
   pub before : List ℕ
   pub after : List ℕ
   pub answer : Portion
 
--- a block that was read, and the portions of it
+-- a block that was read, and its portions
 pub record Block : Type 0 where
   pub bytes : List ℕ
   pub parts : List Part
@@ -35,7 +35,7 @@ abbrev pub bytesOf : List Block → List ℕ
 bytesOf [] = []
 bytesOf (b ∷ bs) = b .bytes ++ bytesOf bs
 
--- the texts that are written of a block, and of all blocks
+-- the texts written for a block, and for all blocks
 abbrev pub partsText : List Part → List ℕ
 partsText [] = []
 partsText (p ∷ ps) = take (p .answer .written) (p .after) ++ partsText ps
@@ -44,7 +44,7 @@ abbrev pub blocksText : List Block → List ℕ
 blocksText [] = []
 blocksText (b ∷ bs) = partsText (b .parts) ++ blocksText bs
 
--- where the reading stands behind the portions of a block, and behind all blocks
+-- the stage after the portions of a block, and after all blocks
 abbrev pub standingAfter : Standing → List Part → Standing
 standingAfter s [] = s
 standingAfter s (p ∷ ps) = standingAfter (p .answer .standing) ps
@@ -58,18 +58,22 @@ abbrev pub Portions : List ℕ → ℕ → Standing → List Part → Type 0
 Portions block at s [] = length block ≤ at
 Portions block at s (p ∷ ps) = Tabled block at s (p .before) (p .after) (p .answer) × Portions block (p .answer .at) (p .answer .standing) ps
 
--- the first portion of each block from its first byte, and from where the reading stood behind the block before
+-- the first portion of each block starts at its first byte, and at the stage after the block before
 abbrev pub Blocks : Standing → List Block → Type 0
 Blocks s [] = Unit {0}
 Blocks s (b ∷ bs) = Portions (b .bytes) 0 s (b .parts) × Blocks (standingAfter s (b .parts)) bs
 
--- reading stops at the end of the text, or where a line was refused
+-- reading stops at the end of the text, or after a refused line
 abbrev pub MayStop : Standing → List ℕ → Type 0
 MayStop (Going place scan line) left = left ≡ []
 MayStop (Refused number line) left = Unit {0}
 
--- a whole run of the program on a text, cut into blocks in any way: the blocks, the bytes that were not read, the end and the refusal
+-- a whole run of the program on a text, cut into blocks in any way: the heading, the blocks, the bytes that were not read, the end and the refusal
 pub record Printing (text : List ℕ) : Type 0 where
+  pub blank : List ℕ
+  pub first-row : List ℕ
+  pub behind-it : ℕ
+  pub headed : Wrote blank 0 heading first-row behind-it
   pub blocks : List Block
   pub left : List ℕ
   pub read : text ≡ bytesOf blocks ++ left
@@ -86,7 +90,7 @@ pub record Printing (text : List ℕ) : Type 0 where
 
 -- what goes to standard output: the heading, the portions, the end; and to standard error
 abbrev pub output : {text : List ℕ} → Printing text → List ℕ
-output p = heading ++ (blocksText (p .blocks) ++ take (p .end .next) (p .after))
+output p = take (p .behind-it) (p .first-row) ++ (blocksText (p .blocks) ++ take (p .end .next) (p .after))
 
 abbrev pub errors : {text : List ℕ} → Printing text → List ℕ
 errors p = take (p .next) (p .refusal)
@@ -96,7 +100,7 @@ abbrev pub rowsText : List Row → List ℕ
 rowsText [] = []
 rowsText (r ∷ rs) = rowText r ++ rowsText rs
 
--- "a magnitude of 10^12 or more": the line of the first state that has one, from line n on; 0 where none has
+-- "a magnitude of 10^12 or more": the line of the first state that has one, from line n on; 0 if none has
 abbrev pub foundLarge : Found → Bool
 foundLarge None = false
 foundLarge (Is r) = hasLarge r
@@ -105,7 +109,7 @@ unfoldable pub largeFrom : ℕ → List Line → ℕ
 largeFrom n [] = 0
 largeFrom n (l ∷ ls) = if foundLarge (rowOf l) then n else largeFrom (n + 1) ls
 
--- of two line numbers, 0 for none, the first stands before the second
+-- of two line numbers, 0 for none: the first comes before the second
 abbrev pub comesFirst : ℕ → ℕ → Bool
 comesFirst g f = if g =? 0 then false else if f =? 0 then true else g <? f
 
@@ -116,12 +120,12 @@ decided f g = if comesFirst g f then refusedBy 17 g else if f =? 0 then over els
 abbrev pub refusalOf : Table → Table
 refusalOf t = refusedBy (t .number) (t .line)
 
--- the lines from line n on that stand before a line; all of them where that is 0
+-- the lines from line n on that come before a line; all of them if that is 0
 unfoldable pub linesBefore : ℕ → ℕ → List Line → List Line
 linesBefore line n [] = []
 linesBefore line n (l ∷ ls) = if n =? line then [] else l ∷ linesBefore line (n + 1) ls
 
--- the refusal of a text: R-1's and that of a large magnitude, of which the first line decides
+-- the refusal of a text: that of R-1 or that of a large magnitude; the first line decides
 abbrev pub firstLarge : List ℕ → ℕ
 firstLarge text = largeFrom 1 (kindsOf text)
 
