@@ -7,7 +7,7 @@ use native.Mathlib.Omega.{arith}
 use lib.ListN.{length}
 use borrow.Author.Tests.{ltb-false, eq-eqb, ne-eqb}
 use Rattle.base.specs.Choice.{if_then_else_, _<?_}
-use Rattle.mend.specs.Repaired.{repairRefusal, told, mended, repairAnswer, outputAfter, fatesAfter, repairOutcome}
+use Rattle.repair_book.specs.Repaired.{repairRefusal, outcomeOf, mended, repairAnswer, outputAfter, fatesAfter, repairOutcome}
 use Rattle.repair_book.specs.declared.RepairAnswer.the-variants.{Refused}
 
 by-tests : (x y z : Bool) → _≡_ {A = ℕ} (if x || y then 16 else if z then 1 else 0) 0 → (x ≡ false) × (y ≡ false) × (z ≡ false)
@@ -26,6 +26,6 @@ module _ (b out fates : List ℕ) where
   unfolding repairAnswer outputAfter fatesAfter
   none-refused h = rw (eq-eqb (repairRefusal (length b) (length out)) 0 h)
 
-  pub refused-by : (refusal : ℕ) → refusal ≡ repairRefusal (length b) (length out) → (refusal ≡ 0 → ⊥) → told (Refused refusal) out fates ≡ repairOutcome b out fates
+  pub refused-by : (refusal : ℕ) → refusal ≡ repairRefusal (length b) (length out) → (refusal ≡ 0 → ⊥) → outcomeOf (Refused refusal) out fates ≡ repairOutcome b out fates
   unfolding repairAnswer outputAfter fatesAfter
   refused-by refusal h n = rw (ne-eqb (repairRefusal (length b) (length out)) 0 (λ z. n (h ∙ z)), h)

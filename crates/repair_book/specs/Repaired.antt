@@ -1,5 +1,5 @@
--- Document 02, R-10, "Save what can be saved of a damaged book": the whole answer, the output and the fates afterwards, from the
--- input's bytes and the output's length.
+-- Document 02, R-10, "Save what can be saved of a damaged book": the answer, and the output and the fates afterwards. They depend on the
+-- bytes of the input and the length of the output.
 use Prim.Native.Nat.{ℕ, min}
 use mathlib.Core.Bool.{_||_}
 use mathlib.Core.List.{List, []}
@@ -14,7 +14,7 @@ use Rattle.repair_book.specs.Report.{reportOf}
 use Rattle.repair_book.specs.declared.RepairAnswer.{RepairAnswer}
 use Rattle.repair_book.specs.declared.RepairAnswer.the-variants.{Written, Refused}
 
--- "Refusals: input or output of fewer than 8 bytes is 16, then input above the limit is 1"; 0 where there is none
+-- "Refusals: input or output of fewer than 8 bytes is 16, then input above the limit is 1"; 0 if there is none
 abbrev pub repairRefusal : ℕ → ℕ → ℕ
 repairRefusal input output =
     if (input <? 8) || (output <? 8) then 16 else
@@ -28,11 +28,11 @@ roomOf output = min output longestBook
 unfoldable pub repaired : List ℕ → ℕ → List ℕ → Sofar
 repaired b room fates = forward b room (record { kept = []; fates = reasons b (lookedAt b) fates }) (ordered b (lookedAt b))
 
--- which entries are kept does not hang on the fates' places
+-- which entries are kept does not depend on the fates before the call
 abbrev pub keptOf : List ℕ → ℕ → List ℕ
 keptOf b room = repaired b room [] .kept
 
--- the answer, from the output's length alone; then the output and the fates afterwards, where a refusal leaves both as they are
+-- the answer, by the length of the output; then the output and the fates afterwards. A refusal leaves both unchanged.
 unfoldable pub repairAnswer : List ℕ → ℕ → RepairAnswer
 repairAnswer b output =
     if repairRefusal (length b) output =? 0 then Written (reportOf b (keptOf b (roomOf output))) else Refused (repairRefusal (length b) output)
@@ -45,20 +45,20 @@ unfoldable pub fatesAfter : List ℕ → ℕ → List ℕ → List ℕ
 fatesAfter b output fates =
     if repairRefusal (length b) output =? 0 then repaired b (roomOf output) fates .fates else fates
 
--- what a caller has of a call: its answer, and what the lent output and the lent fates hold afterwards
+-- the result of a call for its caller: its answer, and the output and the fates afterwards
 pub record Outcome : Type 0 where
   pub answer : RepairAnswer
   pub output : List ℕ
   pub fates : List ℕ
 
-abbrev pub told : RepairAnswer → List ℕ → List ℕ → Outcome
-told answer output fates = record { answer = answer; output = output; fates = fates }
+abbrev pub outcomeOf : RepairAnswer → List ℕ → List ℕ → Outcome
+outcomeOf answer output fates = record { answer = answer; output = output; fates = fates }
 
 abbrev pub repairOutcome : List ℕ → List ℕ → List ℕ → Outcome
-repairOutcome b out fates = told (repairAnswer b (length out)) (outputAfter b out) (fatesAfter b (length out) fates)
+repairOutcome b out fates = outcomeOf (repairAnswer b (length out)) (outputAfter b out) (fatesAfter b (length out) fates)
 
--- the same of a call that is not refused, as the code has it
+-- the same for a call that is not refused, as the code has it
 abbrev pub mended : List ℕ → List ℕ → List ℕ → Outcome
 mended b out fates =
     let kept = keptOf b (roomOf (length out)) in
-    told (Written (reportOf b kept)) (withText out 0 (bookAnew b kept)) (repaired b (roomOf (length out)) fates .fates)
+    outcomeOf (Written (reportOf b kept)) (withText out 0 (bookAnew b kept)) (repaired b (roomOf (length out)) fates .fates)

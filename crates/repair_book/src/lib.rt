@@ -2,24 +2,24 @@
 
 mod marks;
 
-use anew::known::write_book;
 use book::LONGEST_BOOK;
+use marks::report;
 use repair_choose::Kept;
 use repair_choose::inner::go_forward;
 use repair_sort::inner::looked_at;
 use repair_sort::inner::put_in_order;
-use marks::report;
+use repair_write::inner::write_book;
 ghost use mathlib.Core.Path.{_≡_};
 ghost use Prim.Native.Nat.{_≤_};
 ghost use lib.ListN.{length};
 ghost use Rattle.repair_choose.specs.Sized.{held, Sized};
-ghost use Rattle.mend.specs.Repaired.{repairRefusal, roomOf, repaired, told, mended, repairOutcome};
+ghost use Rattle.repair_book.specs.Repaired.{repairRefusal, roomOf, repaired, outcomeOf, mended, repairOutcome};
 ghost use Rattle.repair_book.specs.declared.RepairAnswer.the-variants.{Written};
 
 // As many as the longest book can have in its contents.
 pub const MOST_ENTRIES: usize = repair_sort::MOST_ENTRIES;
 
-// Fates: an entry that is kept has its new number, which is below MOST_ENTRIES.
+// Fates: the fate of a kept entry is its new number, which is below MOST_ENTRIES.
 pub const FIELDS: u16 = repair_sort::FIELDS;
 
 pub const BLOCK: u16 = repair_sort::BLOCK;
@@ -38,7 +38,7 @@ pub struct Changed {
 }
 
 pub struct Report {
-    // Entries looked at: so many fates are told.
+    // Entries looked at: the number of fates written.
     pub looked: usize,
     pub kept: usize,
     // Bytes of the book written.
@@ -76,7 +76,7 @@ fn room_of(output: usize) -> usize
     }
 }
 
-// Which entries are kept, and the fates of all; `order` and `kept` are room for entry numbers.
+// Chooses the entries to keep, and writes the fates of all. `order` and `kept` are room for entry numbers.
 fn choose(input: &[u8], room: usize, fates: &mut [u16], order: &mut [u16], kept: &mut [u16]) -> Kept
     requires { ⌜ (8 ≤ length (now input)) × (length (now input) ≤ 61_440) × (8 ≤ room) × (room ≤ 61_440) ⌝ }
     requires { ⌜ (2559 ≤ length (now fates)) × (2559 ≤ length (now order)) × (2559 ≤ length (now kept)) ⌝ }
@@ -96,7 +96,7 @@ fn mend_by(
 ) -> Report
     requires { ⌜ (8 ≤ length (now input)) × (length (now input) ≤ 61_440) × (8 ≤ length (now output)) ⌝ }
     requires { ⌜ (2559 ≤ length (now fates)) × (2559 ≤ length (now order)) × (2559 ≤ length (now kept)) ⌝ }
-    ensures { λ r. ⌜ told (Written r) (now (output .exit)) (now (fates .exit)) ≡ mended (now (input .entry)) (now (output .entry)) (now (fates .entry)) ⌝ }
+    ensures { λ r. ⌜ outcomeOf (Written r) (now (output .exit)) (now (fates .exit)) ≡ mended (now (input .entry)) (now (output .entry)) (now (fates .entry)) ⌝ }
 {
     let chosen = choose(input, room_of(output.len()), fates, order, kept);
     let count = chosen.count;
@@ -107,7 +107,7 @@ fn mend_by(
 fn mend(input: &[u8], output: &mut [u8], fates: &mut [u16]) -> Report
     requires { ⌜ (8 ≤ length (now input)) × (length (now input) ≤ 61_440) × (8 ≤ length (now output)) ⌝ }
     requires { ⌜ 2559 ≤ length (now fates) ⌝ }
-    ensures { λ r. ⌜ told (Written r) (now (output .exit)) (now (fates .exit)) ≡ mended (now (input .entry)) (now (output .entry)) (now (fates .entry)) ⌝ }
+    ensures { λ r. ⌜ outcomeOf (Written r) (now (output .exit)) (now (fates .exit)) ≡ mended (now (input .entry)) (now (output .entry)) (now (fates .entry)) ⌝ }
 {
     let mut order = [0u16; MOST_ENTRIES];
     let mut kept = [0u16; MOST_ENTRIES];
@@ -115,7 +115,7 @@ fn mend(input: &[u8], output: &mut [u8], fates: &mut [u16]) -> Report
 }
 
 pub fn repair(input: &[u8], output: &mut [u8], fates: &mut [u16; MOST_ENTRIES]) -> RepairAnswer
-    ensures { λ r. ⌜ told r (now (output .exit)) (now (fates .exit)) ≡ repairOutcome (now (input .entry)) (now (output .entry)) (now (fates .entry)) ⌝ }
+    ensures { λ r. ⌜ outcomeOf r (now (output .exit)) (now (fates .exit)) ≡ repairOutcome (now (input .entry)) (now (output .entry)) (now (fates .entry)) ⌝ }
 {
     let refusal = refusal_of(input.len(), output.len());
     if refusal == 0 {

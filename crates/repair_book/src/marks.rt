@@ -2,7 +2,7 @@
 
 use crate::Changed;
 use crate::Report;
-use book::bytes::u32_at;
+use base_bytes::inner::u32_at;
 use book::inner::offset_of;
 use book::inner::size_of;
 use repair_sort::inner::looked_at;

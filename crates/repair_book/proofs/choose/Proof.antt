@@ -2,7 +2,7 @@
 use native.Mathlib.Omega.{arith}
 use mathlib.Core.Path.{sym, _∙_}
 use denote.Ref.{now}
-use Prim.Native.Nat.{_-_, _≤_}
+use Prim.Native.Nat.{_≤_}
 use lib.Seq.{length-take-le}
 use Rattle.repair_sort.proofs.Sounds.{ordered-length, ordered-sound}
 use Rattle.repair_book.proofs.Chosen.{from-none}
@@ -19,15 +19,6 @@ few c =
       c .before .before .before .looked-at .ensures,
     )
 
-looked-at-requires : tie.Need-looked-at-requires
-looked-at-requires c κs = search needs
-
-put-in-order-requires : tie.Need-put-in-order-requires
-put-in-order-requires c κs = search needs
-
-slice-reshare-prefix-go-forward : tie.Need-slice-reshare-prefix-go-forward
-slice-reshare-prefix-go-forward c = let f = few (c .before .before .before .before) in let l = c .before .before .before .before .put-in-order .kept .1 .1 .0 in omega arith
-
 slice-aggregate-go-forward : tie.Need-slice-aggregate-go-forward
 slice-aggregate-go-forward c =
     let f = few (c .before .before .before .before .before) in
@@ -36,29 +27,24 @@ slice-aggregate-go-forward c =
 
 go-forward-requires : tie.Need-go-forward-requires
 go-forward-requires c κs =
-    let f = few (c .before .before .before .before .before .before .before) in
-    let l = c .before .before .before .before .before .before .before .put-in-order .kept .1 .1 .0 in
-    let m = c .before .before .before .before .before .before .before .put-in-order .kept .1 .1 .1 .0 in
-    let t = length-take-le (c .before .before .before .before .before .before .before .put-in-order .result) (c .before .before .before .before .before .before .before .put-in-order .last .1 .1 .0) (omega arith) in (
+    let at = c .before .before .before .before .before .before .before in let sorted = at .put-in-order in
+    let looked = at .before .before .before .looked-at in let input = at .before .before .before .before .before .before .before .before .args .input in
+    let f = few at in let l = sorted .kept .1 .1 .0 in let m = sorted .kept .1 .1 .1 .0 in
+    let t = length-take-le (sorted .result) (sorted .last .1 .1 .0) (omega arith) in (
       (omega arith, omega arith, omega arith, omega arith, omega arith),
-      (omega arith, rw (c .before .before .before .before .before .before .before .put-in-order .ensures .0 .entries) (ordered-sound (now (c .before .before .before .before .before .before .before .before .before .before .before .before .before .before .before .args .input)) (c .before .before .before .before .before .before .before .before .before .before .looked-at .result) (omega (arith, c .before .before .before .before .before .before .before .before .before .before .looked-at .ensures)))),
+      (omega arith, rw (sorted .ensures .0 .entries) (ordered-sound (now input) (looked .result) (omega (arith, looked .ensures)))),
     )
-
-same-length : tie.Need-same-length
-same-length c = search needs
-
-same-length-2 : tie.Need-same-length-2
-same-length-2 c = search needs
-
-same-length-3 : tie.Need-same-length-3
-same-length-3 c = search needs
 
 returns : tie.Need-returns
 returns c =
     let n = c .before .before .before .before .before .before .before .before .before .before .before .before .before .before .before .looked-at .ensures in (
       c .before .before .before .before .go-forward .ensures .0,
       c .before .before .before .before .go-forward .ensures .1
-          ∙ from-none (now (c .before .before .before .before .before .before .before .before .before .before .before .before .before .before .before .before .before .before .before .before .args .input)) (c .before .before .before .before .before .before .before .before .before .before .before .before .before .before .before .before .before .before .before .before .args .room) (now (c .before .before .before .before .before .before .before .before .before .before .before .before .before .before .before .before .before .before .before .before .args .kept)) (now (c .before .before .before .before .before .before .before .before .before .before .before .before .before .before .before .before .before .before .before .before .args .fates)) _ _
+          ∙ from-none
+          (now (c .before .before .before .before .before .before .before .before .before .before .before .before .before .before .before .before .before .before .before .before .args .input))
+          (c .before .before .before .before .before .before .before .before .before .before .before .before .before .before .before .before .before .before .before .before .args .room)
+          (now (c .before .before .before .before .before .before .before .before .before .before .before .before .before .before .before .before .before .before .before .before .args .kept))
+          (now (c .before .before .before .before .before .before .before .before .before .before .before .before .before .before .before .before .before .before .before .before .args .fates)) _ _
           (rw n at (c .before .before .before .before .before .before .before .before .before .before .before .before .put-in-order .ensures .1))
           (rw n at (c .before .before .before .before .before .before .before .before .before .before .before .before .put-in-order .ensures .0 .entries)),
     )
@@ -67,12 +53,12 @@ pub choose-spec : {M : Type 1} → statement M
 choose-spec =
     tie.close
     (tie.spec
-    looked-at-requires
-    put-in-order-requires
-    slice-reshare-prefix-go-forward
+    (λ c κs. search needs)
+    (λ c κs. search needs)
+    (λ c. let f = few (c .before .before .before .before) in let l = c .before .before .before .before .put-in-order .kept .1 .1 .0 in omega arith)
     slice-aggregate-go-forward
     go-forward-requires
-    same-length
-    same-length-2
-    same-length-3
+    (λ c. search needs)
+    (λ c. search needs)
+    (λ c. search needs)
     returns)

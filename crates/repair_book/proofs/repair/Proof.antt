@@ -8,24 +8,25 @@ use borrow.Author.Needs.{needs}
 use Rattle.repair_book.proofs.repair.Statement.{statement}
 use Rattle.repair_book.proofs.repair.Tie as tie
 
-refusal-of-requires : tie.Need-refusal-of-requires
-refusal-of-requires c κs = search needs
-
 mend-requires : tie.Need-mend-requires
 mend-requires c κs =
-    let n = refused-none (length (now (c .before .before .before .before .before .before .args .input))) (length (now (c .before .before .before .before .before .before .args .output))) (sym (c .before .before .before .refusal-of .ensures) ∙ c .before .before .if1 .taken) in
+    let n =
+    refused-none (length (now (c .before .before .before .before .before .before .args .input)))
+    (length (now (c .before .before .before .before .before .before .args .output))) (sym (c .before .before .before .refusal-of .ensures) ∙ c .before .before .if1 .taken) in
     ((omega arith, omega arith, omega arith), search needs)
-
-same-length : tie.Need-same-length
-same-length c = search needs
 
 returns : tie.Need-returns
 returns c =
     c .before .before .mend .ensures
-    ∙ none-refused (now (c .before .before .before .before .before .before .before .before .before .args .input)) (now (c .before .before .before .before .before .before .before .before .before .args .output)) (now (c .before .before .before .before .before .before .before .before .before .args .fates)) (sym (c .before .before .before .before .before .before .refusal-of .ensures) ∙ c .before .before .before .before .before .if1 .taken)
+    ∙ none-refused (now (c .before .before .before .before .before .before .before .before .before .args .input))
+    (now (c .before .before .before .before .before .before .before .before .before .args .output)) (now
+    (c .before .before .before .before .before .before .before .before .before .args .fates)) (sym (c .before .before .before .before .before .before .refusal-of .ensures)
+    ∙ c .before .before .before .before .before .if1 .taken)
 
 returns-2 : tie.Need-returns-2
-returns-2 c = refused-by (now (c .before .before .before .before .args .input)) (now (c .before .before .before .before .args .output)) (now (c .before .before .before .before .args .fates)) (c .before .refusal-of .result) (c .before .refusal-of .ensures) (c .if1 .left)
+returns-2 c =
+    let at = c .before .before .before .before in
+    refused-by (now (at .args .input)) (now (at .args .output)) (now (at .args .fates)) (c .before .refusal-of .result) (c .before .refusal-of .ensures) (c .if1 .left)
 
 pub repair-spec : {M : Type 1} → statement M
-repair-spec = tie.close (tie.spec refusal-of-requires mend-requires same-length returns returns-2)
+repair-spec = tie.close (tie.spec (λ c κs. search needs) mend-requires (λ c. search needs) returns returns-2)

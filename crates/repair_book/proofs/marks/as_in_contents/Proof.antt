@@ -4,13 +4,14 @@ use mathlib.Core.Path.{_≡_, refl, sym}
 use denote.Ref.{now}
 use borrow.Author.Needs.{needs}
 use native.Mathlib.Numerals.{add-one}
-use Prim.Native.Nat.{_+_, _-_, _≤_, _<_}
+use Prim.Native.Nat.{_+_, _-_, _≤_}
 use borrow.Author.Tests.{lt-ltb, le-ltb}
 use mathlib.Core.Bool.{true}
 use lib.ListN.{length, getD}
 use Rattle.base.specs.Choice.{_<?_}
 use Rattle.book.specs.Passes.{allBelow}
-use Rattle.book.proofs.Below.{both, every, is-false, clash}
+use Rattle.base.proofs.Bools.{both, is-false, clash}
+use Rattle.book.proofs.Below.{every}
 use Rattle.repair_book.proofs.marks.as_in_contents.Statement.{statement}
 use Rattle.repair_book.proofs.marks.as_in_contents.Tie as tie
 
@@ -20,46 +21,23 @@ Inv-loop kept last k₀ k = (k ≤ last) × (last ≡ length kept - 1) × (allBe
 abbrev μ-loop : tie.MeasureT-loop
 μ-loop kept last k₀ k = last - k
 
-returns : tie.Need-returns Inv-loop μ-loop
-returns c = rw (c .if1 .taken)
-
-sub-last : tie.Need-sub-last Inv-loop μ-loop
-sub-last c = omega arith
-
-loop-holds : tie.Need-loop-holds Inv-loop μ-loop
-loop-holds c = (omega arith, refl, refl)
-
-add-if2 : tie.Need-add-if2 Inv-loop μ-loop
-add-if2 c = omega arith
-
-mul-if2 : tie.Need-mul-if2 Inv-loop μ-loop
-mul-if2 c = search needs
-
-shared-slice-read-if2 : tie.Need-shared-slice-read-if2 Inv-loop μ-loop
-shared-slice-read-if2 c = omega arith
-
-mul-if2-2 : tie.Need-mul-if2-2 Inv-loop μ-loop
-mul-if2-2 c = search needs
-
-shared-slice-read-if2-2 : tie.Need-shared-slice-read-if2-2 Inv-loop μ-loop
-shared-slice-read-if2-2 c = omega arith
-
 returns-2 : tie.Need-returns-2 Inv-loop μ-loop
 returns-2 c =
-    sym (is-false _ (λ h. clash (every (length (now (c .before .before .before .before .before .before .args .kept)) - 1) (λ n. getD (now (c .before .before .before .before .before .before .args .kept)) n 0 <? getD (now (c .before .before .before .before .before .before .args .kept)) (n + 1) 0) h (c .before .before .before .before .loop .k) (omega arith)) (le-ltb (getD (now (c .before .before .before .before .before .before .args .kept)) (c .before .before .before .before .loop .k) 0) (getD (now (c .before .before .before .before .before .before .args .kept)) (c .before .before .before .before .loop .k + 1) 0) (c .if2 .taken))))
-
-add-k : tie.Need-add-k Inv-loop μ-loop
-add-k c = omega arith
-
-loop-less : tie.Need-loop-less Inv-loop μ-loop
-loop-less c = omega arith
+    let at = c .before .before .before .before in
+    sym
+    (is-false _
+    (λ h. clash
+    (every (length (now (at .before .before .args .kept)) - 1)
+    (λ n. getD (now (at .before .before .args .kept)) n 0 <? getD (now (at .before .before .args .kept))
+    (n + 1) 0) h (at .loop .k) (omega arith)) (le-ltb (getD (now (at .before .before .args .kept)) (at .loop .k) 0) (getD (now (at .before .before .args .kept)) (at .loop .k + 1) 0) (c .if2 .taken))))
 
 loop-again : tie.Need-loop-again Inv-loop μ-loop
-loop-again c = (
-  omega arith,
-  c .before .before .before .before .loop .inv .1,
-  rw add-one (both (c .before .before .before .before .loop .inv .2) (lt-ltb (getD (now (c .before .before .before .before .before .before .args .kept)) (c .before .before .before .before .loop .k) 0) (getD (now (c .before .before .before .before .before .before .args .kept)) (c .before .before .before .before .loop .k + 1) 0) (c .if2 .left))),
-)
+loop-again c =
+    let l = c .before .before .before .before .loop in let kept = now (c .before .before .before .before .before .before .args .kept) in (
+      omega arith,
+      l .inv .1,
+      rw add-one (both (l .inv .2) (lt-ltb (getD kept (l .k) 0) (getD kept (l .k + 1) 0) (c .if2 .left))),
+    )
 
 returns-3 : tie.Need-returns-3 Inv-loop μ-loop
 returns-3 c =
@@ -72,16 +50,16 @@ as-in-contents-spec =
     (tie.spec
     Inv-loop
     μ-loop
-    returns
-    sub-last
-    loop-holds
-    add-if2
-    mul-if2
-    shared-slice-read-if2
-    mul-if2-2
-    shared-slice-read-if2-2
+    (λ c. rw (c .if1 .taken))
+    (λ c. omega arith)
+    (λ c. (omega arith, refl, refl))
+    (λ c. omega arith)
+    (λ c. search needs)
+    (λ c. omega arith)
+    (λ c. search needs)
+    (λ c. omega arith)
     returns-2
-    add-k
-    loop-less
+    (λ c. omega arith)
+    (λ c. omega arith)
     loop-again
     returns-3)

@@ -11,7 +11,8 @@ use Rattle.base.specs.Choice.{_=?_}
 use Rattle.book.specs.Contents.{offsetOf}
 use Rattle.repair_book.specs.Report.{offsetsStay}
 use Rattle.book.specs.Passes.{allBelow}
-use Rattle.book.proofs.Below.{both, every, is-false}
+use Rattle.base.proofs.Bools.{both, is-false}
+use Rattle.book.proofs.Below.{every}
 use Rattle.repair_write.specs.Anew.{placeAnew}
 use Rattle.repair_sort.specs.Held.{Sound}
 use Rattle.repair_sort.proofs.Sounds.{sound-at}
@@ -25,60 +26,32 @@ Inv-loop input kept place₀ k₀ place k = (k ≤ length kept) × (place ≡ pl
 abbrev μ-loop : tie.MeasureT-loop
 μ-loop input kept place₀ k₀ place k = length kept - k
 
-here : (c : tie.After-shared-slice-known3 Inv-loop μ-loop) → Sound (now (c .before .before .before .before .before .args .input)) (getD (now (c .before .before .before .before .before .args .kept)) (c .before .before .loop .k) 0)
-here c = sound-at (now (c .before .before .before .before .before .args .input)) (now (c .before .before .before .before .before .args .kept)) (c .before .before .before .before .before .pre .0) (c .before .before .loop .k) (omega arith)
-
-mul-place : tie.Need-mul-place Inv-loop μ-loop
-mul-place c = omega arith
-
-add-place : tie.Need-add-place Inv-loop μ-loop
-add-place c = omega arith
-
-loop-holds : tie.Need-loop-holds Inv-loop μ-loop
-loop-holds c = (omega arith, omega arith, refl)
-
-mul-i : tie.Need-mul-i Inv-loop μ-loop
-mul-i c = omega arith
-
-shared-slice-read-i : tie.Need-shared-slice-read-i Inv-loop μ-loop
-shared-slice-read-i c = omega arith
-
-cast-i : tie.Need-cast-i Inv-loop μ-loop
-cast-i c = omega (arith, c .shared-slice-known3 .given (c .before .before .loop .k))
-
-offset-of-requires : tie.Need-offset-of-requires Inv-loop μ-loop
-offset-of-requires c κs = here c .inside
+here : (c : tie.After-shared-slice-known3 Inv-loop μ-loop)
+    → Sound (now (c .before .before .before .before .before .args .input)) (getD (now (c .before .before .before .before .before .args .kept)) (c .before .before .loop .k) 0)
+here c =
+    let at = c .before .before .before .before .before in
+    sound-at (now (at .args .input)) (now (at .args .kept)) (at .pre .0) (c .before .before .loop .k) (omega arith)
 
 -- an offset that is not the new place changes
-moved : (c : tie.After-offset-of Inv-loop μ-loop) → (offsetOf (now (c .before .before .before .before .before .before .args .input)) (getD (now (c .before .before .before .before .before .before .args .kept)) (c .before .before .before .loop .k) 0) ≡ c .before .before .before .loop .place → ⊥) → false ≡ offsetsStay (now (c .before .before .before .before .before .before .args .input)) (now (c .before .before .before .before .before .before .args .kept))
+moved : (c : tie.After-offset-of Inv-loop μ-loop)
+    → let x = c .before .before .before .before .before .before .args in let l = c .before .before .before .loop in
+    (offsetOf (now (x .input)) (getD (now (x .kept)) (l .k) 0) ≡ l .place → ⊥) → false ≡ offsetsStay (now (x .input)) (now (x .kept))
 moved c other =
     let b = now (c .before .before .before .before .before .before .args .input) in
     let kept = now (c .before .before .before .before .before .before .args .kept) in
     let k = c .before .before .before .loop .k in
-    sym (is-false _ (λ h. other (eqb-true (offsetOf b (getD kept k 0)) (placeAnew b kept k) (every (length kept) (λ n. offsetOf b (getD kept n 0) =? placeAnew b kept n) h k (omega arith)) ∙ sym (c .before .before .before .loop .inv .1))))
-
-returns : tie.Need-returns Inv-loop μ-loop
-returns c = moved (c .before) (λ e. omega arith)
-
-returns-2 : tie.Need-returns-2 Inv-loop μ-loop
-returns-2 c = moved (c .before .before) (λ e. omega arith)
-
-size-of-requires : tie.Need-size-of-requires Inv-loop μ-loop
-size-of-requires c κs = here (c .before .before .before) .inside
-
-mul-place-2 : tie.Need-mul-place-2 Inv-loop μ-loop
-mul-place-2 c = omega arith
+    sym
+    (is-false _
+    (λ h. other
+    (eqb-true (offsetOf b (getD kept k 0)) (placeAnew b kept k)
+    (every (length kept) (λ n. offsetOf b (getD kept n 0) =? placeAnew b kept n) h k (omega arith)) ∙ sym (c .before .before .before .loop .inv .1))))
 
 add-place-2 : tie.Need-add-place-2 Inv-loop μ-loop
 add-place-2 c =
-    let place = place-inside (now (c .before .before .before .before .before .before .before .before .before .args .input)) (now (c .before .before .before .before .before .before .before .before .before .args .kept)) (c .before .before .before .before .before .before .loop .k) (omega arith) in
+    let place =
+    place-inside (now (c .before .before .before .before .before .before .before .before .before .args .input))
+    (now (c .before .before .before .before .before .before .before .before .before .args .kept)) (c .before .before .before .before .before .before .loop .k) (omega arith) in
     omega arith
-
-add-k : tie.Need-add-k Inv-loop μ-loop
-add-k c = omega arith
-
-loop-less : tie.Need-loop-less Inv-loop μ-loop
-loop-less c = omega arith
 
 loop-again : tie.Need-loop-again Inv-loop μ-loop
 loop-again c =
@@ -100,19 +73,19 @@ offsets-stay-spec =
     (tie.spec
     Inv-loop
     μ-loop
-    mul-place
-    add-place
-    loop-holds
-    mul-i
-    shared-slice-read-i
-    cast-i
-    offset-of-requires
-    returns
-    returns-2
-    size-of-requires
-    mul-place-2
+    (λ c. omega arith)
+    (λ c. omega arith)
+    (λ c. (omega arith, omega arith, refl))
+    (λ c. omega arith)
+    (λ c. omega arith)
+    (λ c. omega (arith, c .shared-slice-known3 .given (c .before .before .loop .k)))
+    (λ c κs. here c .inside)
+    (λ c. moved (c .before) (λ e. omega arith))
+    (λ c. moved (c .before .before) (λ e. omega arith))
+    (λ c κs. here (c .before .before .before) .inside)
+    (λ c. omega arith)
     add-place-2
-    add-k
-    loop-less
+    (λ c. omega arith)
+    (λ c. omega arith)
     loop-again
     returns-3)

@@ -4,15 +4,9 @@ use borrow.Author.Needs.{needs}
 use Rattle.repair_book.proofs.marks.report.Statement.{statement}
 use Rattle.repair_book.proofs.marks.report.Tie as tie
 
-looked-at-requires : tie.Need-looked-at-requires
-looked-at-requires c κs = search needs
-
-changed-from-requires : tie.Need-changed-from-requires
-changed-from-requires c κs = search needs
-
 returns : tie.Need-returns
 unfolding reportOf
 returns c = rw (← c .before .looked-at .ensures, ← c .changed-from .ensures, ← c .before .before .before .before .pre .1 .1)
 
 pub report-spec : {M : Type 1} → statement M
-report-spec = tie.close (tie.spec looked-at-requires changed-from-requires returns)
+report-spec = tie.close (tie.spec (λ c κs. search needs) (λ c κs. search needs) returns)

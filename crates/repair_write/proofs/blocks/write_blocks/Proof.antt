@@ -15,58 +15,37 @@ use Rattle.repair_write.proofs.blocks.write_blocks.Statement.{statement
 use Rattle.repair_write.proofs.blocks.write_blocks.Tie as tie
 
 abbrev Inv-loop : tie.InvT-loop
-Inv-loop input kept out₀ place₀ k₀ out place k = (k ≤ length kept) × (length out ≡ length out₀) × (place ≡ entryAt (length kept) + blocksLength input (take k kept)) × (out ≡ withText out₀ (entryAt (length kept)) (blocksAnew input (take k kept)))
+Inv-loop input kept out₀ place₀ k₀ out place k =
+    (k ≤ length kept) × (length out ≡ length out₀) × (place ≡ entryAt (length kept) + blocksLength input (take k kept)) × (out ≡ withText out₀ (entryAt (length kept)) (blocksAnew input (take k kept)))
 
 abbrev μ-loop : tie.MeasureT-loop
 μ-loop input kept out₀ place₀ k₀ out place k = length kept - k
 
-here : (c : tie.After-shared-slice-known3 Inv-loop μ-loop) → Sound (now (c .before .before .before .before .before .before .args .input)) (getD (now (c .before .before .before .before .before .before .args .kept)) (c .before .before .loop .k) 0)
-here c = sound-at (now (c .before .before .before .before .before .before .args .input)) (now (c .before .before .before .before .before .before .args .kept)) (c .before .before .before .before .before .before .pre .0) (c .before .before .loop .k) (omega arith)
-
-mul-place : tie.Need-mul-place Inv-loop μ-loop
-mul-place c = omega arith
-
-add-place : tie.Need-add-place Inv-loop μ-loop
-add-place c = omega arith
+here : (c : tie.After-shared-slice-known3 Inv-loop μ-loop)
+    → Sound (now (c .before .before .before .before .before .before .args .input)) (getD (now (c .before .before .before .before .before .before .args .kept)) (c .before .before .loop .k) 0)
+here c =
+    let at = c .before .before .before .before .before .before in
+    sound-at (now (at .args .input)) (now (at .args .kept)) (at .pre .0) (c .before .before .loop .k) (omega arith)
 
 loop-holds : tie.Need-loop-holds Inv-loop μ-loop
 loop-holds c = (omega arith, refl, omega arith, sym (no-text _ (8 + 24 * length (now (c .before .before .before .args .kept)))))
-
-mul-i : tie.Need-mul-i Inv-loop μ-loop
-mul-i c = omega arith
-
-shared-slice-read-i : tie.Need-shared-slice-read-i Inv-loop μ-loop
-shared-slice-read-i c = omega arith
-
-cast-i : tie.Need-cast-i Inv-loop μ-loop
-cast-i c = omega (arith, c .shared-slice-known3 .given (c .before .before .loop .k))
-
-size-of-requires : tie.Need-size-of-requires Inv-loop μ-loop
-size-of-requires c κs = here c .inside
-
-mul-size : tie.Need-mul-size Inv-loop μ-loop
-mul-size c = omega arith
-
-offset-of-requires : tie.Need-offset-of-requires Inv-loop μ-loop
-offset-of-requires c κs = here (c .before) .inside
 
 copy-requires : tie.Need-copy-requires Inv-loop μ-loop
 copy-requires c κs =
     let s = here (c .before .before .before) in
     let block = s .block in
-    let place = place-inside (now (c .before .before .before .before .before .before .before .before .before .args .input)) (now (c .before .before .before .before .before .before .before .before .before .args .kept)) (c .before .before .before .before .before .loop .k) (omega arith) in
+    let place =
+    place-inside (now (c .before .before .before .before .before .before .before .before .before .args .input))
+    (now (c .before .before .before .before .before .before .before .before .before .args .kept)) (c .before .before .before .before .before .loop .k) (omega arith) in
     (omega arith, omega arith)
 
 add-place-2 : tie.Need-add-place-2 Inv-loop μ-loop
 add-place-2 c =
-    let place = place-inside (now (c .before .before .before .before .before .before .before .before .before .before .before .before .args .input)) (now (c .before .before .before .before .before .before .before .before .before .before .before .before .args .kept)) (c .before .before .before .before .before .before .before .before .loop .k) (omega arith) in
+    let place =
+    place-inside (now (c .before .before .before .before .before .before .before .before .before .before .before .before .args .input))
+    (now (c .before .before .before .before .before .before .before .before .before .before .before .before .args .kept))
+    (c .before .before .before .before .before .before .before .before .loop .k) (omega arith) in
     omega arith
-
-add-k : tie.Need-add-k Inv-loop μ-loop
-add-k c = omega arith
-
-loop-less : tie.Need-loop-less Inv-loop μ-loop
-loop-less c = omega arith
 
 loop-again : tie.Need-loop-again Inv-loop μ-loop
 loop-again c =
@@ -74,12 +53,16 @@ loop-again c =
     let l = c .before .before .before .before .before .before .before .before .loop in (
       omega arith,
       c .before .before .copy .kept .1 .1 .0 ∙ l .inv .1,
-      omega (arith, place-further (now (x .input)) (now (x .kept)) (c .before .before .before .before .before .before .before .before .before .before .before .before .pre .0) (l .k) (omega arith), l .inv .2),
-      block-written (now (x .input)) (now (x .kept)) (c .before .before .before .before .before .before .before .before .before .before .before .before .pre .0) (l .k) (omega arith) (now (x .out)) (omega arith) (l .inv .2) (l .inv .3) (rw (c .before .before .before .before .before .size-of .ensures .0, c .before .before .before .before .offset-of .ensures .0) at (c .before .before .copy .ensures)),
+      omega (
+        arith,
+        place-further (now (x .input)) (now (x .kept)) (c .before .before .before .before .before .before .before .before .before .before .before .before .pre .0) (l .k) (omega arith),
+        l .inv .2,
+      ),
+      block-written (now (x .input)) (now (x .kept))
+          (c .before .before .before .before .before .before .before .before .before .before .before .before .pre .0) (l .k) (omega arith) (now (x .out))
+          (omega arith) (l .inv .2) (l .inv .3)
+          (rw (c .before .before .before .before .before .size-of .ensures .0, c .before .before .before .before .offset-of .ensures .0) at (c .before .before .copy .ensures)),
     )
-
-same-length : tie.Need-same-length Inv-loop μ-loop
-same-length c = c .before .loop .inv .1
 
 returns : tie.Need-returns Inv-loop μ-loop
 returns c = rw (take-all (c .before .loop .k) (now (c .before .before .before .before .before .args .kept)) (omega arith)) at (c .before .loop .inv .3)
@@ -90,19 +73,19 @@ write-blocks-spec =
     (tie.spec
     Inv-loop
     μ-loop
-    mul-place
-    add-place
+    (λ c. omega arith)
+    (λ c. omega arith)
     loop-holds
-    mul-i
-    shared-slice-read-i
-    cast-i
-    size-of-requires
-    mul-size
-    offset-of-requires
+    (λ c. omega arith)
+    (λ c. omega arith)
+    (λ c. omega (arith, c .shared-slice-known3 .given (c .before .before .loop .k)))
+    (λ c κs. here c .inside)
+    (λ c. omega arith)
+    (λ c κs. here (c .before) .inside)
     copy-requires
     add-place-2
-    add-k
-    loop-less
+    (λ c. omega arith)
+    (λ c. omega arith)
     loop-again
-    same-length
+    (λ c. c .before .loop .inv .1)
     returns)

@@ -17,27 +17,6 @@ Inv-loop input from out₀ at n k₀ out k = (k ≤ n) × (length out ≡ length
 abbrev μ-loop : tie.MeasureT-loop
 μ-loop input from out₀ at n k₀ out k = n - k
 
-loop-holds : tie.Need-loop-holds Inv-loop μ-loop
-loop-holds c = (omega arith, refl, paste-zero _ (c .args .at) (drop (c .args .from) (now (c .args .input))))
-
-add-out : tie.Need-add-out Inv-loop μ-loop
-add-out c = omega arith
-
-shared-slice-read-out : tie.Need-shared-slice-read-out Inv-loop μ-loop
-shared-slice-read-out c = omega arith
-
-add-out-2 : tie.Need-add-out-2 Inv-loop μ-loop
-add-out-2 c = omega arith
-
-slice-write-out : tie.Need-slice-write-out Inv-loop μ-loop
-slice-write-out c = omega arith
-
-add-k : tie.Need-add-k Inv-loop μ-loop
-add-k c = omega arith
-
-loop-less : tie.Need-loop-less Inv-loop μ-loop
-loop-less c = omega arith
-
 loop-again : tie.Need-loop-again Inv-loop μ-loop
 loop-again c =
     let x = c .before .before .before .args in
@@ -51,13 +30,11 @@ loop-again c =
           ),
     )
 
-same-length : tie.Need-same-length Inv-loop μ-loop
-same-length c = c .before .loop .inv .1
-
 returns : tie.Need-returns Inv-loop μ-loop
 returns c =
     let e : c .before .loop .k ≡ c .before .before .args .n = omega arith in
-    (rw e at (c .before .loop .inv .2)) ∙ text-copied (now (c .before .before .args .out)) (now (c .before .before .args .input)) (c .before .before .args .at) (c .before .before .args .from) (c .before .before .args .n) (omega arith)
+    (rw e at (c .before .loop .inv .2))
+    ∙ text-copied (now (c .before .before .args .out)) (now (c .before .before .args .input)) (c .before .before .args .at) (c .before .before .args .from) (c .before .before .args .n) (omega arith)
 
 pub copy-spec : {M : Type 1} → statement M
 copy-spec =
@@ -65,13 +42,13 @@ copy-spec =
     (tie.spec
     Inv-loop
     μ-loop
-    loop-holds
-    add-out
-    shared-slice-read-out
-    add-out-2
-    slice-write-out
-    add-k
-    loop-less
+    (λ c. (omega arith, refl, paste-zero _ (c .args .at) (drop (c .args .from) (now (c .args .input)))))
+    (λ c. omega arith)
+    (λ c. omega arith)
+    (λ c. omega arith)
+    (λ c. omega arith)
+    (λ c. omega arith)
+    (λ c. omega arith)
     loop-again
-    same-length
+    (λ c. c .before .loop .inv .1)
     returns)

@@ -1,7 +1,6 @@
 -- `repair_write::inner::write_book` meets its contract: four texts, one after the other. Assumes nothing.
 use native.Mathlib.Omega.{arith}
 use denote.Ref.{now}
-use Prim.Native.Nat.{_+_, _-_}
 use lib.ListN.{length, length-append}
 use mathlib.Core.List.{_++_}
 use Rattle.book.specs.Contents.{entryAt}
@@ -11,27 +10,6 @@ use Rattle.repair_write.proofs.Books.{contents-length, blocks-length}
 use borrow.Author.Needs.{needs}
 use Rattle.repair_write.proofs.inner.write_book.Statement.{statement}
 use Rattle.repair_write.proofs.inner.write_book.Tie as tie
-
-cast-put-u32 : tie.Need-cast-put-u32
-cast-put-u32 c = search needs
-
-put-u32-requires : tie.Need-put-u32-requires
-put-u32-requires c κs = search needs
-
-cast-put-u32-2 : tie.Need-cast-put-u32-2
-cast-put-u32-2 c = search needs
-
-put-u32-requires-2 : tie.Need-put-u32-requires-2
-put-u32-requires-2 c κs = search needs
-
-write-contents-requires : tie.Need-write-contents-requires
-write-contents-requires c κs = search needs
-
-write-blocks-requires : tie.Need-write-blocks-requires
-write-blocks-requires c κs = search needs
-
-same-length : tie.Need-same-length
-same-length c = search needs
 
 returns : tie.Need-returns
 unfolding bookAnew
@@ -49,7 +27,10 @@ returns c =
     let l4 = blocks-length b kept sound in
     let l5 = length-append (le32 (x .total)) (le32 n) in
     let l6 = length-append (le32 (x .total) ++ le32 n) contents in
-    let one = joined out (le32 (x .total)) (le32 n) 0 4 (c .before .before .before .before .before .before .before .before .before .before .before .before .before .before .put-u32 .ensures) (c .before .before .before .before .before .before .before .before .before .before .put-u322 .ensures) (omega arith) (omega arith) in
+    let one =
+    joined out (le32 (x .total)) (le32 n) 0 4
+    (c .before .before .before .before .before .before .before .before .before .before .before .before .before .before .put-u32 .ensures)
+    (c .before .before .before .before .before .before .before .before .before .before .put-u322 .ensures) (omega arith) (omega arith) in
     let two = joined out (le32 (x .total) ++ le32 n) contents 0 8 one (c .before .before .before .before .before .before .write-contents .ensures) (omega arith) (omega arith) in
     rw (← c .before .before .before .before .before .before .before .before .before .before .before .before .before .before .before .before .before .before .before .pre .1)
     (joined out (le32 (x .total) ++ le32 n ++ contents) (blocksAnew b kept) 0 (entryAt n) two (c .before .before .write-blocks .ensures) (omega arith) (omega arith))
@@ -58,11 +39,11 @@ pub write-book-spec : {M : Type 1} → statement M
 write-book-spec =
     tie.close
     (tie.spec
-    cast-put-u32
-    put-u32-requires
-    cast-put-u32-2
-    put-u32-requires-2
-    write-contents-requires
-    write-blocks-requires
-    same-length
+    (λ c. search needs)
+    (λ c κs. search needs)
+    (λ c. search needs)
+    (λ c κs. search needs)
+    (λ c κs. search needs)
+    (λ c κs. search needs)
+    (λ c. search needs)
     returns)
