@@ -12,19 +12,21 @@ use Rattle.book.specs.Contents.{blockLength}
 use Rattle.repair_sort.specs.Fates.{overlapping, noRoom}
 use Rattle.repair_write.specs.Anew.{bookLength}
 use Rattle.base.specs.Choice.{if_then_else_, _=?_}
-use Rattle.forward.specs.Forward.{Sofar, overlapsLast, hasRoom, keep, let-go, settle, forward}
+use Rattle.repair_choose.specs.Forward.{Sofar, overlapsLast, overlapsLastOfBody, hasRoom, keep, let-go, settle, forward}
+use Rattle.repair_choose.specs.LastKept.{settleByLast, forwardByLast}
 use Rattle.repair_sort.specs.Held.{Sound}
 use Rattle.repair_choose.specs.Sized.{held, Sized, overlapsAt}
 use Rattle.repair_sort.proofs.Sounds.{sound-at, sound-more}
 use Rattle.repair_write.proofs.Books.{book-longer}
 
 module _ (b kept fates : List ℕ) (room count i : ℕ) where
-  pub settled-overlap : overlapsLast b (take count kept) i ≡ true → held kept count (set fates i overlapping) ≡ settle b room (held kept count fates) i
-  unfolding settle
+  pub settled-overlap : overlapsLast b (take count kept) i ≡ true → held kept count (set fates i overlapping) ≡ settleByLast b room (held kept count fates) i
+  unfolding settleByLast
   settled-overlap e = rw e
 
-  pub settled-no-room : overlapsLast b (take count kept) i ≡ false → room < bookLength b (take count kept) + 24 + blockLength b i → held kept count (set fates i noRoom) ≡ settle b room (held kept count fates) i
-  unfolding settle
+  pub settled-no-room : overlapsLast b (take count kept) i ≡ false → room < bookLength b (take count kept) + 24 + blockLength b i
+      → held kept count (set fates i noRoom) ≡ settleByLast b room (held kept count fates) i
+  unfolding settleByLast
   settled-no-room e l =
       let none : hasRoom b room (take count kept) i ≡ false = lt-leb (bookLength b (take count kept ++ (i ∷ []))) room (omega (arith, book-longer b (take count kept) i)) in
       rw (e, none)
@@ -36,13 +38,15 @@ module _ (b kept fates : List ℕ) (room count i : ℕ) where
     one-further : take (count + 1) (set kept count i) ≡ take count kept ++ (i ∷ [])
     one-further = rw (add-one count) (take-suc-set kept count i lt)
 
-    pub settled-kept : overlapsLast b (take count kept) i ≡ false → bookLength b (take count kept) + 24 + blockLength b i ≤ room → held (set kept count i) (count + 1) (set fates i count) ≡ settle b room (held kept count fates) i
-    unfolding settle
+    pub settled-kept : overlapsLast b (take count kept) i ≡ false → bookLength b (take count kept) + 24 + blockLength b i ≤ room
+        → held (set kept count i) (count + 1) (set fates i count) ≡ settleByLast b room (held kept count fates) i
+    unfolding settleByLast
     settled-kept e l =
         let some : hasRoom b room (take count kept) i ≡ true = le-leb (bookLength b (take count kept ++ (i ∷ []))) room (omega (arith, book-longer b (take count kept) i)) in
         rw (e, some, one-further, front)
 
-    pub sized-kept : (last booked longer : ℕ) → Sized b room kept count last booked → Sound b i → longer ≡ booked + 24 + blockLength b i → longer ≤ room → Sized b room (set kept count i) (count + 1) i longer
+    pub sized-kept : (last booked longer : ℕ) → Sized b room kept count last booked → Sound b i → longer ≡ booked + 24 + blockLength b i
+        → longer ≤ room → Sized b room (set kept count i) (count + 1) i longer
     sized-kept last booked longer z s e l =
         let here : count + 1 - 1 ≡ count = omega arith in
         record {
@@ -73,20 +77,21 @@ module _ (b kept : List ℕ) (room count last booked : ℕ) (z : Sized b room ke
           rw (f, e, z .latest (omega arith), getD-take count kept (count - 1) 0 (omega arith))
 
 module _ (b : List ℕ) (room : ℕ) where
-  pub one-forward : (s after : Sofar) (order : List ℕ) (k : ℕ) (end : Sofar) → k < length order → after ≡ settle b room s (getD order k 0) → forward b room s (drop k order) ≡ end → forward b room after (drop (k + 1) order) ≡ end
-  one-forward s after order k end l e f = rw (add-one k, e) (sym (ap (λ (r : List ℕ). forward b room s r) (drop-cons order k 0 l)) ∙ f)
+  pub one-forward : (s after : Sofar) (order : List ℕ) (k : ℕ) (end : Sofar) → k < length order → after ≡ settleByLast b room s (getD order k 0)
+      → forwardByLast b room s (drop k order) ≡ end → forwardByLast b room after (drop (k + 1) order) ≡ end
+  one-forward s after order k end l e f = rw (add-one k, e) (sym (ap (λ (r : List ℕ). forwardByLast b room s r) (drop-cons order k 0 l)) ∙ f)
 
-  pub all-forward : (s : Sofar) (order : List ℕ) (k : ℕ) (end : Sofar) → length order ≤ k → forward b room s (drop k order) ≡ end → s ≡ end
-  all-forward s order k end l f = sym (ap (λ (r : List ℕ). forward b room s r) (drop-of-length-le order l)) ∙ f
+  pub all-forward : (s : Sofar) (order : List ℕ) (k : ℕ) (end : Sofar) → length order ≤ k → forwardByLast b room s (drop k order) ≡ end → s ≡ end
+  all-forward s order k end l f = sym (ap (λ (r : List ℕ). forwardByLast b room s r) (drop-of-length-le order l)) ∙ f
 
--- ---- which entries are kept does not hang on the fates
+-- ---- which entries are kept does not depend on the fates
 module _ (b : List ℕ) (room : ℕ) where
   kept-by : List ℕ → ℕ → List ℕ
-  kept-by kept i = if overlapsLast b kept i then kept else if hasRoom b room kept i then kept ++ (i ∷ []) else kept
+  kept-by kept i = if overlapsLastOfBody b kept i then kept else if hasRoom b room kept i then kept ++ (i ∷ []) else kept
 
   settle-kept : (s : Sofar) (i : ℕ) → settle b room s i .kept ≡ kept-by (s .kept) i
   unfolding settle kept-by
-  settle-kept s i = by (overlapsLast b (s .kept) i) (hasRoom b room (s .kept) i)
+  settle-kept s i = by (overlapsLastOfBody b (s .kept) i) (hasRoom b room (s .kept) i)
     where
       by : (x y : Bool) → (if x then let-go overlapping s i else if y then keep s i else let-go noRoom s i) .kept ≡ (if x then s .kept else if y then s .kept ++ (i ∷ []) else s .kept)
       by true y = refl

@@ -5,6 +5,7 @@ use mathlib.Core.Bool.{Bool, false}
 use mathlib.Core.List.{List, [], _∷_, _++_}
 use lib.ListN.{length, getD, set}
 use Rattle.base.specs.Choice.{if_then_else_, _≤?_, _=?_}
+use Rattle.book.specs.Contents.{bodyOf}
 use Rattle.book.specs.Passes.{overlaps}
 use Rattle.repair_sort.specs.Fates.{overlapping, noRoom}
 use Rattle.repair_write.specs.Anew.{bookLength}
@@ -14,10 +15,18 @@ pub record Sofar : Type 0 where
   pub kept : List ℕ
   pub fates : List ℕ
 
--- Entries come in order, those of one body together: the last kept of its body is the last kept, or there is none, and
--- `overlaps` asks for one body.
+-- the entries of a list that have this body, in their order
+abbrev pub ofBody : List ℕ → ℕ → List ℕ → List ℕ
+ofBody b body [] = []
+ofBody b body (j ∷ js) = if bodyOf b j =? body then j ∷ ofBody b body js else ofBody b body js
+
+-- whether entry i overlaps the last entry of a list; if the list is empty, it does not
 abbrev pub overlapsLast : List ℕ → List ℕ → ℕ → Bool
-overlapsLast b kept i = if length kept =? 0 then false else overlaps b (getD kept (length kept - 1) 0) i
+overlapsLast b l i = if length l =? 0 then false else overlaps b (getD l (length l - 1) 0) i
+
+-- "one that overlaps the last kept of its body"
+abbrev pub overlapsLastOfBody : List ℕ → List ℕ → ℕ → Bool
+overlapsLastOfBody b kept i = overlapsLast b (ofBody b (bodyOf b i) kept) i
 
 -- the book with one entry more is not longer than the room
 abbrev pub hasRoom : List ℕ → ℕ → List ℕ → ℕ → Bool
@@ -32,7 +41,7 @@ let-go why s i = record { kept = s .kept; fates = set (s .fates) i why }
 -- overlap first, then room
 unfoldable pub settle : List ℕ → ℕ → Sofar → ℕ → Sofar
 settle b room s i =
-    if overlapsLast b (s .kept) i then let-go overlapping s i else
+    if overlapsLastOfBody b (s .kept) i then let-go overlapping s i else
     if hasRoom b room (s .kept) i then keep s i else let-go noRoom s i
 
 -- the entries of a list, one after the other

@@ -1,2 +1,3 @@
 pub mod Forward
+pub mod LastKept
 pub mod Sized

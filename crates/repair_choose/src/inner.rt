@@ -1,4 +1,6 @@
-// For entries in order that are known to be sound. This is no public call.
+// For entries that are known to be sound; not a public call. It compares each entry only with the last kept one.
+// If the entries are in order, that gives the same as the last kept of its body (proofs/OwnBody.antt:
+// `last-is-enough`).
 
 use crate::Kept;
 use crate::settle::settle_one;
@@ -6,7 +8,7 @@ ghost use mathlib.Core.Path.{_≡_};
 ghost use Prim.Native.Nat.{_≤_};
 ghost use lib.ListN.{length};
 ghost use Rattle.repair_sort.specs.Held.{AllSound};
-ghost use Rattle.forward.specs.Forward.{forward};
+ghost use Rattle.repair_choose.specs.LastKept.{forwardByLast};
 ghost use Rattle.repair_choose.specs.Sized.{held, Sized};
 
 pub fn go_forward(
@@ -19,7 +21,7 @@ pub fn go_forward(
     requires { ⌜ (8 ≤ room) × (room ≤ 61_440) × (length (now order) ≤ 2559) × (2559 ≤ length (now kept)) × (2559 ≤ length (now fates)) ⌝ }
     requires { ⌜ (length (now input) ≤ 61_440) × AllSound (now input) (now order) ⌝ }
     ensures { λ r. ⌜ Sized (now (input .entry)) room (now (kept .exit)) (r .count) (r .last) (r .length) ⌝ }
-    ensures { λ r. ⌜ held (now (kept .exit)) (r .count) (now (fates .exit)) ≡ forward (now (input .entry)) room (held (now (kept .entry)) 0 (now (fates .entry))) (now (order .entry)) ⌝ }
+    ensures { λ r. ⌜ held (now (kept .exit)) (r .count) (now (fates .exit)) ≡ forwardByLast (now (input .entry)) room (held (now (kept .entry)) 0 (now (fates .entry))) (now (order .entry)) ⌝ }
 {
     let mut sofar = Kept {
         count: 0,

@@ -1,8 +1,8 @@
-// One entry more: dropped for overlap, dropped for room, or kept under the next number.
+// One more entry: dropped for overlap, dropped for room, or kept under the next number.
 
 use crate::Kept;
-use book::bytes::u16_at;
-use book::bytes::u64_at;
+use base_bytes::inner::u16_at;
+use base_bytes::inner::u64_at;
 use book::inner::size_of;
 use repair_sort::OVERLAP;
 use repair_sort::ROOM;
@@ -11,10 +11,10 @@ ghost use Prim.Native.Nat.{_+_, _<_, _≤_};
 ghost use lib.ListN.{length};
 ghost use Rattle.book.specs.Passes.{overlaps};
 ghost use Rattle.repair_sort.specs.Held.{Sound};
-ghost use Rattle.forward.specs.Forward.{settle};
+ghost use Rattle.repair_choose.specs.LastKept.{settleByLast};
 ghost use Rattle.repair_choose.specs.Sized.{held, Sized, overlapsAt};
 
-// Of two entries with allowed fields: neither end wraps.
+// For two entries with allowed fields: s + L does not wrap.
 fn overlap(input: &[u8], i: usize, j: usize) -> bool
     requires { ⌜ Sound (now input) i × Sound (now input) j ⌝ }
     ensures { λ r. ⌜ r ≡ overlaps (now (input .entry)) i j ⌝ }
@@ -31,7 +31,7 @@ fn overlap(input: &[u8], i: usize, j: usize) -> bool
     false
 }
 
-// Whether entry i overlaps the last of `count` entries, where there is one.
+// Whether entry i overlaps the last of `count` entries, if there is one.
 fn overlaps_last(input: &[u8], count: usize, last: usize, i: usize) -> bool
     requires { ⌜ Sound (now input) i × (0 < count → Sound (now input) last) ⌝ }
     ensures { λ r. ⌜ r ≡ overlapsAt (now (input .entry)) count last i ⌝ }
@@ -53,7 +53,7 @@ pub fn settle_one(
     requires { ⌜ (sofar .count < length (now kept)) × (sofar .count < 2559) × (i < length (now fates)) × (i < 2559) × (room ≤ 61_440) × Sound (now input) i ⌝ }
     requires { ⌜ Sized (now input) room (now kept) (sofar .count) (sofar .last) (sofar .length) ⌝ }
     ensures { λ r. ⌜ Sized (now (input .entry)) room (now (kept .exit)) (r .count) (r .last) (r .length) × (r .count ≤ sofar .count + 1) ⌝ }
-    ensures { λ r. ⌜ held (now (kept .exit)) (r .count) (now (fates .exit)) ≡ settle (now (input .entry)) room (held (now (kept .entry)) (sofar .count) (now (fates .entry))) i ⌝ }
+    ensures { λ r. ⌜ held (now (kept .exit)) (r .count) (now (fates .exit)) ≡ settleByLast (now (input .entry)) room (held (now (kept .entry)) (sofar .count) (now (fates .entry))) i ⌝ }
 {
     let count = sofar.count;
     let length = sofar.length;

@@ -1,4 +1,4 @@
--- Bytes: parts of a list side by side, numbers written as they were read, and that what is written is bytes. Assumes nothing.
+-- Bytes: adjacent parts of a list, numbers written as they were read; what is written is bytes. Assumes nothing.
 use Prim.Native.Nat.{ℕ, zero, suc, _+_, _-_, _*_, _/_, _%_, _<_, _≤_}
 use mathlib.Core.List.{List, [], _∷_, _++_}
 use mathlib.Core.Bool.{Bool, true, false}
@@ -9,7 +9,7 @@ use lib.ListN.{length, take, drop, getD, length-take, List·getD-append, List·g
 use lib.Seq.{drop-cons, drop-drop, take-add, getD-append-add, getD-take, getD-drop}
 use borrow.Author.Tests.{ltb-true, ltb-false}
 use lib.Dec.{ltb}
-use Rattle.book.specs.Bytes.{u16At, u32At}
+use Rattle.base_bytes.specs.Bytes.{u16At, u32At}
 use Rattle.repair_write.specs.Anew.{part, le32, bookLength, entryAnew, contentsAnew, blocksAnew, bookAnew}
 use Rattle.book.specs.Contents.{entryAt, offsetOf, blockLength}
 use Rattle.repair_laws.specs.Laws.{Bytes}
@@ -27,24 +27,27 @@ four-written a c d e n ha hc hd he q =
     rw (q, others a (c + 256 * (d + 256 * e)) ha, others c (d + 256 * e) hc, others d e hd, lowest a (c + 256 * (d + 256 * e)) ha, lowest c (d + 256 * e) hc, lowest d e hd, last)
 
 module _ (b : List ℕ) where
-  -- two parts, the second where the first ends
+  -- two parts, the second right after the first
   pub parts-join : (at n m next : ℕ) → next ≡ at + n → part b at n ++ part b next m ≡ part b at (n + m)
   parts-join at n m next e = rw (e, ← drop-drop n at b) (sym (take-add n m (drop at b)))
 
   four : (at : ℕ) → at + 4 ≤ length b → part b at 4 ≡ getD b at 0 ∷ getD b (suc at) 0 ∷ getD b (suc (suc at)) 0 ∷ getD b (suc (suc (suc at))) 0 ∷ []
   four at h = rw (drop-cons b at 0 (omega arith), drop-cons b (suc at) 0 (omega arith), drop-cons b (suc (suc at)) 0 (omega arith), drop-cons b (suc (suc (suc at))) 0 (omega arith))
 
-  read : (at : ℕ) → at + 1 ≡ suc at → at + 2 ≡ suc (suc at) → at + 2 + 1 ≡ suc (suc (suc at)) → u32At b at ≡ getD b at 0 + 256 * (getD b (suc at) 0 + 256 * (getD b (suc (suc at)) 0 + 256 * getD b (suc (suc (suc at))) 0))
+  read : (at : ℕ) → at + 1 ≡ suc at → at + 2 ≡ suc (suc at) → at + 2 + 1 ≡ suc (suc (suc at))
+      → u32At b at ≡ getD b at 0 + 256 * (getD b (suc at) 0 + 256 * (getD b (suc (suc at)) 0 + 256 * getD b (suc (suc (suc at))) 0))
   unfolding u32At u16At
   read at one two three = rw (three, two, one) (omega arith)
 
-  -- a number that was read is written as it stood
+  -- a number that was read is written with the same bytes
   pub written-back : Bytes b → (at : ℕ) → at + 4 ≤ length b → le32 (u32At b at) ≡ part b at 4
   written-back small at h =
       let one : at + 1 ≡ suc at = omega arith in
       let two : at + 2 ≡ suc (suc at) = omega arith in
       let three : at + 2 + 1 ≡ suc (suc (suc at)) = omega arith in
-      rw (four at h) (four-written (getD b at 0) (getD b (suc at) 0) (getD b (suc (suc at)) 0) (getD b (suc (suc (suc at))) 0) (u32At b at) (small at) (small (suc at)) (small (suc (suc at))) (small (suc (suc (suc at)))) (read at one two three))
+      rw (four at h)
+      (four-written (getD b at 0) (getD b (suc at) 0) (getD b (suc (suc at)) 0) (getD b (suc (suc (suc at))) 0) (u32At b at) (small at)
+      (small (suc at)) (small (suc (suc at))) (small (suc (suc (suc at)))) (read at one two three))
 
 below-or-not : (k n : ℕ) → (k < n) ⊎ (n ≤ k)
 below-or-not k n = by (ltb k n) refl
@@ -82,7 +85,8 @@ module _ (b : List ℕ) (small : Bytes b) where
   bytes-contents place [] k = omega arith
   bytes-contents place (i ∷ is) k =
       bytes-append (entryAnew b i place) (contentsAnew b (place + blockLength b i) is)
-      (bytes-append (part b (entryAt i) 4 ++ le32 place) (part b (entryAt i + 8) 16) (bytes-append (part b (entryAt i) 4) (le32 place) (bytes-part b (entryAt i) 4 small) (bytes-le32 place)) (bytes-part b (entryAt i + 8) 16 small))
+      (bytes-append (part b (entryAt i) 4 ++ le32 place) (part b (entryAt i + 8) 16)
+      (bytes-append (part b (entryAt i) 4) (le32 place) (bytes-part b (entryAt i) 4 small) (bytes-le32 place)) (bytes-part b (entryAt i + 8) 16 small))
       (bytes-contents (place + blockLength b i) is)
       k
 

@@ -1,9 +1,9 @@
--- "Nothing else is dropped": every entry looked at is told a fate, and each fate is told for its reason alone. Assumes nothing.
+-- "Nothing else is dropped": every entry looked at has a fate, and each fate has its own reason. Assumes nothing.
 use Prim
-use Prim.Native.Nat.{ℕ, zero, suc, _+_, _-_, _<_, _≤_}
+use Prim.Native.Nat.{ℕ, zero, suc, _<_, _≤_}
 use mathlib.Core.Bool.{Bool, true, false}
 use mathlib.Core.List.{List, [], _∷_, _++_}
-use mathlib.Core.Logic.{_⊎_, inl, inr, ⊎-elim}
+use mathlib.Core.Logic.{inl, inr, ⊎-elim}
 use mathlib.Core.Path.{_≡_, refl, sym, ap, _∙_}
 use native.Mathlib.Nat.{eq-or-lt-of-le, le-of-suc-le-suc, not-suc-le-zero}
 use native.Mathlib.Omega.{arith}
@@ -15,17 +15,15 @@ use Rattle.book.specs.Passes.{ascends}
 use Rattle.repair_sort.specs.Fates.{goesOn, overlapping, noRoom}
 use Rattle.repair_sort.specs.Reasons.{lookedAt, firstReason, reasons}
 use Rattle.repair_sort.specs.Ordered.{insert, ordered}
-use Rattle.forward.specs.Forward.{Sofar, overlapsLast, hasRoom, keep, let-go, settle, forward}
+use Rattle.repair_choose.specs.Forward.{Sofar, overlapsLastOfBody, hasRoom, keep, let-go, settle, forward}
 use Rattle.repair_book.specs.Repaired.{repaired, keptOf}
 use Rattle.repair_book.proofs.Chosen.{kept-of}
 use Rattle.repair_sort.proofs.Either.{either-way}
 use Rattle.repair_choose.proofs.Settled.{kept-free}
-use Rattle.mended.specs.Laws.{NotIn, Once, keptAmong, Settled}
-use Rattle.mended.proofs.Chain.{start-chained, forward-through}
-use Rattle.mended.proofs.OwnBody.{own-last}
+use Rattle.repair_laws.specs.Laws.{NotIn, Once, fateAfter, Settled}
 
 module _ (b : List ℕ) where
-  -- ---- each entry that goes on stands once in the order, and no other does
+  -- ---- the order has each entry that goes on exactly once, and no other
   not-inserted : (i n : ℕ) (l : List ℕ) → (i ≡ n → ⊥) → NotIn i l → NotIn i (insert b n l)
   not-inserted i n [] d a = (d, tt)
   not-inserted i n (j ∷ js) d a = either-way (NotIn i) (ascends b n j) (λ h. (d, a)) (λ h. (a .0, not-inserted i n js d (a .1)))
@@ -68,40 +66,38 @@ module _ (b : List ℕ) where
     settle-length : (s : Sofar) (j : ℕ) → length (settle b room s j .fates) ≡ length (s .fates)
     unfolding settle
     settle-length s j =
-        either-way (λ (r : Sofar). length (r .fates) ≡ length (s .fates)) (overlapsLast b (s .kept) j)
+        either-way (λ (r : Sofar). length (r .fates) ≡ length (s .fates)) (overlapsLastOfBody b (s .kept) j)
         (λ h. length-set (s .fates) j overlapping)
         (λ h. either-way (λ (r : Sofar). length (r .fates) ≡ length (s .fates)) (hasRoom b room (s .kept) j) (λ k. length-set (s .fates) j (length (s .kept))) (λ k. length-set (s .fates) j noRoom))
 
     settle-other : (s : Sofar) (i j : ℕ) → (i ≡ j → ⊥) → getD (settle b room s j .fates) i 0 ≡ getD (s .fates) i 0
     unfolding settle
     settle-other s i j d =
-        either-way (λ (r : Sofar). getD (r .fates) i 0 ≡ getD (s .fates) i 0) (overlapsLast b (s .kept) j)
+        either-way (λ (r : Sofar). getD (r .fates) i 0 ≡ getD (s .fates) i 0) (overlapsLastOfBody b (s .kept) j)
         (λ h. getD-set-other (s .fates) j i overlapping 0 d)
-        (λ h. either-way (λ (r : Sofar). getD (r .fates) i 0 ≡ getD (s .fates) i 0) (hasRoom b room (s .kept) j) (λ k. getD-set-other (s .fates) j i (length (s .kept)) 0 d) (λ k. getD-set-other (s .fates) j i noRoom 0 d))
+        (λ h. either-way (λ (r : Sofar). getD (r .fates) i 0 ≡ getD (s .fates) i 0) (hasRoom b room (s .kept) j)
+        (λ k. getD-set-other (s .fates) j i (length (s .kept)) 0 d) (λ k. getD-set-other (s .fates) j i noRoom 0 d))
 
     forward-other : (s : Sofar) (l : List ℕ) (i : ℕ) → NotIn i l → getD (forward b room s l .fates) i 0 ≡ getD (s .fates) i 0
     forward-other s [] i a = refl
     forward-other s (j ∷ js) i a = forward-other (settle b room s j) js i (a .1) ∙ settle-other s i j (a .0)
 
-    -- the entry itself is told one of three fates, each for its reason
-    fateNext : List ℕ → ℕ → ℕ
-    fateNext kept i = if overlapsLast b kept i then overlapping else if hasRoom b room kept i then length kept else noRoom
-
-    settle-own : (s : Sofar) (i : ℕ) → i < length (s .fates) → getD (settle b room s i .fates) i 0 ≡ fateNext (s .kept) i
-    unfolding settle fateNext
-    settle-own s i h = by (overlapsLast b (s .kept) i) (hasRoom b room (s .kept) i)
+    -- the entry itself gets one of three fates, each for its reason
+    settle-own : (s : Sofar) (i : ℕ) → i < length (s .fates) → getD (settle b room s i .fates) i 0 ≡ fateAfter b room (s .kept) i
+    unfolding settle
+    settle-own s i h = by (overlapsLastOfBody b (s .kept) i) (hasRoom b room (s .kept) i)
       where
         by : (x y : Bool) → getD ((if x then let-go overlapping s i else if y then keep s i else let-go noRoom s i) .fates) i 0 ≡ (if x then overlapping else if y then length (s .kept) else noRoom)
         by true y = getD-set-same (s .fates) i overlapping 0 h
         by false true = getD-set-same (s .fates) i (length (s .kept)) 0 h
         by false false = getD-set-same (s .fates) i noRoom 0 h
 
-    -- where entry i stands in a list, and what it is told there
+    -- the place of entry i in a list, and its fate there
     record Met (s : Sofar) (l : List ℕ) (i fate : ℕ) : Type 0 where
       before : List ℕ
       behind : List ℕ
       split : l ≡ before ++ i ∷ behind
-      fated : fate ≡ fateNext (forward b room s before .kept) i
+      fated : fate ≡ fateAfter b room (forward b room s before .kept) i
 
     forward-own : (s : Sofar) (l : List ℕ) (i : ℕ) → i < length (s .fates) → Once i l → Met s l i (getD (forward b room s l .fates) i 0)
     forward-own s [] i h a = absurd a
@@ -113,7 +109,7 @@ module _ (b : List ℕ) where
         record { before = j ∷ m .before; behind = m .behind; split = ap (λ (x : List ℕ). j ∷ x) (m .split); fated = m .fated })
         a
 
-    -- ---- the whole: an entry with a first reason is told it, any other is settled going forward
+    -- ---- the whole: an entry with a first reason gets that as its fate, any other is settled in the forward pass
     reasons-length : (n : ℕ) (fates : List ℕ) → length (reasons b n fates) ≡ length fates
     reasons-length zero fates = refl
     reasons-length (suc n) fates =
@@ -136,22 +132,21 @@ module _ (b : List ℕ) where
     unfolding repaired
     dropped-at-sight fates i l h d = forward-other _ (ordered b (lookedAt b)) i (never (lookedAt b) i d) ∙ reason-told (lookedAt b) fates i l h d
 
-    pub settled-going-forward : 8 ≤ length b → 8 ≤ room → (fates : List ℕ) (i : ℕ) → i < lookedAt b → i < length fates → firstReason b i ≡ goesOn → Settled b room i (getD (repaired b room fates .fates) i 0)
-    unfolding repaired fateNext
-    settled-going-forward input enough fates i l h e =
+    pub settled-going-forward : (fates : List ℕ) (i : ℕ) → i < lookedAt b → i < length fates → firstReason b i ≡ goesOn → Settled b room i (getD (repaired b room fates .fates) i 0)
+    unfolding repaired
+    settled-going-forward fates i l h e =
         let s : Sofar = record { kept = []; fates = reasons b (lookedAt b) fates } in
         let m = forward-own s (ordered b (lookedAt b)) i (rw (reasons-length (lookedAt b) fates) h) (once (lookedAt b) i l e) in
         let among = kept-free b room s (record { kept = []; fates = [] }) (m .before) refl in
-        let chained = forward-through b room (record { kept = []; fates = [] }) (m .before) (i ∷ m .behind) (rw (← m .split) (start-chained b room input enough)) in
         record {
           before = m .before;
           behind = m .behind;
           order = m .split;
-          fated = m .fated ∙ rw (among, own-last b room (keptAmong b room (m .before)) i (m .behind) chained);
+          fated = m .fated ∙ ap (λ (kept : List ℕ). fateAfter b room kept i) among;
         }
 
-    -- ---- an entry that is told a number is the entry of that number in the new book
-    -- going forward, what is kept stays in its place
+    -- ---- an entry whose fate is a number is the entry of that number in the new book
+    -- in the forward pass, what is kept stays in its place
     record Stays (l m : List ℕ) (k : ℕ) : Type 0 where
       inside : k < length m
       same : getD m k 0 ≡ getD l k 0
@@ -160,7 +155,7 @@ module _ (b : List ℕ) where
     unfolding settle
     settle-stays s i k h =
         let as-it-was : Stays (s .kept) (s .kept) k = record { inside = h; same = refl } in
-        either-way (λ (r : Sofar). Stays (s .kept) (r .kept) k) (overlapsLast b (s .kept) i)
+        either-way (λ (r : Sofar). Stays (s .kept) (r .kept) k) (overlapsLastOfBody b (s .kept) i)
         (λ e. as-it-was)
         (λ e.
         either-way (λ (r : Sofar). Stays (s .kept) (r .kept) k) (hasRoom b room (s .kept) i)
@@ -179,9 +174,9 @@ module _ (b : List ℕ) where
     forward-append s (j ∷ js) m = forward-append (settle b room s j) js m
 
     -- a fate below 2,559 is the next number, and the entry is kept
-    numbered-next : (s : Sofar) (i : ℕ) → fateNext (s .kept) i < 2559 → (settle b room s i .kept ≡ s .kept ++ (i ∷ [])) × (fateNext (s .kept) i ≡ length (s .kept))
-    unfolding settle fateNext
-    numbered-next s i = by (overlapsLast b (s .kept) i) (hasRoom b room (s .kept) i)
+    numbered-next : (s : Sofar) (i : ℕ) → fateAfter b room (s .kept) i < 2559 → (settle b room s i .kept ≡ s .kept ++ (i ∷ [])) × (fateAfter b room (s .kept) i ≡ length (s .kept))
+    unfolding settle
+    numbered-next s i = by (overlapsLastOfBody b (s .kept) i) (hasRoom b room (s .kept) i)
       where
         by :
             (x y : Bool) → (if x then overlapping else if y then length (s .kept) else noRoom) < 2559

@@ -6,7 +6,6 @@ pub mod Whole
 pub mod Unchanged
 pub mod Twice
 pub mod Stability
-pub mod OwnBody
 pub mod Fates
 pub mod OneAnswer
 pub mod Refused

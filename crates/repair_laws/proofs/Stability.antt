@@ -1,4 +1,4 @@
--- The order is by key, and entries with equal keys stand as in the contents. Assumes nothing.
+-- The order is by key, and entries with equal keys are in the order of the contents. Assumes nothing.
 use Prim
 use Prim.Native.Nat.{ℕ, zero, suc, _<_}
 use mathlib.Core.Bool.{true, false}
@@ -9,7 +9,7 @@ use native.Mathlib.Omega.{arith}
 use lib.ListN.{length, getD}
 use Rattle.base.specs.Choice.{_=?_}
 use Rattle.book.specs.Passes.{ascends}
-use Rattle.book.proofs.Below.{clash}
+use Rattle.base.proofs.Bools.{clash}
 use Rattle.repair_sort.specs.Fates.{goesOn}
 use Rattle.repair_sort.specs.Reasons.{firstReason}
 use Rattle.repair_sort.specs.Ordered.{insert, ordered}
@@ -19,12 +19,12 @@ use Rattle.repair_sort.proofs.Inserted.{NoneBefore, Sorted, none-at, ordered-so
 use Rattle.repair_laws.specs.Laws.{Stable}
 
 module _ (b : List ℕ) where
-  -- every entry of a list stands before n in the contents
+  -- every entry of a list is before n in the contents
   abbrev AllBelow : ℕ → List ℕ → Type 0
   AllBelow n [] = Unit {0}
   AllBelow n (j ∷ js) = (j < n) × AllBelow n js
 
-  -- every entry of a list whose key is not above j's stands behind j in the contents
+  -- every entry of a list whose key is not above that of j is after j in the contents
   abbrev Behind : ℕ → List ℕ → Type 0
   Behind j [] = Unit {0}
   Behind j (x ∷ xs) = (ascends b j x ≡ false → j < x) × Behind j xs
@@ -51,7 +51,7 @@ module _ (b : List ℕ) where
   behind-more j i [] h a = (λ e. h, tt)
   behind-more j i (x ∷ xs) h a = either-way (Behind j) (ascends b i x) (λ e. (λ f. h, a)) (λ e. (a .0, behind-more j i xs h (a .1)))
 
-  -- where i comes before j, and no entry of a list before j, i comes before them all
+  -- if i comes before j, and no entry of a list before j, i comes before them all
   none-equal : (i j : ℕ) (l : List ℕ) → ascends b i j ≡ true → NoneBefore b j l → Behind i l
   none-equal i j [] h a = tt
   none-equal i j (x ∷ xs) h a = (λ e. absurd (clash h (not-before-through b j x i e (a .0))), none-equal i j xs h (a .1))

@@ -1,4 +1,4 @@
--- A text that stands at a place of a list, and numbers read from it. Assumes nothing.
+-- A text at a place of a list, and numbers read from it. Assumes nothing.
 use Prim.Native.Nat.{ℕ, zero, suc, _+_, _*_, _/_, _%_, _<_, _≤_}
 use mathlib.Core.List.{List, [], _∷_, _++_}
 use mathlib.Core.Path.{_≡_, sym, ap, _∙_}
@@ -6,7 +6,7 @@ use native.Mathlib.Nat.{add-zero, add-assoc}
 use native.Mathlib.Omega.{arith}
 use lib.ListN.{length, take, drop, getD, length-append, List·getD-append}
 use lib.Seq.{getD-append-add, getD-take, getD-drop}
-use Rattle.book.specs.Bytes.{u16At, u32At, u64At}
+use Rattle.base_bytes.specs.Bytes.{u16At, u32At, u64At}
 use Rattle.book.specs.Contents.{blockLength}
 use Rattle.repair_write.specs.Anew.{part, le32, blocksLength, entryAnew, contentsAnew, blockBytes, blocksAnew}
 use Rattle.repair_sort.specs.Held.{AllSound}
@@ -68,8 +68,9 @@ read-back w at n l s =
     omega arith
 
 module _ (b w : List ℕ) where
-  -- entry k of contents that stand somewhere
-  pub entry-stands : (kept : List ℕ) (at place k : ℕ) → AllSound b kept → k < length kept → Stands w at (contentsAnew b place kept) → Stands w (at + 24 * k) (entryAnew b (getD kept k 0) (place + blocksLength b (take k kept)))
+  -- entry k of contents at some place
+  pub entry-stands : (kept : List ℕ) (at place k : ℕ) → AllSound b kept → k < length kept → Stands w at (contentsAnew b place kept)
+      → Stands w (at + 24 * k) (entryAnew b (getD kept k 0) (place + blocksLength b (take k kept)))
   entry-stands [] at place k a h s = absurd (omega arith)
   entry-stands (i ∷ is) at place zero a h s =
       let e : at + 24 * 0 ≡ at = omega arith in
@@ -80,7 +81,7 @@ module _ (b w : List ℕ) where
       (entry-stands is (at + 24) (place + blockLength b i) k (a .1) (omega arith)
       (stands-right w at (entryAnew b i place) (contentsAnew b (place + blockLength b i) is) (at + 24) (omega (arith, entry-length b i place (a .0 .inside))) s))
 
-  -- block k of blocks that stand somewhere
+  -- block k of blocks at some place
   pub block-stands : (kept : List ℕ) (at k : ℕ) → AllSound b kept → k < length kept → Stands w at (blocksAnew b kept) → Stands w (at + blocksLength b (take k kept)) (blockBytes b (getD kept k 0))
   block-stands [] at k a h s = absurd (omega arith)
   block-stands (i ∷ is) at zero a h s = rw (add-zero at) (stands-left w at (blockBytes b i) (blocksAnew b is) s)

@@ -11,14 +11,16 @@ use Rattle.book.specs.Passes.{passes}
 use Rattle.book.proofs.Passing.{Passing, passing, contents-inside}
 use Rattle.repair_write.specs.Anew.{bookAnew}
 use Rattle.repair_book.specs.Report.{reportOf}
+use Rattle.repair_book.specs.declared.Report.{Report}
 use Rattle.repair_book.specs.Repaired.{repairRefusal, roomOf, keptOf, repairAnswer, outputAfter, fatesAfter}
 use Rattle.repair_book.proofs.Refusals.{refused-none}
 use Rattle.repair_book.specs.declared.RepairAnswer.the-variants.{Written}
-use Rattle.mended.specs.Laws.{Bytes, Copied}
+use Rattle.book_holds.specs.Holds.{Copied}
+use Rattle.repair_laws.specs.Laws.{Bytes}
 use Rattle.repair_laws.proofs.Written.{kept-chained, written-passes, written-copied, book-length}
 use Rattle.repair_laws.proofs.Bytes.{bytes-anew}
 use Rattle.repair_laws.proofs.Whole.{upTo-length, book-all, same-book}
-use Rattle.mended.proofs.Unchanged.{all-looked, kept-whole, repaired-whole, nothing-changed, told}
+use Rattle.repair_laws.proofs.Unchanged.{all-looked, kept-whole, repaired-whole, nothing-changed, outcomeOf}
 
 -- the book that a call writes
 abbrev pub written : List ℕ → ℕ → List ℕ
@@ -37,7 +39,8 @@ pub passes-written : (b : List ℕ) (output : ℕ) → repairRefusal (length b) 
 passes-written b output taken = let r = refused-none (length b) output taken in written-passes b (roomOf output) (r .0) (omega arith) (omega arith)
 
 -- every kept entry's fields and coefficients are the input's bits
-pub copied-written : (b : List ℕ) (output : ℕ) → repairRefusal (length b) output ≡ 0 → (k : ℕ) → k < length (keptOf b (roomOf output)) → Copied b (written b output) (getD (keptOf b (roomOf output)) k 0) k
+pub copied-written : (b : List ℕ) (output : ℕ) → repairRefusal (length b) output ≡ 0 → (k : ℕ) → k < length (keptOf b (roomOf output))
+    → Copied b (written b output) (getD (keptOf b (roomOf output)) k 0) k
 copied-written b output taken = let r = refused-none (length b) output taken in written-copied b (roomOf output) (r .0) (omega arith) (omega arith)
 
 -- the written book is not longer than the output
@@ -48,17 +51,21 @@ fits-written b output taken =
     let f = c .fits in
     omega (arith, book-length b (keptOf b (roomOf output)) (c .sound) (omega arith))
 
+abbrev pub noChange : List ℕ → Report
+noChange b =
+    record { looked = entryCount b; kept = entryCount b; written = length b; changed = record { total = false; count = false; order = false; offsets = false } }
+
 -- "A book that passes comes out byte for byte where the output is at least as long, with a report of no change"
 pub record Unchanged (b : List ℕ) (out fates : List ℕ) : Type 0 where
   pub bytes : outputAfter b out ≡ b ++ drop (length b) out
-  pub report : repairAnswer b (length out) ≡ Written (record { looked = entryCount b; kept = entryCount b; written = length b; changed = record { total = false; count = false; order = false; offsets = false } })
+  pub report : repairAnswer b (length out) ≡ Written (noChange b)
   pub numbers : (k : ℕ) → k < entryCount b → getD (fatesAfter b (length out) fates) k 0 ≡ k
 
 no-refusal : (input output : ℕ) → 8 ≤ input → input ≤ 61_440 → 8 ≤ output → repairRefusal input output ≡ 0
 no-refusal input output h l o = simp (le-ltb input 8 h, le-ltb output 8 o, le-ltb 61_440 input l)
 
 module _ (b out fates : List ℕ) (none : repairRefusal (length b) (length out) ≡ 0) (p : Passing b) (enough : length b ≤ roomOf (length out)) where
-  no-change : repairAnswer b (length out) ≡ Written (record { looked = entryCount b; kept = entryCount b; written = length b; changed = record { total = false; count = false; order = false; offsets = false } })
+  no-change : repairAnswer b (length out) ≡ Written (noChange b)
   unfolding repairAnswer reportOf
   no-change =
       rw (
@@ -72,7 +79,7 @@ module _ (b out fates : List ℕ) (none : repairRefusal (length b) (length out) 
 
   own-numbers : entryCount b ≤ length fates → (k : ℕ) → k < entryCount b → getD (fatesAfter b (length out) fates) k 0 ≡ k
   unfolding fatesAfter
-  own-numbers room k l = rw (eq-eqb (repairRefusal (length b) (length out)) 0 none, repaired-whole b p (roomOf (length out)) enough fates) (told b p (entryCount b) fates room .1 k l)
+  own-numbers room k l = rw (eq-eqb (repairRefusal (length b) (length out)) 0 none, repaired-whole b p (roomOf (length out)) enough fates) (outcomeOf b p (entryCount b) fates room .1 k l)
 
 pub unchanged : (b out fates : List ℕ) → Bytes b → passes b ≡ true → length b ≤ length out → entryCount b ≤ length fates → Unchanged b out fates
 unchanged b out fates small pass long room =
@@ -88,6 +95,7 @@ unchanged b out fates small pass long room =
       numbers = own-numbers b out fates none p enough room;
     }
 
--- repairing twice is repairing once: what was written comes out as it is, into any output that holds it
-pub twice : (b : List ℕ) (output : ℕ) (out fates : List ℕ) → Bytes b → repairRefusal (length b) output ≡ 0 → length (written b output) ≤ length out → entryCount (written b output) ≤ length fates → Unchanged (written b output) out fates
+-- repairing twice is repairing once: the written book comes out unchanged, in any output that is long enough
+pub twice : (b : List ℕ) (output : ℕ) (out fates : List ℕ) → Bytes b → repairRefusal (length b) output ≡ 0 → length (written b output) ≤ length out
+    → entryCount (written b output) ≤ length fates → Unchanged (written b output) out fates
 twice b output out fates small taken long room = unchanged (written b output) out fates (bytes-anew b small (keptOf b (roomOf output))) (passes-written b output taken) long room

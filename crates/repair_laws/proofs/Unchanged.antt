@@ -1,9 +1,9 @@
--- A book that passes comes out byte for byte, with a report of no change, where the output is at least as long. Assumes nothing.
+-- A book that passes comes out byte for byte, with a report of no change, if the output is at least as long. Assumes nothing.
 use Prim.Native.Nat.{ℕ, zero, suc, _+_, _-_, _<_, _≤_}
 use mathlib.Core.Bool.{Bool, true, false, not}
 use mathlib.Core.List.{List, [], _∷_, _++_}
 use mathlib.Core.Logic.{⊎-elim}
-use mathlib.Core.Path.{_≡_, refl, sym, ap, _∙_}
+use mathlib.Core.Path.{_≡_, refl, sym, ap, subst, _∙_}
 use native.Mathlib.Nat.{eq-or-lt-of-le, le-of-suc-le-suc, not-suc-le-zero}
 use native.Mathlib.Omega.{arith}
 use lib.ListN.{length, take, getD, length-set, List·getD-append}
@@ -18,10 +18,12 @@ use Rattle.repair_sort.specs.Fates.{goesOn}
 use Rattle.repair_sort.specs.Reasons.{lookedAt, blockInside, firstReason, reasons}
 use Rattle.repair_sort.specs.Ordered.{insert, ordered}
 use Rattle.repair_write.specs.Anew.{blocksLength, bookLength, placeAnew}
-use Rattle.forward.specs.Forward.{Sofar, overlapsLast, hasRoom, settle, forward}
+use Rattle.repair_choose.specs.Forward.{Sofar, overlapsLast, overlapsLastOfBody, hasRoom, settle, forward}
 use Rattle.repair_book.specs.Report.{asInContents, offsetsStay, changedOf}
 use Rattle.repair_book.specs.Repaired.{repaired, keptOf}
 use Rattle.repair_sort.proofs.Keys.{not-before-back}
+use Rattle.repair_sort.proofs.Inserted.{Sorted, ordered-sorted}
+use Rattle.repair_choose.proofs.OwnBody.{own-last}
 use Rattle.repair_laws.specs.Laws.{upTo, numbered}
 use Rattle.repair_laws.proofs.Whole.{upTo-length, blocks-upTo, book-upTo, book-all}
 
@@ -78,9 +80,9 @@ module _ (b : List ℕ) (p : Passing b) where
   none-noted zero fates h = refl
   none-noted (suc n) fates h = rw (goes-on n h) (none-noted n fates (omega arith))
 
-  no-overlap : (n : ℕ) → n < entryCount b → overlapsLast b (upTo n) n ≡ false
-  no-overlap zero h = refl
-  no-overlap (suc n) h =
+  apart-from-last : (n : ℕ) → n < entryCount b → overlapsLast b (upTo n) n ≡ false
+  apart-from-last zero h = refl
+  apart-from-last (suc n) h =
       let l = upTo-length (suc n) in
       let q : length (upTo (suc n)) - 1 ≡ n = omega arith in
       let e : (length (upTo (suc n)) =? 0) ≡ false = ne-eqb (length (upTo (suc n))) 0 (λ z. omega arith) in
@@ -89,6 +91,9 @@ module _ (b : List ℕ) (p : Passing b) where
       not-is : (x : Bool) → not x ≡ true → x ≡ false
       not-is true h = sym h
       not-is false h = refl
+
+  no-overlap : (n : ℕ) → n < entryCount b → overlapsLastOfBody b (upTo n) n ≡ false
+  no-overlap n h = sym (own-last b (upTo n) n [] (subst (Sorted b) (own-order (suc n) h) (ordered-sorted b (suc n)))) ∙ apart-from-last n h
 
   module _ (room : ℕ) (enough : length b ≤ room) (fates : List ℕ) where
     -- the first n entries, each kept under its own number
@@ -129,11 +134,11 @@ module _ (b : List ℕ) (p : Passing b) where
       place : (k : ℕ) → k < entryCount b → placeAnew b (upTo (entryCount b)) k ≡ entryAt (entryCount b) + blocksLength b (upTo k)
       place k h = rw (upTo-front (entryCount b) k (omega arith), upTo-length (entryCount b))
 
-  -- entry k is told its own number
-  pub told : (n : ℕ) (fates : List ℕ) → n ≤ length fates → (length (numbered n fates) ≡ length fates) × ((k : ℕ) → k < n → getD (numbered n fates) k 0 ≡ k)
-  told zero fates h = (refl, λ k l. absurd (not-suc-le-zero l))
-  told (suc n) fates h =
-      let t = told n fates (omega arith) in (
+  -- the fate of entry k is its own number
+  pub outcomeOf : (n : ℕ) (fates : List ℕ) → n ≤ length fates → (length (numbered n fates) ≡ length fates) × ((k : ℕ) → k < n → getD (numbered n fates) k 0 ≡ k)
+  outcomeOf zero fates h = (refl, λ k l. absurd (not-suc-le-zero l))
+  outcomeOf (suc n) fates h =
+      let t = outcomeOf n fates (omega arith) in (
         length-set (numbered n fates) n n ∙ t .0,
         λ k l.
             ⊎-elim

@@ -1,5 +1,5 @@
 -- A book that passes, written anew from all its entries in their order, is itself. Assumes nothing.
-use Prim.Native.Nat.{ℕ, zero, suc, _+_, _-_, _*_, _<_, _≤_}
+use Prim.Native.Nat.{ℕ, zero, suc, _+_, _*_, _<_, _≤_}
 use mathlib.Core.List.{List, [], _∷_}
 use mathlib.Core.Path.{_≡_, refl, sym}
 use native.Mathlib.Omega.{arith}
@@ -18,7 +18,7 @@ upTo-length zero = refl
 upTo-length (suc n) = omega (arith, upTo-length n, length-append (upTo n) (n ∷ []))
 
 module _ (b : List ℕ) (p : Passing b) where
-  -- the blocks before entry m, from where the contents end
+  -- the blocks before entry m, from the end of the contents
   pub blocks-upTo : (m : ℕ) → entryAt (entryCount b) + blocksLength b (upTo m) ≡ blockPlace b m
   blocks-upTo zero = omega arith
   blocks-upTo (suc m) = omega (arith, blocks-upTo m, blocks-longer b (upTo m) m)
@@ -30,7 +30,7 @@ module _ (b : List ℕ) (p : Passing b) where
   book-all = omega (arith, blocks-upTo (entryCount b), upTo-length (entryCount b), p .whole)
 
   module _ (small : Bytes b) where
-    -- an entry whose block stays where it is
+    -- an entry whose block keeps its place
     same-entry : (m : ℕ) → m < entryCount b → entryAnew b m (blockPlace b m) ≡ part b (entryAt m) 24
     same-entry m h =
         let inside = contents-inside b p in

@@ -1,5 +1,5 @@
 -- What is written passes, and each of its entries is one of the input's. Assumes nothing.
-use Prim.Native.Nat.{ℕ, zero, suc, _+_, _-_, _*_, _<_, _≤_}
+use Prim.Native.Nat.{ℕ, zero, suc, _+_, _*_, _<_, _≤_}
 use mathlib.Core.Bool.{true}
 use mathlib.Core.List.{List, [], _++_, append-nil}
 use mathlib.Core.Path.{_≡_, refl, sym, ap, _∙_}
@@ -22,7 +22,7 @@ use Rattle.repair_book.specs.Repaired.{repaired, keptOf}
 use Rattle.repair_write.proofs.Texts.{part-length, le32-length}
 use Rattle.repair_write.proofs.Books.{contents-length, blocks-length, place-inside, blocks-before}
 use Rattle.repair_sort.proofs.Sounds.{sound-at}
-use Rattle.mended.specs.Laws.{Copied}
+use Rattle.book_holds.specs.Holds.{Copied}
 use Rattle.repair_laws.proofs.Stands.{Stands, Same, stands-left, stands-right, stands-whole, same-part, same-u16, same-u64, read-back, entry-stands, block-stands}
 use Rattle.repair_laws.proofs.Chain.{Chained, start-chained, forward-through}
 
@@ -39,7 +39,7 @@ module _ (b kept : List ℕ) (sound : AllSound b kept) (limit : bookLength b kep
   contents : List ℕ
   contents = contentsAnew b (entryAt (length kept)) kept
 
-  -- ---- where the four parts stand
+  -- ---- the places of the four parts
   parts : Stands w 0 (total ++ count ++ contents ++ blocksAnew b kept)
   unfolding w total count contents bookAnew
   parts = stands-whole (bookAnew b kept)
@@ -115,7 +115,8 @@ module _ (b kept : List ℕ) (sound : AllSound b kept) (limit : bookLength b kep
     times =
         let h = s .inside in
         same-part w b (entryAt k + 8) (entryAt i + 8) 16 (omega arith)
-        (stands-right w (entryAt k) (part b (entryAt i) 4 ++ le32 place) (part b (entryAt i + 8) 16) (entryAt k + 8) (omega (arith, first, le32-length place, length-append (part b (entryAt i) 4) (le32 place))) entry)
+        (stands-right w (entryAt k) (part b (entryAt i) 4 ++ le32 place) (part b (entryAt i + 8) 16) (entryAt k + 8)
+        (omega (arith, first, le32-length place, length-append (part b (entryAt i) 4) (le32 place))) entry)
 
     block : Same w (placeAnew b kept k) b (offsetOf b (getD kept k 0)) (blockLength b (getD kept k 0))
     block =
@@ -169,7 +170,7 @@ module _ (b kept : List ℕ) (sound : AllSound b kept) (limit : bookLength b kep
       let n = copied k (omega arith) .size in
       omega (arith, p, n, blocks-before b kept k (omega arith))
 
-  -- what is written passes, where the entries are in order
+  -- what is written passes, if the entries are in order
   pub passes-anew : ((k : ℕ) → suc k < length kept → InOrder b (getD kept k 0) (getD kept (suc k) 0)) → passes (bookAnew b kept) ≡ true
   passes-anew links =
       let checked : Checked (bookAnew b kept) (entryCount (bookAnew b kept)) =
