@@ -1,26 +1,25 @@
--- What a fuller book says of a body. Assumes nothing.
+-- What a fuller book says about a body. Assumes nothing.
 use mathlib.Core.Bool.{Bool, true, false}
-use mathlib.Core.List.{List, [], _∷_}
-use mathlib.Core.Logic.{_⊎_, inl, inr}
+use mathlib.Core.List.{List, _∷_}
+use mathlib.Core.Logic.{inl, inr}
 use mathlib.Core.Path.{_≡_, refl, sym, ap, _∙_}
-use Prim.Native.Nat.{ℕ, zero, suc, _+_, _*_, _<_, _≤_}
+use Prim.Native.Nat.{ℕ, zero, suc, _+_, _*_, _<_}
 use native.Mathlib.Omega.{arith}
 use lib.Ieee.{Float, binary64, ofBits}
-use Rattle.basis.specs.Choice.{if_then_else_, _=?_}
+use Rattle.base.specs.Choice.{if_then_else_}
 use Rattle.base.specs.Limits.{isMoment}
-use Rattle.book.specs.Contents.{entryCount, bodyOf, sizeOf, startOf, spanOf, endOf, coefficient}
+use Rattle.book.specs.Contents.{sizeOf, coefficient}
 use Rattle.book.specs.Passes.{passes}
-use Rattle.book.specs.Lookup.{lookup, serves}
+use Rattle.book.specs.Lookup.{lookup}
 use Rattle.book.specs.declared.Lookup.{Lookup}
 use Rattle.book.specs.declared.Lookup.the-variants.{Entry, Nothing}
 use Rattle.book.specs.Position.{bodyAt, positionAnswer}
-use Rattle.book.specs.declared.PositionAnswer.{PositionAnswer}
-use Rattle.book.specs.declared.PositionAnswer.the-variants.{At, Refused}
-use Rattle.book.proofs.Passing.{Passing, passing}
+use Rattle.book.specs.declared.PositionAnswer.the-variants.{Refused}
+use Rattle.book.proofs.Passing.{passing}
 use Rattle.book.proofs.Found.{Serving, serving, found, looked-up}
 use Rattle.book.proofs.BodyAt.{no-cover, same-content}
-use Rattle.series.specs.Series.{Block, Content, listed, blockOf, contentOf}
-use Rattle.mended.specs.Laws.{Copied}
+use Rattle.book_series.specs.Series.{listed, blockOf, contentOf}
+use Rattle.book_holds.specs.Holds.{Copied}
 use Rattle.book_laws.specs.Fuller.{HoldsAll, Unless}
 
 -- ---- a copied entry says the same
@@ -69,7 +68,7 @@ module _ (b c : List ℕ) (holds : HoldsAll b c) (pass : passes c ≡ true) wher
       } in
       record { entry = h .0; is = found c body t (passing c pass) (h .0) (h .1) there; content = copied-content b c i (h .0) copy }
 
-  -- where a body stands, and how fast it goes
+  -- the position of a body, and its velocity
   pub body-fuller : (body t : ℕ) → Unless (Refused 6) (bodyAt b body t) (bodyAt c body t)
   body-fuller body t = go (lookup b body t) refl
     where

@@ -1,46 +1,49 @@
 -- Accelerations, injections, moves and steps under a fuller book. Assumes nothing.
-use mathlib.Core.Bool.{Bool, true, false, not, _&&_}
+use mathlib.Core.Bool.{Bool, true, _&&_}
 use mathlib.Core.List.{List}
-use mathlib.Core.Logic.{_⊎_, inl, inr}
+use mathlib.Core.Logic.{inl, inr}
 use mathlib.Core.Path.{_≡_, refl, sym, ap, _∙_, subst}
 use Prim.Native.Nat.{ℕ, _+_, _/_}
 use borrow.Author.Tests.{eqb-true}
-use Rattle.basis.specs.Choice.{if_then_else_, _=?_}
+use Rattle.base.specs.Choice.{_=?_}
 use Rattle.base.specs.Limits.{isMoment}
-use Rattle.state.specs.State.{position, velocity, acceleration, injectionAt, startingPosition, bare, finiteVector, finiteState, finiteInjection, settingAllowed, centreAllowed}
+use Rattle.state.specs.State.{position, velocity, acceleration, injectionAt, startingPosition, bare, finiteVector, finiteInjection, centreAllowed}
 use Rattle.state.specs.declared.Vector.{Vector}
 use Rattle.state.specs.declared.State.{State}
 use Rattle.state.specs.declared.Injection.{Injection}
 use Rattle.state.specs.declared.Setting.{Setting}
+use Rattle.state_checks.specs.Common.{commonRefusal}
+use Rattle.state_checks.proofs.Passed as common
 use Rattle.book.specs.Passes.{passes}
 use Rattle.book.specs.Lookup.{lookup}
 use Rattle.book.specs.declared.Lookup.{Lookup}
 use Rattle.book.specs.declared.Lookup.the-variants.{Entry, Nothing}
-use Rattle.series.specs.Series.{Content, placeIn, velocityIn, contentOf}
+use Rattle.book_series.specs.Series.{Content, placeIn, velocityIn}
 use Rattle.book_series.specs.Series.{place as entry-place, velocity as entry-velocity}
 use Rattle.gravity.specs.Acceleration.{atRest, accelerationAt, accelerationAnswer}
 use Rattle.gravity.specs.declared.AccelerationAnswer.{AccelerationAnswer}
 use Rattle.gravity.specs.declared.AccelerationAnswer.the-variants as answer
-use Rattle.injection.specs.Injection.{ruleAt, keptBy, kept, injectionRefusal, injectionAnswer, orderRefusalBy, orderRefusal}
-use Rattle.injection.specs.declared.InjectionAnswer.{InjectionAnswer}
+use Rattle.gravity_stored.specs.Injection.{ruleAt, keptBy, kept, injectionRefusal, injectionAnswer, storedRefusalBy, storedRefusal}
 use Rattle.gravity_stored.specs.declared.InjectionAnswer.the-variants as injection
 use Rattle.gravity_stored.proofs.Checked.{injectable}
 use Rattle.centre.specs.Move.{motionBy, motionOf, shifted, keptOr7, moveBy, moveOf, moveRefusal, moveAnswer}
 use Rattle.centre.specs.Move as centre
 use Rattle.centre.specs.declared.Seen.{Seen}
 use Rattle.centre.specs.declared.Seen.the-variants.{Covered, Uncovered}
-use Rattle.centre.specs.declared.MoveAnswer.{MoveAnswer}
 use Rattle.centre.specs.declared.MoveAnswer.the-variants as move
 use Rattle.centre.proofs.Moves.{mayMove}
-use Rattle.motion.specs.Step.{Moved, On, Off, andThen, along, weighed, half, sixth, stepH, velocity2, velocity3, velocity4, arrive, lastly, stage2, stage3, stage4, movedBy, keeping, step}
+use Rattle.run.specs.Step.{Moved, Off, andThen, along, weighed, half, sixth, stepH, arrive, movedBy, keeping, step}
+use Rattle.run.specs.Stages.{velocity2, velocity3, velocity4, lastly, stage2, stage3, stage4}
 use Rattle.book_laws.specs.Fuller.{HoldsAll, Unless}
 use Rattle.book_laws.proofs.Carried.{carried, checked, passed}
 use Rattle.book_laws.proofs.Books.{also-found}
 use Rattle.book_laws.proofs.Rule.{rule-fuller}
 
-unless-not : (ok : Bool) → not ok ≡ false → ok ≡ true
-unless-not true e = refl
-unless-not false e = sym e
+-- the common checks read only `passes` of a book
+pub same-common : (b c : List ℕ) → passes b ≡ true → passes c ≡ true → (s : Setting) (centred timed finite : Bool)
+    → commonRefusal b s centred timed finite ≡ commonRefusal c s centred timed finite
+unfolding commonRefusal
+same-common b c first second s centred timed finite = rw (first, second)
 
 module _ (b c : List ℕ) (holds : HoldsAll b c) (first : passes b ≡ true) (second : passes c ≡ true) where
   -- ---- the acceleration call
@@ -49,12 +52,10 @@ module _ (b c : List ℕ) (holds : HoldsAll b c) (first : passes b ≡ true) (se
       → Unless (answer.Refused 6) (accelerationAnswer b s centre t P) (accelerationAnswer c s centre t P)
   unfolding accelerationAnswer
   acceleration-fuller s centre t P =
-      rw (first, second)
-      (checked (not (settingAllowed s)) (answer.Refused 4) (answer.Refused 6) _ _
-      (λ set. checked (not (centreAllowed s centre)) (answer.Refused 14) (answer.Refused 6) _ _
-      (λ one. checked (not (isMoment t)) (answer.Refused 3) (answer.Refused 6) _ _
-      (λ now. checked (not (finiteVector P)) (answer.Refused 7) (answer.Refused 6) _ _
-      (λ fin. rule-fuller b c holds second s centre t P (unless-not (centreAllowed s centre) one))))))
+      let k = commonRefusal c s (centreAllowed s centre) (isMoment t) (finiteVector P) in
+      rw (same-common b c first second s (centreAllowed s centre) (isMoment t) (finiteVector P))
+      (passed (k =? 0) (answer.Refused k) (answer.Refused 6) _ _
+      (λ none. rule-fuller b c holds second s centre t P (common.passed c s _ _ _ (eqb-true k 0 none) .centre)))
 
   -- ---- injections
 
@@ -67,7 +68,7 @@ module _ (b c : List ℕ) (holds : HoldsAll b c) (first : passes b ≡ true) (se
 
   same-checks : (setting : Setting) (i : Injection) → injectionRefusal b setting i ≡ injectionRefusal c setting i
   unfolding injectionRefusal
-  same-checks setting i = rw (first, second)
+  same-checks setting i = same-common b c first second setting _ _ _
 
   pub injection-fuller : (setting : Setting) (i : Injection) → Unless (injection.Refused 6) (injectionAnswer b setting i) (injectionAnswer c setting i)
   unfolding injectionAnswer
@@ -76,11 +77,11 @@ module _ (b c : List ℕ) (holds : HoldsAll b c) (first : passes b ≡ true) (se
       (passed (injectionRefusal c setting i =? 0) (injection.Refused (injectionRefusal c setting i)) (injection.Refused 6) _ _
       (λ none. kept-fuller setting i (injectable c setting i (eqb-true _ 0 none) .1)))
 
-  -- what is stored with a state, judged under both books
-  pub order-fuller : (setting : Setting) (s : State) → centreAllowed setting (s .centre) ≡ true → Unless 6 (orderRefusal b setting s) (orderRefusal c setting s)
-  unfolding orderRefusal
-  order-fuller setting s ok =
-      carried (orderRefusalBy s) (answer.Refused 6) (ruleAt b setting (bare s)) (ruleAt c setting (bare s)) 6 refl
+  -- the acceleration stored with a state, checked under both books
+  pub stored-fuller : (setting : Setting) (s : State) → centreAllowed setting (s .centre) ≡ true → Unless 6 (storedRefusal b setting s) (storedRefusal c setting s)
+  unfolding storedRefusal
+  stored-fuller setting s ok =
+      carried (storedRefusalBy s) (answer.Refused 6) (ruleAt b setting (bare s)) (ruleAt c setting (bare s)) 6 refl
       (rule-fuller b c holds second setting (s .centre) (s .moment) (position s) ok)
 
   -- ---- moves
@@ -128,7 +129,7 @@ module _ (b c : List ℕ) (holds : HoldsAll b c) (first : passes b ≡ true) (se
 
   same-move-checks : (setting : Setting) (s : State) (to : ℕ) → moveRefusal b setting s to ≡ moveRefusal c setting s to
   unfolding moveRefusal
-  same-move-checks setting s to = rw (first, second)
+  same-move-checks setting s to = same-common b c first second setting _ _ _
 
   pub move-fuller : (setting : Setting) (s : State) (to : ℕ) → Unless (move.Refused 6) (moveAnswer b setting s to) (moveAnswer c setting s to)
   unfolding moveAnswer

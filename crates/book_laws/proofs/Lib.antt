@@ -3,6 +3,8 @@ pub mod Books
 pub mod Rule
 pub mod Calls
 pub mod Runs
+pub mod Walks
+pub mod Journeys
 pub mod Legs
 pub mod Record
 pub mod Wrong

@@ -2,13 +2,13 @@
 -- writer) holds every entry of the book that is written without it. Assumes nothing.
 use mathlib.Core.List.{List, [], _∷_, _++_}
 use mathlib.Core.Path.{_≡_, refl, sym, ap, _∙_}
-use Prim.Native.Nat.{ℕ, zero, suc, _+_, _*_, _<_, _≤_}
+use Prim.Native.Nat.{ℕ, zero, suc, _*_, _<_, _≤_}
 use native.Mathlib.Omega.{arith}
 use lib.ListN.{length, getD}
-use Rattle.book.specs.Contents.{entryCount, entryAt, blockLength}
-use Rattle.look.specs.Held.{Sound, AllSound}
+use Rattle.book.specs.Contents.{entryCount}
+use Rattle.repair_sort.specs.Held.{AllSound}
 use Rattle.repair_write.specs.Anew.{blocksLength, bookLength, bookAnew}
-use Rattle.mended.specs.Laws.{Copied}
+use Rattle.book_holds.specs.Holds.{Copied}
 use Rattle.repair_laws.proofs.Written.{counted, copied}
 use Rattle.book_laws.specs.Fuller.{HoldsAll}
 
@@ -32,7 +32,7 @@ module _ (b : List ℕ) (i : ℕ) (back : List ℕ) where
   shorter [] = (refl, omega arith)
   shorter (x ∷ front) = let s = shorter front in (ap suc (s .0), let l = s .1 in omega arith)
 
-  -- where a record stands with the new one among them
+  -- the place of a record, with the new one among them
   pub record Shifted (front : List ℕ) (k : ℕ) : Type 0 where
     pub at : ℕ
     pub inside : at < length (front ++ i ∷ back)
@@ -64,7 +64,7 @@ module _ (b : List ℕ) (i : ℕ) (back : List ℕ) where
               (mathlib.Core.Path.subst (λ (n : ℕ). Copied b (bookAnew b (front ++ i ∷ back)) n (s .at)) (s .is) two),
         )
 
--- every book holds its own entries, and night after night the first one's are held
+-- every book holds its own entries, and those of the first book are held night after night
 pub own : (b : List ℕ) → HoldsAll b b
 own b i h = (i, h, record { body = refl; size = refl; start = refl; span = refl; bits = λ k l. refl })
 

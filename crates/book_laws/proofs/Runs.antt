@@ -1,36 +1,34 @@
--- Document 02, R-12: runs and journeys under a fuller book. Assumes nothing.
-use mathlib.Core.Bool.{Bool, true, false, not}
-use mathlib.Core.List.{List, [], _∷_}
+-- Document 02, R-12: runs under a fuller book. Assumes nothing.
+use mathlib.Core.Bool.{Bool, true, false}
+use mathlib.Core.List.{List}
 use mathlib.Core.Logic.{_⊎_, inl, inr}
 use mathlib.Core.Path.{_≡_, refl, sym, ap, _∙_}
-use Prim.Native.Nat.{ℕ, zero, suc, _+_, _≤_}
+use Prim.Native.Nat.{ℕ, zero, suc, _≤_}
 use native.Mathlib.Numerals.{add-one}
 use native.Mathlib.Omega.{arith}
 use borrow.Author.Tests.{eqb-true, eqb-false}
-use lib.Dec.{eqb·suc-zero}
-use Rattle.basis.specs.Choice.{if_then_else_, _=?_}
-use Rattle.basis.specs.Limits.{isMoment}
-use Rattle.state.specs.State.{finiteState, settingAllowed, centreAllowed}
+use Rattle.base.specs.Choice.{_=?_}
+use Rattle.state.specs.State.{centreAllowed}
 use Rattle.state.specs.declared.State.{State}
 use Rattle.state.specs.declared.Setting.{Setting}
 use Rattle.book.specs.Passes.{passes}
 use Rattle.gravity.specs.declared.Guesses.{Guesses}
-use Rattle.injection.specs.Injection.{orderRefusal}
-use Rattle.start.specs.Start.{stepAllowed, withinSteps, orLater, startRefusal}
-use Rattle.start.proofs.Passed.{passed}
+use Rattle.gravity_stored.specs.Injection.{storedRefusal}
+use Rattle.base.specs.Checks.{orLater}
+use Rattle.run_target.specs.Target.{targetRefusal}
+use Rattle.run_checks.specs.Start.{inputsRefusal, startRefusal}
+use Rattle.run_checks.proofs.Passed.{opened, passed}
 use Rattle.run.specs.Step.{Moved, On, Off, step}
 use Rattle.run.specs.Walk.{walk}
-use Rattle.motion.specs.Run.{Reached, ended, counted, atTarget, runTo, withGuesses, refusedAtOnce, runAnswer}
-use Rattle.motion.specs.declared.Outcome.the-variants.{Arrived, Going, Refused}
-use Rattle.motion.specs.declared.RunAnswer.{RunAnswer}
+use Rattle.run.specs.Run.{Reached, ended, counted, atTarget, runTo, withGuesses, runAnswer}
+use Rattle.run.specs.declared.Outcome.the-variants.{Refused}
 use Rattle.run.proofs.OneStep.{done}
 use Rattle.run.proofs.Runs.{runArrived, runRefused, runOn}
 use Rattle.run.proofs.Walks.{walkFirst, walkNone}
-use Rattle.journey.specs.Journey.{Call, journey}
 use Rattle.run_laws.proofs.Answers.{answerIs, refusedIs}
-use Rattle.fuller.specs.Fuller.{HoldsAll, Unless, SameRun, GoesFurther, FullerRun, Alongside, none, same, gap}
+use Rattle.book_laws.specs.Fuller.{HoldsAll, Unless, FullerRun}
 use Rattle.book_laws.proofs.Carried as carry
-use Rattle.fuller.proofs.Calls.{order-fuller, step-fuller}
+use Rattle.book_laws.proofs.Calls.{same-common, stored-fuller, step-fuller}
 
 -- ---- the run over two steps of which the second is the same, unless the first has a gap
 
@@ -82,28 +80,25 @@ module _ (f g : State → Moved) (Ok : State → Type 0) (each : (s : State) →
 -- ---- the run call
 
 module _ (b c : List ℕ) (holds : HoldsAll b c) (first : passes b ≡ true) (second : passes c ≡ true) (setting : Setting) (h target : ℕ) where
-  is-one : (ok : Bool) → not ok ≡ false → ok ≡ true
-  is-one true e = refl
-  is-one false e = sym e
+  same-inputs : (s : State) → inputsRefusal b setting s target ≡ inputsRefusal c setting s target
+  unfolding inputsRefusal
+  same-inputs s = same-common b c first second setting _ _ _
 
   pub start-fuller : (s : State) → Unless 6 (startRefusal b setting s h target) (startRefusal c setting s h target)
   unfolding startRefusal
   start-fuller s =
-      let way : ℕ = if not (stepAllowed h) then 2 else if not (withinSteps (s .moment) h target) then 5 else 0 in
-      rw (first, second)
-      (carry.checked (not (settingAllowed setting)) 4 6 _ _
-      (λ set. carry.checked (not (centreAllowed setting (s .centre))) 14 6 _ _
-      (λ one. carry.checked (not (isMoment (s .moment))) 3 6 _ _
-      (λ begins. carry.checked (not (isMoment target)) 3 6 _ _
-      (λ ends. carry.checked (not (finiteState s)) 7 6 _ _
-      (λ fin. carry.carried (λ (k : ℕ). orLater k way) 6 (orderRefusal b setting s) (orderRefusal c setting s) 6 refl
-      (order-fuller b c holds first second setting s (is-one (centreAllowed setting (s .centre)) one))))))))
+      let way = targetRefusal (s .moment) h target in
+      let inputs = inputsRefusal c setting s target in
+      rw (same-inputs s)
+      (carry.passed (inputs =? 0) inputs 6 _ _
+      (λ none. carry.carried (λ (k : ℕ). orLater k way) 6 (storedRefusal b setting s) (storedRefusal c setting s) 6 refl
+      (stored-fuller b c holds first second setting s (opened c setting s target (eqb-true inputs 0 none) .1))))
 
   step-keeps : (s next : State) → centreAllowed setting (s .centre) ≡ true → step b setting h s ≡ On next → centreAllowed setting (next .centre) ≡ true
   step-keeps s next ok e = ap (centreAllowed setting) (done b setting h s next e .centre) ∙ ok
 
-  -- "every run that arrives with the first arrives with the second, same bits, same count; and a run refused under the first goes at least as
-  -- many steps under the second": whatever the guesses
+  -- "every run that arrives with the first arrives with the second, same bits, same count; and a run refused under the first goes at least
+  -- as many steps under the second": for all guesses
   pub run-fuller : (s : State) (budget : ℕ) (given other : Guesses)
       → FullerRun b c setting h s (runAnswer b setting s h target budget given) (runAnswer c setting s h target budget other)
   run-fuller s budget given other = go (startRefusal b setting s h target) refl (start-fuller s)
@@ -117,7 +112,8 @@ module _ (b c : List ℕ) (holds : HoldsAll b c) (first : passes b ≡ true) (se
           (λ x ok. step-fuller b c holds second setting h x ok) step-keeps target budget s (passed b setting s h target e .centred)))
         where
           by : (runTo (step b setting h) target budget s ≡ runTo (step c setting h) target budget s)
-              ⊎ Gap (step b setting h) (step c setting h) (λ (x : State). centreAllowed setting (x .centre) ≡ true) (λ x ok. step-fuller b c holds second setting h x ok) step-keeps target s (runTo (step b setting h) target budget s) (runTo (step c setting h) target budget s)
+              ⊎ Gap (step b setting h) (step c setting h) (λ (x : State). centreAllowed setting (x .centre) ≡ true)
+              (λ x ok. step-fuller b c holds second setting h x ok) step-keeps target s (runTo (step b setting h) target budget s) (runTo (step c setting h) target budget s)
               → FullerRun b c setting h s (withGuesses b setting given (runTo (step b setting h) target budget s)) (withGuesses c setting other (runTo (step c setting h) target budget s))
           by (inl alike) =
               inl (record { outcome = ap (λ (r : Reached). r .outcome) alike; steps = ap (λ (r : Reached). r .steps) alike; state = ap (λ (r : Reached). r .state) alike })
@@ -130,35 +126,3 @@ module _ (b c : List ℕ) (holds : HoldsAll b c) (first : passes b ≡ true) (se
       go zero e (inr alike) = started e (sym alike ∙ e)
       go (suc k) e (inr alike) =
           inl (rw (refusedIs b setting s h target budget given k e, refusedIs c setting s h target budget other k (sym alike ∙ e)) (record { outcome = refl; steps = refl; state = refl }))
-
-  -- ---- a journey of several calls
-
-  pub journey-fuller : (s : State) (calls : List Call) → Alongside b c setting h s (journey b setting h target s calls) (journey c setting h target s calls)
-  journey-fuller s [] = none s
-  journey-fuller s (call ∷ calls) =
-      go (run-fuller s (call .budget) (call .guesses) (call .guesses)) (journey-fuller (runAnswer b setting s h target (call .budget) (call .guesses) .state) calls)
-    where
-      go : FullerRun b c setting h s (runAnswer b setting s h target (call .budget) (call .guesses)) (runAnswer c setting s h target (call .budget) (call .guesses))
-          → Alongside b c setting h (runAnswer b setting s h target (call .budget) (call .guesses) .state)
-          (journey b setting h target (runAnswer b setting s h target (call .budget) (call .guesses) .state) calls)
-          (journey c setting h target (runAnswer b setting s h target (call .budget) (call .guesses) .state) calls)
-          → Alongside b c setting h s (journey b setting h target s (call ∷ calls)) (journey c setting h target s (call ∷ calls))
-      go (inr further) later = gap s _ _ _ _ further
-      go (inl alike) later =
-          same s _ _ _ _ alike
-          (subst-later (alike .state) later)
-        where
-          subst-later : runAnswer b setting s h target (call .budget) (call .guesses) .state ≡ runAnswer c setting s h target (call .budget) (call .guesses) .state
-              → Alongside b c setting h (runAnswer b setting s h target (call .budget) (call .guesses) .state)
-              (journey b setting h target (runAnswer b setting s h target (call .budget) (call .guesses) .state) calls)
-              (journey c setting h target (runAnswer b setting s h target (call .budget) (call .guesses) .state) calls)
-              → Alongside b c setting h (runAnswer b setting s h target (call .budget) (call .guesses) .state)
-              (journey b setting h target (runAnswer b setting s h target (call .budget) (call .guesses) .state) calls)
-              (journey c setting h target (runAnswer c setting s h target (call .budget) (call .guesses) .state) calls)
-          subst-later e later =
-              mathlib.Core.Path.subst
-              (λ (x : State).
-              Alongside b c setting h (runAnswer b setting s h target (call .budget) (call .guesses) .state)
-              (journey b setting h target (runAnswer b setting s h target (call .budget) (call .guesses) .state) calls)
-              (journey c setting h target x calls))
-              e later

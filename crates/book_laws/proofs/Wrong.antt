@@ -1,22 +1,21 @@
 -- Document 02, R-12 rules these two programs out. Assumes nothing.
 use mathlib.Core.Bool.{Bool, true, false, not, true≢false}
 use mathlib.Core.List.{List}
-use mathlib.Core.Logic.{_⊎_, inl, inr}
+use mathlib.Core.Logic.{inl, inr}
 use mathlib.Core.Path.{_≡_, refl, sym, ap, _∙_}
 use Prim.Native.Nat.{ℕ, zero, suc, _+_, _*_, _<_}
 use native.Mathlib.Omega.{arith}
 use lib.Ieee.{add, sub, mul, div, lt, ofBits, ofInt, ofFields, odd, size}
 use Rattle.base.specs.Floats.{zero64}
-use Rattle.book.specs.Bytes.{u16At, u32At, u64At}
-use Rattle.book.specs.Contents.{entryCount, sizeOf, offsetOf}
+use Rattle.base_bytes.specs.Bytes.{u16At, u32At, u64At}
+use Rattle.book.specs.Contents.{offsetOf}
 use Rattle.book.specs.Passes.{passes}
 use Rattle.book.specs.Lookup.{lookup}
 use Rattle.book.specs.declared.PositionAnswer.{PositionAnswer}
 use Rattle.book.specs.declared.PositionAnswer.the-variants.{At, Refused}
 use Rattle.book_series.specs.Series.{argument, clenshaw, series, slopes, slope, place, velocity}
-use Rattle.mended.specs.Laws.{Copied}
 use Rattle.book_laws.specs.Fuller.{HoldsAll, Unless}
-use Rattle.fuller.specs.Wrong.{PositionCall, Unmoved, fromTheBack, byNumber, moonBook, sunBook, bothBook}
+use Rattle.book_laws.specs.Wrong.{Unmoved, fromTheBack, byNumber, moonBook, sunBook, bothBook}
 
 moon-passes : passes moonBook ≡ true
 unfolding passes u16At u32At u64At ofBits ofFields odd size
@@ -74,7 +73,7 @@ abbrev at-zero : PositionAnswer → Bool
 at-zero (At M) = not (lt zero64 (M .place .x))
 at-zero (Refused k) = false
 
--- the same, unless it is refused: then a test that no refusal meets is met by both
+-- the same, unless it is refused: both meet a test that no refusal meets
 both-meet : (test : PositionAnswer → Bool) → test (Refused 6) ≡ false → (x y : PositionAnswer) → Unless (Refused 6) x y → test x ≡ true → test y ≡ true
 both-meet test none x y (inl e) meets = absurd (true≢false (sym meets ∙ ap test e ∙ none))
 both-meet test none x y (inr e) meets = ap test (sym e) ∙ meets
