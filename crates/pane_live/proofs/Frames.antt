@@ -22,19 +22,26 @@ shown-once p q = go (finiteVector p)
     go true e = cc
     go false e = let z : _≡_ {A = ℕ} 0 1 = cc in absurd (omega arith)
 
--- "what is shown as current lies between two reached states": never past the newer one
-pub current : (pane : Pane) (t : ℕ) (p : Vector) → frameAt pane t ≡ frame.Current p → Shown pane t p
+-- a current frame of two states lies between them, and shows their figure
+pub between-them : (a b : State) (t : ℕ) (p : Vector) → frameAt (Two a b) t ≡ frame.Current p → (a .moment ≤ t) × (t ≤ b .moment) × (p ≡ figure a b t)
 unfolding frameAt
-current Blank t p e = let z : _≡_ {A = ℕ} 0 1 = cc in absurd (omega arith)
-current (One a) t p e = let z : _≡_ {A = ℕ} 0 1 = cc in absurd (omega arith)
-current (Two a b) t p e = go (b .moment <? t) refl (t <? a .moment) refl e
+between-them a b t p e = go (b .moment <? t) refl (t <? a .moment) refl e
   where
     go : (late : Bool) → (b .moment <? t) ≡ late → (early : Bool) → (t <? a .moment) ≡ early
-        → (if late then frame.Late (t - b .moment) else if early then frame.Empty else shown (figure a b t)) ≡ frame.Current p → Shown (Two a b) t p
+        → (if late then frame.Late (t - b .moment) else if early then frame.Empty else shown (figure a b t)) ≡ frame.Current p
+        → (a .moment ≤ t) × (t ≤ b .moment) × (p ≡ figure a b t)
     go true l early e c = let z : _≡_ {A = ℕ} 0 1 = cc in absurd (omega arith)
     go false l true e c = let z : _≡_ {A = ℕ} 0 1 = cc in absurd (omega arith)
-    go false l false e c =
-        record { older = a; newer = b; held = refl; from = ltb-false t (a .moment) e; until = ltb-false (b .moment) t l }
+    go false l false e c = (ltb-false t (a .moment) e, ltb-false (b .moment) t l, sym (shown-once (figure a b t) p c))
+
+-- "what is shown as current lies between two reached states": never past the newer one
+pub current : (pane : Pane) (t : ℕ) (p : Vector) → InOrder pane → frameAt pane t ≡ frame.Current p → Shown pane t p
+unfolding frameAt
+current Blank t p order e = let z : _≡_ {A = ℕ} 0 1 = cc in absurd (omega arith)
+current (One a) t p order e = let z : _≡_ {A = ℕ} 0 1 = cc in absurd (omega arith)
+current (Two a b) t p order e =
+    let w = between-them a b t p e in
+    record { older = a; newer = b; held = refl; from = w .0; until = w .1; centre = order .centre; is = w .2 }
 
 module _ (a b : State) (t : ℕ) where
   -- "a frame past the newer state": late by the time that has gone, and no position
@@ -56,4 +63,5 @@ at-older a b rises fin =
 pub at-newer : (a b : State) → a .moment < b .moment → finiteVector (position b) ≡ true → frameAt (Two a b) (b .moment) ≡ frame.Current (position b)
 unfolding frameAt figure
 at-newer a b rises fin =
-    rw (le-ltb (b .moment) (b .moment) (omega arith), le-ltb (b .moment) (a .moment) (omega arith), ne-eqb (b .moment) (a .moment) (λ e. absurd (omega arith)), eq-eqb (b .moment) (b .moment) refl, fin)
+    rw (le-ltb (b .moment) (b .moment) (omega arith), le-ltb (b .moment) (a .moment) (omega arith))
+    (rw (ne-eqb (b .moment) (a .moment) (λ e. absurd (omega arith)), eq-eqb (b .moment) (b .moment) refl, fin))

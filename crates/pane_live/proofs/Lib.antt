@@ -1,4 +1,3 @@
 pub mod Frames
 pub mod Taken
-pub mod Night
 pub mod OneAnswer

@@ -1,4 +1,4 @@
--- What the pane holds. Assumes nothing.
+-- The states in the pane. Assumes nothing.
 use mathlib.Core.Bool.{Bool, true, false, _&&_}
 use mathlib.Core.List.{List, [], _∷_}
 use mathlib.Core.Path.{_≡_, refl, sym, ap, _∙_}
@@ -10,7 +10,7 @@ use Rattle.state.specs.declared.State.{State}
 use Rattle.run.specs.declared.Outcome.{Outcome}
 use Rattle.run.specs.declared.Outcome.the-variants as outcome
 use Rattle.run.specs.declared.RunAnswer.{RunAnswer}
-use Rattle.book.proofs.Below.{left, right}
+use Rattle.base.proofs.Bools.{left, right}
 use Rattle.pane_live.specs.Pane.{follows, takenAfter, take, feedBy, feed, clear, after}
 use Rattle.pane_live.specs.Laws.{Risen, InOrder, fed}
 use Rattle.pane_live.specs.declared.Pane.{Pane}
@@ -59,7 +59,7 @@ pub cleared-takes : (s : State) → take clear s ≡ Taken (One s)
 unfolding take
 cleared-takes s = refl
 
--- a state that is not later is not taken: with 18, and the pane is as it was
+-- a state that is not later is not taken: 18, and the pane is unchanged
 not-later : (newer s : State) → s .moment ≤ newer .moment → takenAfter newer s ≡ Refused 18
 not-later newer s old = rw (le-ltb (newer .moment) (s .moment) old) (go (s .centre =? newer .centre))
   where

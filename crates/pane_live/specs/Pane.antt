@@ -32,7 +32,7 @@ take Blank s = Taken (One s)
 take (One a) s = takenAfter a s
 take (Two a b) s = takenAfter b s
 
--- "a refused run changes nothing in the pane"; any other hands it the state reached
+-- "a refused run changes nothing in the pane"; any other gives the pane the state reached
 abbrev pub feedBy : Outcome → Pane → State → TakeAnswer
 feedBy outcome.Arrived pane s = take pane s
 feedBy outcome.Going pane s = take pane s
@@ -45,7 +45,7 @@ feed pane r = feedBy (r .outcome) pane (r .state)
 abbrev pub clear : Pane
 clear = Blank
 
--- what the pane is after a call
+-- the pane after a call
 abbrev pub after : Pane → TakeAnswer → Pane
 after pane (Taken next) = next
 after pane Unchanged = pane
@@ -53,17 +53,22 @@ after pane (Refused k) = pane
 
 -- ---- the figure of a frame
 
--- one component of "the cubic through both positions and velocities", by docs/DECISIONS.md's order of operations
+-- docs/DECISIONS.md, "The operation order": "c2 = (3·e - 2·m0) - m1; c3 = (m0 + m1) - 2·e"
+abbrev pub c2 : Float → Float → Float → Float
+c2 e m0 m1 = (whole 3 ⊗ e ⊖ whole 2 ⊗ m0) ⊖ m1
+
+abbrev pub c3 : Float → Float → Float → Float
+c3 e m0 m1 = (m0 ⊕ m1) ⊖ whole 2 ⊗ e
+
+-- one component of "the cubic through both positions and velocities", by that order
 abbrev pub cubic : Float → Float → Float → Float → Float → Float → Float
 cubic D s p0 v0 p1 v1 =
     let m0 = D ⊗ v0 in
     let m1 = D ⊗ v1 in
     let e = p1 ⊖ p0 in
-    let c2 = (whole 3 ⊗ e ⊖ whole 2 ⊗ m0) ⊖ m1 in
-    let c3 = (m0 ⊕ m1) ⊖ whole 2 ⊗ e in
-    p0 ⊕ s ⊗ (m0 ⊕ s ⊗ (c2 ⊕ s ⊗ c3))
+    p0 ⊕ s ⊗ (m0 ⊕ s ⊗ (c2 e m0 m1 ⊕ s ⊗ c3 e m0 m1))
 
--- `gone` ms past the older state, of a span of so many ms: "s = (t - t0)/(t1 - t0) as one quotient"
+-- `gone` ms after the older state, in a span of that many ms: "s = (t - t0)/(t1 - t0) as one quotient"
 unfoldable pub between : State → State → ℕ → ℕ → Vector
 between a b gone span =
     let D = whole span ⊘ whole 1000 in

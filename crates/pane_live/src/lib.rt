@@ -1,5 +1,9 @@
 // (02, R-14) The live pane: it keeps the last two reached states, and answers each frame with current, late or empty.
 
+pub mod inner;
+
+use inner::along_cubic;
+use inner::to_float;
 use run::Outcome;
 use run::RunAnswer;
 use state::State;
@@ -7,7 +11,7 @@ use state::Vector;
 use state::position_of;
 ghost use mathlib.Core.Path.{_≡_};
 ghost use Prim.Native.Nat.{_≤_};
-ghost use Rattle.live.specs.Pane.{follows, takenAfter, take, feedBy, feed, after, clear, cubic, between, figure, shown, frameBetween, frameAt};
+ghost use Rattle.pane_live.specs.Pane.{follows, takenAfter, take, feedBy, feed, after, clear, between, figure, shown, frameBetween, frameAt};
 
 // None, one, or the older and the newer of two states.
 pub enum Pane {
@@ -73,7 +77,7 @@ fn feed_by(outcome: Outcome, pane: Pane, state: State) -> TakeAnswer
     }
 }
 
-// What a run answered: a refused one changes nothing.
+// Takes the answer of a run: a refused one changes nothing.
 pub fn feed(pane: Pane, answer: RunAnswer) -> TakeAnswer
     ensures { λ r. ⌜ r ≡ feed pane answer ⌝ }
 {
@@ -81,7 +85,7 @@ pub fn feed(pane: Pane, answer: RunAnswer) -> TakeAnswer
     feed_by(outcome, pane, answer.state)
 }
 
-// What the pane is after a call that answered so.
+// The pane after a call with this answer.
 pub fn after(pane: Pane, answer: TakeAnswer) -> Pane
     ensures { λ r. ⌜ r ≡ after pane answer ⌝ }
 {
@@ -98,23 +102,12 @@ pub fn clear() -> Pane
     Pane::Blank
 }
 
-fn along_cubic(d: f64, s: f64, p0: f64, v0: f64, p1: f64, v1: f64) -> f64
-    ensures { λ r. ⌜ r ≡ cubic d s p0 v0 p1 v1 ⌝ }
-{
-    let m0 = d * v0;
-    let m1 = d * v1;
-    let e = p1 - p0;
-    let c2 = (3.0 * e - 2.0 * m0) - m1;
-    let c3 = (m0 + m1) - 2.0 * e;
-    p0 + s * (m0 + s * (c2 + s * c3))
-}
-
 fn place_between(a: State, b: State, gone: u64, span: u64) -> Vector
     ensures { λ r. ⌜ r ≡ between a b gone span ⌝ }
 {
-    let long = std::num::nearest_u64_to_f64(span);
+    let long = to_float(span);
     let d = long / 1000.0;
-    let s = std::num::nearest_u64_to_f64(gone) / long;
+    let s = to_float(gone) / long;
     Vector {
         x: along_cubic(d, s, a.x, a.vx, b.x, b.vx),
         y: along_cubic(d, s, a.y, a.vy, b.y, b.vy),

@@ -4,12 +4,9 @@ use borrow.Author.Needs.{needs}
 use Rattle.pane_live.proofs.feed.Statement.{statement}
 use Rattle.pane_live.proofs.feed.Tie as tie
 
-feed-by-requires : tie.Need-feed-by-requires
-feed-by-requires c κs = search needs
-
 returns : tie.Need-returns
 unfolding feed
 returns c = c .feed-by .ensures
 
 pub feed-spec : {M : Type 1} → statement M
-feed-spec = tie.close (tie.spec feed-by-requires returns)
+feed-spec = tie.close (tie.spec (λ c κs. search needs) returns)

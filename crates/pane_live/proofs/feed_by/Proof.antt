@@ -3,21 +3,6 @@ use borrow.Author.Needs.{needs}
 use Rattle.pane_live.proofs.feed_by.Statement.{statement}
 use Rattle.pane_live.proofs.feed_by.Tie as tie
 
-enum-told : tie.Need-enum-told
-enum-told c = search needs
-
-take-requires : tie.Need-take-requires
-take-requires c κs = search needs
-
-enum-told-2 : tie.Need-enum-told-2
-enum-told-2 c = search needs
-
-take-requires-2 : tie.Need-take-requires-2
-take-requires-2 c κs = search needs
-
-enum-known-outcome : tie.Need-enum-known-outcome
-enum-known-outcome c = search needs
-
 returns : tie.Need-returns
 returns c = rw (c .before .enum-told .given .1) (c .take .ensures)
 
@@ -31,11 +16,11 @@ pub feed-by-spec : {M : Type 1} → statement M
 feed-by-spec =
     tie.close
     (tie.spec
-    enum-told
-    take-requires
-    enum-told-2
-    take-requires-2
-    enum-known-outcome
+    (λ c. search needs)
+    (λ c κs. search needs)
+    (λ c. search needs)
+    (λ c κs. search needs)
+    (λ c. search needs)
     returns
     returns-2
     returns-3)

@@ -4,18 +4,6 @@ use borrow.Author.Needs.{needs}
 use Rattle.pane_live.proofs.frame.Statement.{statement}
 use Rattle.pane_live.proofs.frame.Tie as tie
 
-enum-told : tie.Need-enum-told
-enum-told c = search needs
-
-enum-known-pane : tie.Need-enum-known-pane
-enum-known-pane c = search needs
-
-enum-known-pane-2 : tie.Need-enum-known-pane-2
-enum-known-pane-2 c = search needs
-
-frame-between-requires : tie.Need-frame-between-requires
-frame-between-requires c κs = search needs
-
 returns : tie.Need-returns
 unfolding frameAt
 returns c = rw (c .enum-told .given .1)
@@ -32,10 +20,10 @@ pub frame-spec : {M : Type 1} → statement M
 frame-spec =
     tie.close
     (tie.spec
-    enum-told
-    enum-known-pane
-    enum-known-pane-2
-    frame-between-requires
+    (λ c. search needs)
+    (λ c. search needs)
+    (λ c. search needs)
+    (λ c κs. search needs)
     returns
     returns-2
     returns-3)

@@ -11,32 +11,19 @@ thousand : ofBits binary64 0x408f_4000_0000_0000 ≡ whole 1000
 unfolding ofBits ofInt round
 thousand = refl
 
-nearest-u64-to-f64-requires : tie.Need-nearest-u64-to-f64-requires
-nearest-u64-to-f64-requires c κs = search needs
-
-nearest-u64-to-f64-requires-2 : tie.Need-nearest-u64-to-f64-requires-2
-nearest-u64-to-f64-requires-2 c κs = search needs
-
-along-cubic-requires : tie.Need-along-cubic-requires
-along-cubic-requires c κs = search needs
-
-along-cubic-requires-2 : tie.Need-along-cubic-requires-2
-along-cubic-requires-2 c κs = search needs
-
-along-cubic-requires-3 : tie.Need-along-cubic-requires-3
-along-cubic-requires-3 c κs = search needs
-
 returns : tie.Need-returns
 unfolding between
-returns c = rw (c .along-cubic3 .ensures, c .before .along-cubic2 .ensures, c .before .before .along-cubic .ensures, c .before .before .before .nearest-u64-to-f642 .ensures, c .before .before .before .before .nearest-u64-to-f64 .ensures, thousand)
+returns c =
+    rw (c .along-cubic3 .ensures, c .before .along-cubic2 .ensures, c .before .before .along-cubic .ensures)
+    (rw (c .before .before .before .to-float2 .ensures, c .before .before .before .before .to-float .ensures, thousand))
 
 pub place-between-spec : {M : Type 1} → statement M
 place-between-spec =
     tie.close
     (tie.spec
-    nearest-u64-to-f64-requires
-    nearest-u64-to-f64-requires-2
-    along-cubic-requires
-    along-cubic-requires-2
-    along-cubic-requires-3
+    (λ c κs. search needs)
+    (λ c κs. search needs)
+    (λ c κs. search needs)
+    (λ c κs. search needs)
+    (λ c κs. search needs)
     returns)

@@ -4,9 +4,6 @@ use borrow.Author.Needs.{needs}
 use Rattle.pane_live.proofs.show.Statement.{statement}
 use Rattle.pane_live.proofs.show.Tie as tie
 
-vector-is-finite-requires : tie.Need-vector-is-finite-requires
-vector-is-finite-requires c κs = search needs
-
 returns : tie.Need-returns
 returns c = rw (sym (c .before .vector-is-finite .ensures) ∙ c .if1 .taken)
 
@@ -14,4 +11,4 @@ returns-2 : tie.Need-returns-2
 returns-2 c = rw (sym (c .before .vector-is-finite .ensures) ∙ c .if1 .left)
 
 pub show-spec : {M : Type 1} → statement M
-show-spec = tie.close (tie.spec vector-is-finite-requires returns returns-2)
+show-spec = tie.close (tie.spec (λ c κs. search needs) returns returns-2)

@@ -4,21 +4,6 @@ use borrow.Author.Needs.{needs}
 use Rattle.pane_live.proofs.take.Statement.{statement}
 use Rattle.pane_live.proofs.take.Tie as tie
 
-enum-told : tie.Need-enum-told
-enum-told c = search needs
-
-enum-known-pane : tie.Need-enum-known-pane
-enum-known-pane c = search needs
-
-taken-after-requires : tie.Need-taken-after-requires
-taken-after-requires c κs = search needs
-
-enum-known-pane-2 : tie.Need-enum-known-pane-2
-enum-known-pane-2 c = search needs
-
-taken-after-requires-2 : tie.Need-taken-after-requires-2
-taken-after-requires-2 c κs = search needs
-
 returns : tie.Need-returns
 unfolding take
 returns c = rw (c .enum-told .given .1)
@@ -35,11 +20,11 @@ pub take-spec : {M : Type 1} → statement M
 take-spec =
     tie.close
     (tie.spec
-    enum-told
-    enum-known-pane
-    taken-after-requires
-    enum-known-pane-2
-    taken-after-requires-2
+    (λ c. search needs)
+    (λ c. search needs)
+    (λ c κs. search needs)
+    (λ c. search needs)
+    (λ c κs. search needs)
     returns
     returns-2
     returns-3)

@@ -4,9 +4,6 @@ use borrow.Author.Needs.{needs}
 use Rattle.pane_live.proofs.taken_after.Statement.{statement}
 use Rattle.pane_live.proofs.taken_after.Tie as tie
 
-is-next-requires : tie.Need-is-next-requires
-is-next-requires c κs = search needs
-
 returns : tie.Need-returns
 returns c = rw (sym (c .before .is-next .ensures) ∙ c .if1 .taken)
 
@@ -14,4 +11,4 @@ returns-2 : tie.Need-returns-2
 returns-2 c = rw (sym (c .before .is-next .ensures) ∙ c .if1 .left)
 
 pub taken-after-spec : {M : Type 1} → statement M
-taken-after-spec = tie.close (tie.spec is-next-requires returns returns-2)
+taken-after-spec = tie.close (tie.spec (λ c κs. search needs) returns returns-2)

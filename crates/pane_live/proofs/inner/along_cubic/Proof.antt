@@ -1,8 +1,8 @@
--- `live::along_cubic` meets its contract. Assumes nothing.
+-- `pane_live::inner::along_cubic` meets its contract. Assumes nothing.
 use mathlib.Core.Path.{refl}
 use lib.Ieee.{ofBits, ofInt}
-use Rattle.live.proofs.along_cubic.Statement.{statement}
-use Rattle.live.proofs.along_cubic.Tie as tie
+use Rattle.pane_live.proofs.inner.along_cubic.Statement.{statement}
+use Rattle.pane_live.proofs.inner.along_cubic.Tie as tie
 
 returns : tie.Need-returns
 unfolding ofBits ofInt
