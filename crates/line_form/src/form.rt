@@ -1,11 +1,13 @@
-// The numbers of a call: a line is a name and fields, each behind one space.
+// The numbers of a call: a line is a name and fields, each after one space.
 
 use text_write::Field;
-pub use values::Numbers;
 ghost use Prim.Native.Nat.{_≤_};
 ghost use mathlib.Core.Path.{_≡_};
 ghost use lib.ListN.{length, take};
-ghost use Rattle.dialogue.specs.Call.{below32, cap, aboveZero, belowZero, readSigned, readPrinted, fieldAt, fieldsFrom, startsWith, callOf, told};
+ghost use Rattle.line_form.specs.Call.{below32, cap, aboveZero, belowZero, readSigned, readPrinted, fieldAt, fieldsFrom, startsWith, callOf, orUnreadable};
+
+// As many as the longest call has. A float is kept as its bits.
+pub type Numbers = [u64; 30];
 
 fn starts_with(line: &[u8], name: &[u8]) -> bool
     ensures { λ r. ⌜ r ≡ startsWith (now (line .entry)) (now (name .entry)) ⌝ }
@@ -33,7 +35,7 @@ fn small(field: Field) -> Field
     Field::Bad
 }
 
-// No angle is as large as that.
+// No angle is this large.
 fn capped(number: u64) -> u64
     ensures { λ r. ⌜ (r ≡ cap number) × (r ≤ 0x4000_0000_0000_0000) ⌝ }
 {
@@ -89,7 +91,8 @@ fn read_printed(line: &[u8], at: usize) -> Field
     text_write::read_hex16(line, at)
 }
 
-// The field behind a space: D is a decimal, N one that may carry a minus sign, S one of 32 bits, F a float, and P one as it is printed.
+// The field after a space. Kinds: D a decimal, N one that may have a minus sign, S one of 32 bits, F a float, P a
+// float as it is printed.
 fn field_at(kind: u8, line: &[u8], at: usize) -> Field
     ensures { λ r. ⌜ r ≡ fieldAt kind (now (line .entry)) at ⌝ }
 {
@@ -110,7 +113,7 @@ fn field_at(kind: u8, line: &[u8], at: usize) -> Field
 
 fn fields_from(line: &[u8], from: usize, kinds: &[u8], numbers: &mut [u64]) -> bool
     requires { ⌜ length (now kinds) ≤ length (now numbers) ⌝ }
-    ensures { λ r. ⌜ told r (take (length (now (kinds .entry))) (now (numbers .exit))) ≡ fieldsFrom (now (line .entry)) (now (kinds .entry)) from ⌝ }
+    ensures { λ r. ⌜ orUnreadable r (take (length (now (kinds .entry))) (now (numbers .exit))) ≡ fieldsFrom (now (line .entry)) (now (kinds .entry)) from ⌝ }
 {
     let mut at = from;
     for i in 0..kinds.len() {
@@ -123,10 +126,10 @@ fn fields_from(line: &[u8], from: usize, kinds: &[u8], numbers: &mut [u64]) -> b
     at == line.len()
 }
 
-// Whether the line is a call of that name with fields of these kinds, whose numbers it reads.
+// Whether the line is a call of that name with fields of these kinds. If so, reads their numbers.
 pub fn reads(line: &[u8], name: &[u8], kinds: &[u8], numbers: &mut Numbers) -> bool
     requires { ⌜ length (now kinds) ≤ 30 ⌝ }
-    ensures { λ r. ⌜ told r (take (length (now (kinds .entry))) (now (numbers .exit))) ≡ callOf (now (line .entry)) (now (name .entry)) (now (kinds .entry)) ⌝ }
+    ensures { λ r. ⌜ orUnreadable r (take (length (now (kinds .entry))) (now (numbers .exit))) ≡ callOf (now (line .entry)) (now (name .entry)) (now (kinds .entry)) ⌝ }
 {
     if starts_with(line, name) {
         return fields_from(line, name.len(), kinds, numbers);

@@ -1,9 +1,10 @@
-// The numbers of a call's fields as the values that the crates below take, each from a place that is known to have numbers enough behind it.
+// The numbers of a call's fields as the values that the crates below take. Each function requires enough numbers
+// after its place.
 
-use crate::Numbers;
 use gravity::Guesses;
 use launch::Sphere;
 use launch::signed_of;
+use line_form::form::Numbers;
 use state::Injection;
 use state::Setting;
 use state::State;
@@ -12,7 +13,7 @@ ghost use mathlib.Core.Path.{_≡_};
 ghost use Prim.Native.Nat.{_+_, _≤_};
 ghost use Rattle.line_values.specs.Values.{narrow, nthFloat, vectorFrom, injectionFrom, stateFrom, unkeptFrom, oldSetting, settingFrom, guessesFrom, sphereFrom};
 
-// The reader has seen that a number of 32 bits has no more of them.
+// The reader has checked that the number fits 32 bits.
 pub fn narrowed(number: u64) -> u32
     ensures { λ r. ⌜ r ≡ narrow number ⌝ }
 {
@@ -65,7 +66,7 @@ pub fn state_from(v: &Numbers, i: usize) -> State
     state::carrying(injection, vector_from(v, i + 8))
 }
 
-// For a call that does not read the acceleration: an old line has none, and zero stands for it.
+// For a call that does not read the acceleration: an old line has none, so it is zero.
 pub fn unkept_from(v: &Numbers, moment: u64, i: usize) -> State
     requires { ⌜ i + 6 ≤ 30 ⌝ }
     ensures { λ r. ⌜ r ≡ unkeptFrom (now (v .entry)) moment i ⌝ }
@@ -78,7 +79,8 @@ pub fn unkept_from(v: &Numbers, moment: u64, i: usize) -> State
     state::carrying(injection_from(v, moment, 1, i), none)
 }
 
-// The first seven numbers are six coefficients and DUT. An old line has no more of a setting: J, A and K are zero, and the rule is 0.
+// The first seven numbers are six coefficients and DUT. An old line has no other part of a setting: J, A and K are
+// zero, and the rule is 0.
 pub fn old_setting(v: &Numbers) -> Setting
     ensures { λ r. ⌜ r ≡ oldSetting (now (v .entry)) ⌝ }
 {
@@ -97,7 +99,7 @@ pub fn old_setting(v: &Numbers) -> Setting
     }
 }
 
-// The first eleven numbers: behind DUT come J, A, K and the rule.
+// The first eleven numbers: after DUT come J, A, K and the rule.
 pub fn setting_of(v: &Numbers) -> Setting
     ensures { λ r. ⌜ r ≡ settingFrom (now (v .entry)) ⌝ }
 {

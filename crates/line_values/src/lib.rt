@@ -1,6 +1,3 @@
-// What the numbers of a call's line stand for.
+// The meaning of the numbers in the line of a call.
 
 pub mod inner;
-
-// As many as the longest call has. A float stands as its bits.
-pub type Numbers = [u64; 30];

@@ -10,15 +10,6 @@ use Rattle.line_form.specs.Call.{cap}
 use Rattle.line_form.proofs.form.below_zero.Statement.{statement}
 use Rattle.line_form.proofs.form.below_zero.Tie as tie
 
-enum-known-field : tie.Need-enum-known-field
-enum-known-field c = search needs
-
-enum-told : tie.Need-enum-told
-enum-told c = search needs
-
-returns : tie.Need-returns
-returns c = search needs
-
 -- a capped number is 0 only for 0
 some : (r n : ℕ) → r ≡ cap n → (n ≡ 0 → ⊥) → 1 ≤ r
 some r n is h = rw is (go (n <? 0x4000_0000_0000_0000))
@@ -44,4 +35,4 @@ returns-3 c =
     rw (c .before .before .before .field .given .1, ne-eqb _ _ (c .before .if1 .left), e, c .capped .ensures .0)
 
 pub below-zero-spec : {M : Type 1} → statement M
-below-zero-spec = tie.close (tie.spec enum-known-field enum-told returns returns-2 (λ c κs. tt) sub-t6 add-t7 returns-3)
+below-zero-spec = tie.close (tie.spec (λ c. search needs) (λ c. search needs) (λ c. search needs) returns-2 (λ c κs. tt) sub-t6 add-t7 returns-3)

@@ -4,11 +4,7 @@ use borrow.Author.Tests.{lt-ltb, le-ltb}
 use Rattle.line_form.proofs.form.capped.Statement.{statement}
 use Rattle.line_form.proofs.form.capped.Tie as tie
 
-returns : tie.Need-returns
-returns c = (rw (lt-ltb _ _ (c .if1 .taken)), omega arith)
-
-returns-2 : tie.Need-returns-2
-returns-2 c = (rw (le-ltb _ _ (c .if1 .left)), omega arith)
-
 pub capped-spec : {M : Type 1} → statement M
-capped-spec = tie.close (tie.spec returns returns-2)
+capped-spec =
+    tie.close
+    (tie.spec (λ c. (rw (lt-ltb _ _ (c .if1 .taken)), omega arith)) (λ c. (rw (le-ltb _ _ (c .if1 .left)), omega arith)))

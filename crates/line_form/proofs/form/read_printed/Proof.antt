@@ -12,34 +12,13 @@ use borrow.Author.Needs.{needs}
 use Rattle.line_form.proofs.form.read_printed.Statement.{statement}
 use Rattle.line_form.proofs.form.read_printed.Tie as tie
 
--- what is lent of the line from a place on is all that stands there
+-- the slice of the line from a place on is everything after that place
 behind : (line : List ℕ) (at : ℕ) → take (length line - at) (drop at line) ≡ drop at line
 behind line at = take-all (length line - at) (drop at line) (rw length-drop (omega arith))
-
-read-hex16-requires : tie.Need-read-hex16-requires
-read-hex16-requires c κs = search needs
 
 returns : tie.Need-returns
 unfolding readPrinted
 returns c = rw (lt-leb _ _ (c .before .if1 .taken)) (c .read-hex16 .ensures)
-
-sub-starts-with : tie.Need-sub-starts-with
-sub-starts-with c = search needs
-
-part-starts-with-start : tie.Need-part-starts-with-start
-part-starts-with-start c = search needs
-
-part-starts-with-end : tie.Need-part-starts-with-end
-part-starts-with-end c = search needs
-
-slice-aggregate-starts-with : tie.Need-slice-aggregate-starts-with
-slice-aggregate-starts-with c = search needs
-
-starts-with-requires : tie.Need-starts-with-requires
-starts-with-requires c κs = search needs
-
-add-t12 : tie.Need-add-t12
-add-t12 c = search needs
 
 returns-2 : tie.Need-returns-2
 unfolding readPrinted
@@ -48,28 +27,26 @@ returns-2 c =
     let is = sym (c .before .starts-with .ensures) ∙ c .if2 .taken in
     rw (le-leb _ _ (c .before .before .before .before .if1 .left), sym (ap (λ (l : List ℕ). startsWith l (110 ∷ 97 ∷ 110 ∷ [])) (behind (now (x .line)) (x .at))) ∙ is)
 
-read-hex16-requires-2 : tie.Need-read-hex16-requires-2
-read-hex16-requires-2 c κs = search needs
-
 returns-3 : tie.Need-returns-3
 unfolding readPrinted
 returns-3 c =
     let x = c .before .before .before .before .before .before .before .args in
     let is = sym (c .before .before .starts-with .ensures) ∙ c .before .if2 .left in
-    rw (le-leb _ _ (c .before .before .before .before .before .if1 .left), sym (ap (λ (l : List ℕ). startsWith l (110 ∷ 97 ∷ 110 ∷ [])) (behind (now (x .line)) (x .at))) ∙ is) (c .read-hex162 .ensures)
+    rw (le-leb _ _ (c .before .before .before .before .before .if1 .left), sym (ap (λ (l : List ℕ). startsWith l (110 ∷ 97 ∷ 110 ∷ [])) (behind (now (x .line)) (x .at))) ∙ is)
+    (c .read-hex162 .ensures)
 
 pub read-printed-spec : {M : Type 1} → statement M
 read-printed-spec =
     tie.close
     (tie.spec
-    read-hex16-requires
+    (λ c κs. search needs)
     returns
-    sub-starts-with
-    part-starts-with-start
-    part-starts-with-end
-    slice-aggregate-starts-with
-    starts-with-requires
-    add-t12
+    (λ c. search needs)
+    (λ c. search needs)
+    (λ c. search needs)
+    (λ c. search needs)
+    (λ c κs. search needs)
+    (λ c. search needs)
     returns-2
-    read-hex16-requires-2
+    (λ c κs. search needs)
     returns-3)

@@ -4,12 +4,6 @@ use Rattle.line_form.specs.Call.{callOf}
 use Rattle.line_form.proofs.form.reads.Statement.{statement}
 use Rattle.line_form.proofs.form.reads.Tie as tie
 
-starts-with-requires : tie.Need-starts-with-requires
-starts-with-requires c κs = search needs
-
-fields-from-requires : tie.Need-fields-from-requires
-fields-from-requires c κs = search needs
-
 returns : tie.Need-returns
 unfolding callOf
 returns c = rw (← c .before .before .before .starts-with .ensures, c .before .before .if1 .taken) (c .fields-from .ensures)
@@ -19,4 +13,4 @@ unfolding callOf
 returns-2 c = rw (← c .before .starts-with .ensures, c .if1 .left)
 
 pub reads-spec : {M : Type 1} → statement M
-reads-spec = tie.close (tie.spec starts-with-requires fields-from-requires returns returns-2)
+reads-spec = tie.close (tie.spec (λ c κs. search needs) (λ c κs. search needs) returns returns-2)

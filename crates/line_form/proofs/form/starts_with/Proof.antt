@@ -15,34 +15,21 @@ Inv-loop line name i₀ i-end i = (i ≤ i-end) × (i-end ≤ length line) × (i
 abbrev μ-loop : tie.MeasureT-loop
 μ-loop line name i₀ i-end i = i-end - i
 
-returns : tie.Need-returns Inv-loop μ-loop
-returns c = sym (too-short (now (c .before .args .line)) (now (c .before .args .name)) (c .if1 .taken))
-
-loop-holds : tie.Need-loop-holds Inv-loop μ-loop
-loop-holds c = (omega arith, omega arith, refl, refl)
-
-shared-slice-read-if2 : tie.Need-shared-slice-read-if2 Inv-loop μ-loop
-shared-slice-read-if2 c = omega arith
-
-shared-slice-read-if2-2 : tie.Need-shared-slice-read-if2-2 Inv-loop μ-loop
-shared-slice-read-if2-2 c = omega arith
-
 returns-2 : tie.Need-returns-2 Inv-loop μ-loop
-returns-2 c = sym (c .before .before .before .before .loop .inv .3 ∙ other-byte (now (c .before .before .before .before .before .before .args .line)) (now (c .before .before .before .before .before .before .args .name)) (c .before .before .before .before .loop .i) (omega arith) (omega arith) (c .if2 .taken))
-
-add-i : tie.Need-add-i Inv-loop μ-loop
-add-i c = omega arith
-
-loop-less : tie.Need-loop-less Inv-loop μ-loop
-loop-less c = omega arith
+returns-2 c =
+    let l = c .before .before .before .before .loop in let x = c .before .before .before .before .before .before .args in
+    sym (l .inv .3 ∙ other-byte (now (x .line)) (now (x .name)) (l .i) (omega arith) (omega arith) (c .if2 .taken))
 
 loop-again : tie.Need-loop-again Inv-loop μ-loop
-loop-again c = (omega arith, c .before .before .before .before .loop .inv .1, c .before .before .before .before .loop .inv .2, c .before .before .before .before .loop .inv .3 ∙ same-byte (now (c .before .before .before .before .before .before .args .line)) (now (c .before .before .before .before .before .before .args .name)) (c .before .before .before .before .loop .i) (omega arith) (omega arith) (c .if2 .left))
+loop-again c =
+    let l = c .before .before .before .before .loop in let x = c .before .before .before .before .before .before .args in
+    (omega arith, l .inv .1, l .inv .2, l .inv .3 ∙ same-byte (now (x .line)) (now (x .name)) (l .i) (omega arith) (omega arith) (c .if2 .left))
 
 returns-3 : tie.Need-returns-3 Inv-loop μ-loop
 returns-3 c =
-    let e : c .before .loop .i ≡ length (now (c .before .before .before .args .name)) = omega arith in
-    sym (c .before .loop .inv .3 ∙ rw e (whole-name (drop (length (now (c .before .before .before .args .name))) (now (c .before .before .before .args .line))) (now (c .before .before .before .args .name))))
+    let line = now (c .before .before .before .args .line) in let name = now (c .before .before .before .args .name) in
+    let e : c .before .loop .i ≡ length name = omega arith in
+    sym (c .before .loop .inv .3 ∙ rw e (whole-name (drop (length name) line) name))
 
 pub starts-with-spec : {M : Type 1} → statement M
 starts-with-spec =
@@ -50,12 +37,12 @@ starts-with-spec =
     (tie.spec
     Inv-loop
     μ-loop
-    returns
-    loop-holds
-    shared-slice-read-if2
-    shared-slice-read-if2-2
+    (λ c. sym (too-short (now (c .before .args .line)) (now (c .before .args .name)) (c .if1 .taken)))
+    (λ c. (omega arith, omega arith, refl, refl))
+    (λ c. omega arith)
+    (λ c. omega arith)
     returns-2
-    add-i
-    loop-less
+    (λ c. omega arith)
+    (λ c. omega arith)
     loop-again
     returns-3)
