@@ -1,26 +1,25 @@
-// The question line: reads calls on standard input, one a line, and writes one line for each. Its
-// argument names the file of the book; without one the book has no bytes.
-
-mod about;
-mod calls;
+// The program ask: reads calls on standard input, one on each line, and writes one line for each. Its argument names
+// the file of the book. Without one the book has no bytes. The text that it writes for a line is line_texts' definition
+// `answerText`.
 
 use line_form::put::Out;
+use line_texts::inner::put_answer;
 ghost use Prim.Native.Nat.{_+_, _≤_};
 ghost use lib.ListN.{length};
 
-// One byte more than a book may have: a longer one is refused all the same.
+// One byte more than a book may have: enough to refuse a longer one.
 const BOOK: usize = book::LONGEST_BOOK + 1;
 
-// No call has so many bytes: of a longer line no more are kept, and it is unreadable as it stands.
+// No call has this many bytes. Of a longer line only these are kept, and it is unreadable in any case.
 const LINE: usize = 1_001;
 
-// Says on standard error that a file cannot be read, and why.
+// Prints on standard error that a file cannot be read, and why.
 fn tell_unread(name: &[u8]) {
     io::write_all(libc::STDERR_FILENO, b"ask: cannot read ");
     os::fail(name);
 }
 
-// A short count is the end of the file or a failure: reading once more tells which.
+// A short count means the end of the file or a failure: one more read shows which.
 fn read_failed(fd: i32, count: usize) -> bool {
     if BOOK <= count {
         return false;
@@ -47,7 +46,7 @@ fn write_out(out: &Out, n: usize)
     tell_unwritten(io::write_all(libc::STDOUT_FILENO, &all[..n]));
 }
 
-// Where an answer has room. Where that would be past the end, all before it is written out.
+// A place with room for an answer. If that would be past the end, everything before it is written out first.
 fn with_room(out: &mut Out, at: usize) -> usize
     requires { ⌜ at ≤ 65_536 ⌝ }
     ensures { λ r. ⌜ r + 512 ≤ 65_536 ⌝ }
@@ -65,11 +64,11 @@ fn answer_line(book: &[u8], line: &[u8], n: usize, out: &mut Out, at: usize) -> 
     ensures { λ r. ⌜ r ≤ 65_536 ⌝ }
 {
     let from = with_room(out, at);
-    calls::answer(book, &line[..n], out, from)
+    put_answer(book, &line[..n], out, from)
 }
 
-// Answers the lines that end in the block. The rest of the block stays in `line`, which has `kept`
-// bytes before it, and afterwards as many as the answer says.
+// Answers the lines that end in the block. The rest of the block stays in `line`. `kept` is the number of bytes in
+// `line` before, and the result is the number after.
 fn answer_block(book: &[u8], block: &[u8], line: &mut [u8; LINE], kept: usize) -> usize
     requires { ⌜ kept ≤ 1_001 ⌝ }
     ensures { λ r. ⌜ r ≤ 1_001 ⌝ }
@@ -90,7 +89,8 @@ fn answer_block(book: &[u8], block: &[u8], line: &mut [u8; LINE], kept: usize) -
     n
 }
 
-// The number of blocks is one that no input uses up: nothing else says that the input ends.
+// The number of blocks is a limit that no input reaches. The loop needs one, because nothing else shows that the
+// input ends.
 fn answer_all(book: &[u8]) {
     let mut block = [0u8; 65536];
     let mut line = [0u8; LINE];
@@ -113,7 +113,7 @@ fn answer_all(book: &[u8]) {
     }
 }
 
-// Answers from the book of that name; where it cannot be read, nothing is answered.
+// Answers from the book of that name. If it cannot be read, nothing is answered.
 fn answer_from(name: &[u8]) {
     let fd = os::open_read(name);
     if fd < 0 {

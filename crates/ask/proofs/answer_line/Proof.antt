@@ -5,18 +5,9 @@ use borrow.Author.Needs.{needs}
 use Rattle.ask.proofs.answer_line.Statement.{statement}
 use Rattle.ask.proofs.answer_line.Tie as tie
 
-with-room-requires : tie.Need-with-room-requires
-with-room-requires c κs = search needs
-
-slice-aggregate-answer : tie.Need-slice-aggregate-answer
-slice-aggregate-answer c = search (needs, length-take-le)
-
-answer-requires : tie.Need-answer-requires
-answer-requires c κs = search needs
-
-returns : tie.Need-returns
-returns c = search needs
+slice-aggregate-put-answer : tie.Need-slice-aggregate-put-answer
+slice-aggregate-put-answer c = search (needs, length-take-le)
 
 pub answer-line-spec : {M : Type 1} → statement M
 answer-line-spec =
-    tie.close (tie.spec with-room-requires slice-aggregate-answer answer-requires returns)
+    tie.close (tie.spec (λ c κs. search needs) slice-aggregate-put-answer (λ c κs. search needs) (λ c. search needs))

@@ -1,0 +1,3 @@
+// The text that ask writes for a line. Its callers know that there is room.
+
+pub mod inner;
