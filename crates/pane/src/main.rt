@@ -1,14 +1,15 @@
-// The live pane as a program: reads lines on standard input, and writes one line for each. It keeps the last two states that it took.
+// The live pane as a program: reads lines on standard input, and writes one line for each. It keeps the last two
+// states that it took. The definition `answerTo` (pane_lines) gives the answer to a line, and `lineText` (line_form)
+// how it is written.
 
-mod calls;
-
-use calls::Told;
 use line_form::put::Out;
+use pane_lines::answer_to;
+use pane_lines::inner::put_line;
 use pane_live::Pane;
 ghost use Prim.Native.Nat.{_+_, _≤_};
 ghost use lib.ListN.{length};
 
-// No line of a call has so many bytes: of a longer line no more are kept, and it is unreadable as it stands.
+// No line of a call has this many bytes. Of a longer line only these are kept, and it is unreadable in any case.
 const LINE: usize = 1_001;
 
 // The pane, and how many bytes of an unfinished line are kept.
@@ -31,7 +32,7 @@ fn write_out(out: &Out, n: usize)
     tell_unwritten(io::write_all(libc::STDOUT_FILENO, &all[..n]));
 }
 
-// Where an answer has room. Where that would be past the end, all before it is written out.
+// A place with room for an answer. If that would be past the end, everything before it is written out first.
 fn with_room(out: &mut Out, at: usize) -> usize
     requires { ⌜ at ≤ 65_536 ⌝ }
     ensures { λ r. ⌜ r + 512 ≤ 65_536 ⌝ }
@@ -43,13 +44,23 @@ fn with_room(out: &mut Out, at: usize) -> usize
     0
 }
 
+// The pane after a line, and the place after the answer.
+struct Told {
+    pane: Pane,
+    end: usize,
+}
+
 // Adds the answer to the line's first n bytes at a place of `out`.
 fn answer_line(pane: Pane, line: &[u8], n: usize, out: &mut Out, at: usize) -> Told
     requires { ⌜ (n ≤ length (now line)) × (at ≤ 65_536) ⌝ }
     ensures { λ r. ⌜ r .end ≤ 65_536 ⌝ }
 {
     let from = with_room(out, at);
-    calls::answer(pane, &line[..n], out, from)
+    let told = answer_to(pane, &line[..n]);
+    let after = told.pane;
+    let answer = told.answer;
+    let end = put_line(out, from, answer);
+    Told { pane: after, end }
 }
 
 // Answers the lines that end in the block. The rest of the block stays in `line`.
@@ -76,7 +87,8 @@ fn answer_block(from: Standing, block: &[u8], line: &mut [u8; LINE]) -> Standing
     Standing { pane, kept: n }
 }
 
-// The number of blocks is one that no input uses up: nothing else says that the input ends.
+// The number of blocks is a limit that no input reaches. The loop needs one, because nothing else shows that the
+// input ends.
 fn answer_all() {
     let mut block = [0u8; 65536];
     let mut line = [0u8; LINE];

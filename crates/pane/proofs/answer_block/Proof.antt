@@ -13,53 +13,20 @@ Inv-loop block line₀ out₀ at₀ pane₀ n₀ i₀ i-end line out at pane n i
 abbrev μ-loop : tie.MeasureT-loop
 μ-loop block line₀ out₀ at₀ pane₀ n₀ i₀ i-end line out at pane n i = i-end - i
 
-loop-holds : tie.Need-loop-holds Inv-loop μ-loop
-loop-holds c = search needs
-
-shared-slice-read-if1 : tie.Need-shared-slice-read-if1 Inv-loop μ-loop
-shared-slice-read-if1 c = search needs
-
-answer-line-requires : tie.Need-answer-line-requires Inv-loop μ-loop
-answer-line-requires c κs = search needs
-
-shared-slice-read-line : tie.Need-shared-slice-read-line Inv-loop μ-loop
-shared-slice-read-line c = search needs
-
-element-write-line : tie.Need-element-write-line Inv-loop μ-loop
-element-write-line c = search needs
-
-add-n : tie.Need-add-n Inv-loop μ-loop
-add-n c = search needs
-
-add-i : tie.Need-add-i Inv-loop μ-loop
-add-i c = search needs
-
-loop-less : tie.Need-loop-less Inv-loop μ-loop
-loop-less c = search needs
-
-loop-again : tie.Need-loop-again Inv-loop μ-loop
-loop-again c = ⊎-elim (λ w. search needs) (λ w. ⊎-elim (λ v. search needs) (λ v. search needs) w) (c .if1 .came)
-
-write-out-requires : tie.Need-write-out-requires Inv-loop μ-loop
-write-out-requires c κs = search needs
-
-returns : tie.Need-returns Inv-loop μ-loop
-returns c = search needs
-
 pub answer-block-spec : {M : Type 1} → statement M
 answer-block-spec =
     tie.close
     (tie.spec
     Inv-loop
     μ-loop
-    loop-holds
-    shared-slice-read-if1
-    answer-line-requires
-    shared-slice-read-line
-    element-write-line
-    add-n
-    add-i
-    loop-less
-    loop-again
-    write-out-requires
-    returns)
+    (λ c. search needs)
+    (λ c. search needs)
+    (λ c κs. search needs)
+    (λ c. search needs)
+    (λ c. search needs)
+    (λ c. search needs)
+    (λ c. search needs)
+    (λ c. search needs)
+    (λ c. ⊎-elim (λ w. search needs) (λ w. ⊎-elim (λ v. search needs) (λ v. search needs) w) (c .if1 .came))
+    (λ c κs. search needs)
+    (λ c. search needs))
