@@ -1,5 +1,6 @@
-// The calls of document 02 for C and Rust that take the whole setting and a state about any centre, over numbers and memory that
-// the caller lends. Each returns 0 where it is accepted, else the number of the refusal. A run that is still going returns 100.
+// The calls of document 02 for C and Rust that take the whole setting and a state about any centre. They take numbers
+// and the caller's memory. Each returns 0 if the input is accepted, else the refusal number. A run that is still
+// going returns 100.
 
 ghost use mathlib.Core.Path.{_≡_};
 ghost use Rattle.gravity.specs.Acceleration.{accelerationAnswer};
@@ -11,7 +12,7 @@ ghost use Rattle.conic.specs.Conic.{conicAnswer};
 ghost use Rattle.c_answer.specs.Handed.{handed, answered};
 ghost use Rattle.c_run.specs.Lent.{settingOf, vectorOf, injectionOf, stateOf, unkeptOf, guessesOf};
 ghost use Rattle.c_conic.specs.Figures.{bothIn, ofConic};
-ghost use Rattle.lent.specs.Answers.{ofAcceleration, ofInjection, ofMove, handedBack, ofFlight};
+ghost use Rattle.c_run.specs.Answers.{ofAcceleration, ofInjection, ofMove, runMemory, ofFlight};
 ghost use Rattle.c_earth.specs.Earth.{ofFixed};
 
 #[no_mangle]
@@ -73,7 +74,7 @@ pub extern "C" fn belfry_inject(
     )
 }
 
-// What is read and what is written stand apart: the next call reads what this one wrote. The centre is the one given.
+// Input and output are separate arrays: the next call reads what this one wrote. The centre is the one given.
 #[no_mangle]
 pub extern "C" fn belfry_fly(
     book: &[u8],
@@ -93,7 +94,7 @@ pub extern "C" fn belfry_fly(
     entries: &mut [u64; 5],
     steps: &mut u32,
 ) -> u64
-    ensures { λ r. ⌜ handedBack r (now (reached .exit)) (now (there .exit)) (now (entries .exit)) (now (steps .exit)) ≡ ofFlight
+    ensures { λ r. ⌜ runMemory r (now (reached .exit)) (now (there .exit)) (now (entries .exit)) (now (steps .exit)) ≡ ofFlight
         (runAnswer (now (book .entry)) (settingOf (now (coefficients .entry)) (now (extras .entry)) dut rule)
         (stateOf moment centre (now (coordinates .entry))) h target budget (guessesOf (now (guesses .entry)))) ⌝ }
 {

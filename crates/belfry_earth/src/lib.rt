@@ -1,6 +1,7 @@
-// The calls of document 01 about a state and its motion, for C and Rust, over numbers and memory that the caller lends.
-// An old call means an old order: centre 1, J, A and K zero, rule 0 and the acceleration that the rule gives; the calls with the whole of it are `centrelink`'s.
-// Each returns 0 where it is accepted, else the number of the refusal. A run that is still going returns 100.
+// The calls of document 01 about a state and its motion, for C and Rust. They take numbers and the caller's memory.
+// An old call means an old order: centre 1, J, A and K zero, rule 0 and the acceleration that the rule gives.
+// `belfry_centre` has the calls with all of these. Each returns 0 if the input is accepted, else the refusal number.
+// A run that is still going returns 100.
 
 use launch::SphereAnswer;
 ghost use mathlib.Core.Path.{_≡_};
@@ -14,7 +15,7 @@ ghost use Rattle.c_answer.specs.Handed.{handed, answered};
 ghost use Rattle.c_run.specs.Lent.{settingOf, noExtras, vectorOf, injectionOf, unkeptOf, guessesOf};
 ghost use Rattle.c_earth.specs.Earth.{sphereOf, ofFixed, ofSphere};
 ghost use Rattle.c_conic.specs.Figures.{bothIn, ofConic};
-ghost use Rattle.lent.specs.Answers.{ofAcceleration, handedBack, ofRun};
+ghost use Rattle.c_run.specs.Answers.{ofAcceleration, runMemory, ofRun};
 
 #[no_mangle]
 pub extern "C" fn belfry_acceleration(
@@ -43,7 +44,7 @@ pub extern "C" fn belfry_acceleration(
     )
 }
 
-// What is read and what is written stand apart: the next call reads what this one wrote.
+// Input and output are separate arrays: the next call reads what this one wrote.
 #[no_mangle]
 pub extern "C" fn belfry_run(
     book: &[u8],
@@ -60,7 +61,7 @@ pub extern "C" fn belfry_run(
     entries: &mut [u64; 5],
     steps: &mut u32,
 ) -> u64
-    ensures { λ r. ⌜ handedBack r (now (reached .exit)) (now (there .exit)) (now (entries .exit)) (now (steps .exit)) ≡ ofRun
+    ensures { λ r. ⌜ runMemory r (now (reached .exit)) (now (there .exit)) (now (entries .exit)) (now (steps .exit)) ≡ ofRun
         (runAnswer (now (book .entry)) (settingOf (now (coefficients .entry)) noExtras dut 0)
         (launched (now (book .entry)) (settingOf (now (coefficients .entry)) noExtras dut 0)
         (injectionOf moment 1 (now (coordinates .entry)))) h target budget (guessesOf (now (guesses .entry)))) ⌝ }
@@ -88,7 +89,7 @@ pub extern "C" fn belfry_single_step(
     entries: &mut [u64; 5],
     steps: &mut u32,
 ) -> u64
-    ensures { λ r. ⌜ handedBack r (now (reached .exit)) (now (there .exit)) (now (entries .exit)) (now (steps .exit)) ≡ ofRun
+    ensures { λ r. ⌜ runMemory r (now (reached .exit)) (now (there .exit)) (now (entries .exit)) (now (steps .exit)) ≡ ofRun
         (singleStepAnswer (now (book .entry)) (settingOf (now (coefficients .entry)) noExtras dut 0)
         (launched (now (book .entry)) (settingOf (now (coefficients .entry)) noExtras dut 0)
         (injectionOf moment 1 (now (coordinates .entry)))) h (guessesOf (now (guesses .entry)))) ⌝ }

@@ -1,14 +1,14 @@
--- Any two outcomes that the promise of the exported repair allows are equal: the number that it returns and all the memory that it was
--- lent to write, together. Assumes nothing.
+-- Any two outcomes that the promise of the exported repair allows are equal: the returned number and all the memory that it may write,
+-- together. Assumes nothing.
 use mathlib.Core.Path.{refl}
 use denote.Ref.{now}
 use Rattle.base.proofs.OneAnswer.{Tell, OneOutcome, one-outcome}
 use Rattle.repair_book.specs.Repaired.{repairOutcome}
-use Rattle.mendlink.specs.Lent.{RepairMemory, handedBack, ofRepair}
+use Rattle.belfry_repair.specs.Lent.{RepairMemory, repairMemory, ofRepair}
 use Rattle.belfry_repair.proofs.belfry_repair as belfry-repair
 
 abbrev tell-repair : Tell belfry-repair.ended (λ κs. RepairMemory)
-tell-repair κs r after = handedBack r (now (after .1 .0)) (now (after .1 .1 .0)) (now (after .1 .1 .1 .0))
+tell-repair κs r after = repairMemory r (now (after .1 .0)) (now (after .1 .1 .0)) (now (after .1 .1 .1 .0))
 
 pub belfry-repair-answers-once : OneOutcome belfry-repair.ended (λ M. belfry-repair.clauses) (λ κs. RepairMemory) tell-repair
 belfry-repair-answers-once =

@@ -1,4 +1,4 @@
--- What the exported repair returns, and what it leaves in the memory that it was lent.
+-- What the exported repair returns and writes to the caller's memory.
 use Prim.Native.Nat.{ℕ}
 use mathlib.Core.Bool.{Bool}
 use mathlib.Core.List.{List, [], _∷_}
@@ -8,7 +8,7 @@ use Rattle.repair_book.specs.declared.Report.{Report}
 use Rattle.repair_book.specs.declared.RepairAnswer.{RepairAnswer}
 use Rattle.repair_book.specs.declared.RepairAnswer.the-variants.{Written, Refused}
 
--- a mark as a number: 1 where something changed
+-- a mark as a number: 1 if something changed
 abbrev pub markOf : Bool → ℕ
 markOf changed = if changed then 1 else 0
 
@@ -17,20 +17,20 @@ abbrev pub reportIn : Report → List ℕ
 reportIn r =
     r .looked ∷ r .kept ∷ r .written ∷ markOf (r .changed .total) ∷ markOf (r .changed .count) ∷ markOf (r .changed .order) ∷ markOf (r .changed .offsets) ∷ []
 
--- what a caller has of the call: what it returned, and what each place that it was lent to write holds afterwards
+-- the result of the call: the number returned, and the contents of each place that it may write
 pub record RepairMemory : Type 0 where
   pub returned : ℕ
   pub output : List ℕ
   pub fates : List ℕ
   pub report : List ℕ
 
-abbrev pub handedBack : ℕ → List ℕ → List ℕ → List ℕ → RepairMemory
-handedBack returned output fates report = record { returned = returned; output = output; fates = fates; report = report }
+abbrev pub repairMemory : ℕ → List ℕ → List ℕ → List ℕ → RepairMemory
+repairMemory returned output fates report = record { returned = returned; output = output; fates = fates; report = report }
 
--- 0 and the report where a book was written; a refusal's number, and the report as it was before
+-- 0 and the report if a book was written; otherwise the refusal number, and the report is unchanged
 abbrev pub ofAnswer : List ℕ → RepairAnswer → List ℕ → List ℕ → RepairMemory
-ofAnswer before (Written r) output fates = handedBack 0 output fates (reportIn r)
-ofAnswer before (Refused k) output fates = handedBack k output fates before
+ofAnswer before (Written r) output fates = repairMemory 0 output fates (reportIn r)
+ofAnswer before (Refused k) output fates = repairMemory k output fates before
 
 abbrev pub ofRepair : List ℕ → Outcome → RepairMemory
 ofRepair before o = ofAnswer before (o .answer) (o .output) (o .fates)

@@ -1,12 +1,12 @@
-// The repair of a damaged book for C and Rust, over memory that the caller lends. Returns 0 where a book was written, else the
-// number of the refusal.
+// The repair of a damaged book for C and Rust, in the caller's memory. Returns 0 if a book was written, else the
+// refusal number.
 
 use repair_book::MOST_ENTRIES;
 use repair_book::RepairAnswer;
 use repair_book::Report;
 ghost use mathlib.Core.Path.{_≡_};
 ghost use Rattle.repair_book.specs.Repaired.{repairOutcome};
-ghost use Rattle.mendlink.specs.Lent.{markOf, reportIn, handedBack, ofRepair};
+ghost use Rattle.belfry_repair.specs.Lent.{markOf, reportIn, repairMemory, ofRepair};
 
 fn mark_of(changed: bool) -> u64
     ensures { λ r. ⌜ r ≡ markOf changed ⌝ }
@@ -36,7 +36,7 @@ pub extern "C" fn belfry_repair(
     fates: &mut [u16; MOST_ENTRIES],
     report: &mut [u64; 7],
 ) -> u64
-    ensures { λ r. ⌜ handedBack r (now (output .exit)) (now (fates .exit)) (now (report .exit)) ≡ ofRepair (now (report .entry))
+    ensures { λ r. ⌜ repairMemory r (now (output .exit)) (now (fates .exit)) (now (report .exit)) ≡ ofRepair (now (report .entry))
         (repairOutcome (now (input .entry)) (now (output .entry)) (now (fates .entry))) ⌝ }
 {
     match repair_book::repair(input, output, fates) {

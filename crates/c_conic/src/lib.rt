@@ -1,8 +1,8 @@
-// The figures of a conic, over numbers and memory that a caller lends.
+// The figures of a conic, from numbers and in the caller's memory.
 
+use c_state::unkept_of;
 use conic::Conic;
 use conic::ConicAnswer;
-use lentstate::unkept_of;
 ghost use mathlib.Core.Path.{_≡_};
 ghost use Rattle.conic.specs.Conic.{conicAnswer};
 ghost use Rattle.c_answer.specs.Handed.{handed, answered};

@@ -1,7 +1,7 @@
-// The Earth-fixed call, and the numbers of an injection as launch crews speak it, over what a caller lends.
+// The Earth-fixed call, and the numbers of an injection as launch crews speak it, in the caller's memory.
 
+use c_state::unkept_of;
 use earth_fixed::FixedAnswer;
-use lentstate::unkept_of;
 use launch::Sphere;
 use launch::signed_of;
 ghost use mathlib.Core.Path.{_≡_};

@@ -1,10 +1,10 @@
-// The acceleration and the injection, over numbers and memory that a caller lends.
+// The acceleration and the injection, from numbers and in the caller's memory.
 
-use gravity::AccelerationAnswer;
-use injection::InjectionAnswer;
 use c_state::injection_of;
 use c_state::setting_of;
 use c_state::vector_of;
+use gravity::AccelerationAnswer;
+use gravity_stored::InjectionAnswer;
 ghost use mathlib.Core.Path.{_≡_};
 ghost use Rattle.gravity.specs.Acceleration.{accelerationAnswer};
 ghost use Rattle.gravity_stored.specs.Injection.{injectionAnswer};

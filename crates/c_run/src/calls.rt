@@ -1,21 +1,22 @@
-// The calls about a state under a book, over numbers and memory that a caller lends: what the exported calls of the crates above stand on.
+// The calls about a state under a book, with numbers and the caller's memory. The exported calls of the crates above
+// use them.
 
 use crate::guesses_of;
 use crate::hand_back_whole;
-use centre::MoveAnswer;
 pub use c_gravity::inject;
 pub use c_gravity::pull;
 use c_state::setting_of;
 use c_state::state_of;
+use centre::MoveAnswer;
 ghost use mathlib.Core.Path.{_≡_};
 ghost use Rattle.run.specs.Run.{runAnswer};
 ghost use Rattle.centre.specs.Move.{moveAnswer};
 ghost use Rattle.c_answer.specs.Handed.{handed, answered};
 ghost use Rattle.c_state.specs.Groups.{settingOf, stateOf};
 ghost use Rattle.c_run.specs.Lent.{guessesOf};
-ghost use Rattle.lent.specs.Answers.{ofMove, handedBack, ofFlight};
+ghost use Rattle.c_run.specs.Answers.{ofMove, runMemory, ofFlight};
 
-// What is read and what is written stand apart: the next call reads what this one wrote. The centre is the one given.
+// Input and output are separate arrays: the next call reads what this one wrote. The centre is the one given.
 pub fn fly(
     book: &[u8],
     coefficients: &[f64; 6],
@@ -34,7 +35,7 @@ pub fn fly(
     entries: &mut [u64; 5],
     steps: &mut u32,
 ) -> u64
-    ensures { λ r. ⌜ handedBack r (now (reached .exit)) (now (there .exit)) (now (entries .exit)) (now (steps .exit)) ≡ ofFlight
+    ensures { λ r. ⌜ runMemory r (now (reached .exit)) (now (there .exit)) (now (entries .exit)) (now (steps .exit)) ≡ ofFlight
         (runAnswer (now (book .entry)) (settingOf (now (coefficients .entry)) (now (extras .entry)) dut rule)
         (stateOf moment centre (now (coordinates .entry))) h target budget (guessesOf (now (guesses .entry)))) ⌝ }
 {

@@ -1,17 +1,17 @@
-// A run's guesses and answer, between the memory that a caller lends and the values of the crates below; and the calls about a state
-// under a book.
+// Converts the guesses and the answer of a run between the caller's memory and the values of the crates below. Also
+// the calls about a state under a book.
 
 pub mod calls;
 
-use gravity::Guesses;
 pub use c_state::injection_of;
 pub use c_state::setting_of;
 pub use c_state::state_of;
+use gravity::Guesses;
 use run::Outcome;
 use run::RunAnswer;
 ghost use mathlib.Core.Path.{_≡_};
 ghost use Rattle.c_run.specs.Lent.{guessesOf};
-ghost use Rattle.lent.specs.Answers.{outcomeNumber, handedBack, ofRun, ofFlight};
+ghost use Rattle.c_run.specs.Answers.{outcomeNumber, runMemory, ofRun, ofFlight};
 
 const GOING: u64 = 100;
 
@@ -37,7 +37,7 @@ fn outcome_number(outcome: Outcome) -> u64
     }
 }
 
-// A refused run hands back too: the last state reached, and the steps done.
+// A refused run returns these too: the last state reached, and the steps done.
 pub fn hand_back(
     answer: RunAnswer,
     reached: &mut u64,
@@ -45,7 +45,7 @@ pub fn hand_back(
     entries: &mut [u64; 5],
     steps: &mut u32,
 ) -> u64
-    ensures { λ r. ⌜ handedBack r (now (reached .exit)) (now (there .exit)) (now (entries .exit)) (now (steps .exit))
+    ensures { λ r. ⌜ runMemory r (now (reached .exit)) (now (there .exit)) (now (entries .exit)) (now (steps .exit))
         ≡ ofRun answer ⌝ }
 {
     let state = answer.state;
@@ -66,7 +66,7 @@ pub fn hand_back_whole(
     entries: &mut [u64; 5],
     steps: &mut u32,
 ) -> u64
-    ensures { λ r. ⌜ handedBack r (now (reached .exit)) (now (there .exit)) (now (entries .exit)) (now (steps .exit))
+    ensures { λ r. ⌜ runMemory r (now (reached .exit)) (now (there .exit)) (now (entries .exit)) (now (steps .exit))
         ≡ ofFlight answer ⌝ }
 {
     let s = answer.state;

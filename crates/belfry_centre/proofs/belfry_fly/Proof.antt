@@ -2,8 +2,5 @@
 use Rattle.belfry_centre.proofs.belfry_fly.Statement.{statement}
 use Rattle.belfry_centre.proofs.belfry_fly.Tie as tie
 
-returns : tie.Need-returns
-returns c = c .fly .ensures
-
 pub belfry-fly-spec : {M : Type 1} → statement M
-belfry-fly-spec = tie.close (tie.spec (λ c κs. tt) returns)
+belfry-fly-spec = tie.close (tie.spec (λ c κs. tt) (λ c. c .fly .ensures))

@@ -2,8 +2,5 @@
 use Rattle.belfry_centre.proofs.belfry_inject.Statement.{statement}
 use Rattle.belfry_centre.proofs.belfry_inject.Tie as tie
 
-returns : tie.Need-returns
-returns c = c .inject .ensures
-
 pub belfry-inject-spec : {M : Type 1} → statement M
-belfry-inject-spec = tie.close (tie.spec (λ c κs. tt) returns)
+belfry-inject-spec = tie.close (tie.spec (λ c κs. tt) (λ c. c .inject .ensures))

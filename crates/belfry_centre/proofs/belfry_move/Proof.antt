@@ -2,8 +2,5 @@
 use Rattle.belfry_centre.proofs.belfry_move.Statement.{statement}
 use Rattle.belfry_centre.proofs.belfry_move.Tie as tie
 
-returns : tie.Need-returns
-returns c = c .moved .ensures
-
 pub belfry-move-spec : {M : Type 1} → statement M
-belfry-move-spec = tie.close (tie.spec (λ c κs. tt) returns)
+belfry-move-spec = tie.close (tie.spec (λ c κs. tt) (λ c. c .moved .ensures))

@@ -2,8 +2,5 @@
 use Rattle.belfry_centre.proofs.belfry_orbit.Statement.{statement}
 use Rattle.belfry_centre.proofs.belfry_orbit.Tie as tie
 
-returns : tie.Need-returns
-returns c = c .orbit .ensures
-
 pub belfry-orbit-spec : {M : Type 1} → statement M
-belfry-orbit-spec = tie.close (tie.spec (λ c κs. tt) returns)
+belfry-orbit-spec = tie.close (tie.spec (λ c κs. tt) (λ c. c .orbit .ensures))

@@ -2,8 +2,5 @@
 use Rattle.belfry_centre.proofs.belfry_pull.Statement.{statement}
 use Rattle.belfry_centre.proofs.belfry_pull.Tie as tie
 
-returns : tie.Need-returns
-returns c = c .pull .ensures
-
 pub belfry-pull-spec : {M : Type 1} → statement M
-belfry-pull-spec = tie.close (tie.spec (λ c κs. tt) returns)
+belfry-pull-spec = tie.close (tie.spec (λ c κs. tt) (λ c. c .pull .ensures))

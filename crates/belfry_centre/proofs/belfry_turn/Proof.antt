@@ -2,8 +2,5 @@
 use Rattle.belfry_centre.proofs.belfry_turn.Statement.{statement}
 use Rattle.belfry_centre.proofs.belfry_turn.Tie as tie
 
-returns : tie.Need-returns
-returns c = c .turned .ensures
-
 pub belfry-turn-spec : {M : Type 1} → statement M
-belfry-turn-spec = tie.close (tie.spec (λ c κs. tt) returns)
+belfry-turn-spec = tie.close (tie.spec (λ c κs. tt) (λ c. c .turned .ensures))

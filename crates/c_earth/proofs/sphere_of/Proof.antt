@@ -3,9 +3,6 @@ use borrow.Author.Needs.{needs}
 use Rattle.c_earth.proofs.sphere_of.Statement.{statement}
 use Rattle.c_earth.proofs.sphere_of.Tie as tie
 
-returns : tie.Need-returns
-returns c = rw (c .signed-of2 .ensures, c .before .signed-of .ensures)
-
 pub sphere-of-spec : {M : Type 1} → statement M
 sphere-of-spec =
     tie.close
@@ -18,4 +15,4 @@ sphere-of-spec =
     (λ c. search needs)
     (λ c. search needs)
     (λ c. search needs)
-    returns)
+    (λ c. rw (c .signed-of2 .ensures, c .before .signed-of .ensures)))
