@@ -1,5 +1,5 @@
--- (02, R-14) A pane as numbers in lent memory, and what the exported calls return and leave there. Every array has the length that its
--- type says, so that nan and 0 never come in where an element is read.
+-- (02, R-14) A pane as numbers in the caller's memory, and what the exported calls return and write there. Every array has the length that
+-- its type says, so reading an element never gives the defaults nan and 0.
 use Prim.Native.Nat.{ℕ}
 use mathlib.Core.List.{List, [], _∷_}
 use lib.ListN.{getD}
@@ -16,11 +16,15 @@ use Rattle.pane_live.specs.declared.TakeAnswer.{TakeAnswer}
 use Rattle.pane_live.specs.declared.TakeAnswer.the-variants as taken
 use Rattle.pane_live.specs.declared.FrameAnswer.{FrameAnswer}
 use Rattle.pane_live.specs.declared.FrameAnswer.the-variants as frame
+use Rattle.pane_motion.specs.declared.Motion.{Motion}
+use Rattle.pane_motion.specs.declared.FrameMotion.{FrameMotion}
+use Rattle.pane_motion.specs.declared.FrameMotion.the-variants as motion
 use Rattle.c_answer.specs.Handed.{Handed, handed}
 use Rattle.c_run.specs.Lent.{stateOf, vectorIn}
 use Rattle.c_run.specs.Answers.{going}
 
--- both places of a pane: how many states it holds, then moment and centre of the older and of the newer; and the nine coordinates of each
+-- both places of a pane. The first has the number of states, then moment and centre of the older and of the newer; the second has the nine
+-- coordinates of each.
 pub record Kept : Type 0 where
   pub numbers : List ℕ
   pub places : List Float
@@ -28,7 +32,7 @@ pub record Kept : Type 0 where
 abbrev pub keptIn : List ℕ → List Float → Kept
 keptIn numbers places = record { numbers = numbers; places = places }
 
--- ---- a pane read
+-- ---- reading a pane
 
 abbrev pub olderOf : List ℕ → List Float → State
 olderOf numbers places = stateOf (getD numbers 1 0) (getD numbers 2 0) places
@@ -49,13 +53,13 @@ newerOf numbers places =
       az = getD places 17 nan;
     }
 
--- two, one, or none; memory that says another number of states is an empty pane
+-- two states, one, or none; if the memory gives another number of states, the pane is empty
 abbrev pub paneOf : List ℕ → List Float → Pane
 paneOf numbers places =
     if getD numbers 0 0 =? 2 then Two (olderOf numbers places) (newerOf numbers places) else
     if getD numbers 0 0 =? 1 then One (olderOf numbers places) else Blank
 
--- ---- a pane written: where it holds no state stand zeros
+-- ---- writing a pane: zeros for a state that it does not hold
 
 abbrev pub numbersIn : Pane → List ℕ
 numbersIn Blank = 0 ∷ 0 ∷ 0 ∷ 0 ∷ 0 ∷ []
@@ -79,7 +83,7 @@ paneIn pane = keptIn (numbersIn pane) (placesIn pane)
 
 -- ---- states taken
 
--- what a run returned: 0 arrived, 100 going, else the refusal's number
+-- what a run returned: 0 arrived, 100 going, else the refusal number
 abbrev pub outcomeOf : ℕ → Outcome
 outcomeOf returned =
     if returned =? 0 then Outcome.Arrived else
@@ -88,14 +92,15 @@ outcomeOf returned =
 abbrev pub noGuesses : Guesses
 noGuesses = record { moon = 0; sun = 0; venus = 0; mars = 0; jupiter = 0 }
 
--- what a run handed back, but for steps and guesses, which the pane does not read
+-- the answer of a run without steps and guesses, which the pane does not read
 abbrev pub flownTo : ℕ → State → RunAnswer
 flownTo returned s = record { outcome = outcomeOf returned; steps = 0; state = s; guesses = noGuesses }
 
 abbrev pub unchanged : ℕ
 unchanged = 101
 
--- 0 and the new pane where a state is taken; else 101 or the refusal's number, and the memory as it was, whatever it held
+-- if a state is taken: 0 and the new pane. Otherwise 101 or the refusal number, and the memory is unchanged, even if it was not a valid
+-- pane.
 abbrev pub left : Kept → TakeAnswer → Handed Kept
 left before (taken.Taken next) = handed 0 (paneIn next)
 left before taken.Unchanged = handed unchanged before
@@ -109,7 +114,7 @@ late = 102
 abbrev pub empty : ℕ
 empty = 103
 
--- what a caller has of a frame: what it returned, the place of the position and that of the milliseconds
+-- the result of a frame: the number returned, the three coordinates and the milliseconds
 pub record FrameMemory : Type 0 where
   pub returned : ℕ
   pub position : List Float
@@ -118,13 +123,39 @@ pub record FrameMemory : Type 0 where
 abbrev pub framed : ℕ → List Float → ℕ → FrameMemory
 framed returned position late = record { returned = returned; position = position; late = late }
 
--- "no position": three NaNs, so that no older figure stands there
+-- "no position": three NaNs, so that no older figure remains
 abbrev pub nothing : List Float
 nothing = nan ∷ nan ∷ nan ∷ []
 
--- both places are written whatever it returns: 0 and the position, 102 and how late, 103, or the refusal's number
+-- both places are always written: 0 and the position, 102 and how late, 103, or the refusal number
 abbrev pub ofFrame : FrameAnswer → FrameMemory
 ofFrame (frame.Current p) = framed 0 (vectorIn p) 0
 ofFrame (frame.Late ms) = framed late nothing ms
 ofFrame frame.Empty = framed empty nothing 0
 ofFrame (frame.Refused k) = framed k nothing 0
+
+-- ---- a frame with velocity
+
+-- its result: the number returned, the six coordinates and the milliseconds
+pub record MotionMemory : Type 0 where
+  pub returned : ℕ
+  pub motion : List Float
+  pub late : ℕ
+
+abbrev pub inMotion : ℕ → List Float → ℕ → MotionMemory
+inMotion returned six late = record { returned = returned; motion = six; late = late }
+
+-- position, then velocity
+abbrev pub sixIn : Motion → List Float
+sixIn m = m .position .x ∷ m .position .y ∷ m .position .z ∷ m .velocity .x ∷ m .velocity .y ∷ m .velocity .z ∷ []
+
+-- "writes six NaNs when it is not current"
+abbrev pub noMotion : List Float
+noMotion = nan ∷ nan ∷ nan ∷ nan ∷ nan ∷ nan ∷ []
+
+-- the same numbers as a frame returns, and both places are always written
+abbrev pub ofMotion : FrameMotion → MotionMemory
+ofMotion (motion.Current m) = inMotion 0 (sixIn m) 0
+ofMotion (motion.Late ms) = inMotion late noMotion ms
+ofMotion motion.Empty = inMotion empty noMotion 0
+ofMotion (motion.Refused k) = inMotion k noMotion 0

@@ -1,7 +1,9 @@
-// (02, R-14) The live pane for C and Rust, as numbers in memory that the caller lends: how many states it holds, then moment and centre of
-// the older and of the newer; and the nine coordinates of each. Memory of zeros is an empty pane.
+// (02, R-14) The live pane for C and Rust, as numbers in the caller's memory. The first array has the number of
+// states, then moment and centre of the older and of the newer. The second has the nine coordinates of each. Memory
+// of zeros is an empty pane.
 
 mod memory;
+mod moving;
 
 use memory::keep;
 use memory::pane_of;
@@ -9,7 +11,8 @@ ghost use mathlib.Core.Path.{_≡_};
 ghost use Rattle.c_answer.specs.Handed.{handed};
 ghost use Rattle.c_run.specs.Lent.{stateOf};
 ghost use Rattle.pane_live.specs.Pane.{take, feed, clear, frameAt};
-ghost use Rattle.panelink.specs.Lent.{keptIn, paneOf, paneIn, flownTo, left, framed, ofFrame};
+ghost use Rattle.pane_motion.specs.Motion.{motionAt};
+ghost use Rattle.belfry_pane.specs.Lent.{keptIn, paneOf, paneIn, flownTo, left, framed, ofFrame, inMotion, ofMotion};
 
 // Always 0.
 #[no_mangle]
@@ -22,7 +25,7 @@ pub extern "C" fn belfry_clear(pane: &mut [u64; 5], places: &mut [f64; 18]) -> u
     0
 }
 
-// 0 where the state is taken; 18 where it is not, and the pane is as it was.
+// Returns 0 if the state is taken. Otherwise returns 18 and leaves the pane unchanged.
 #[no_mangle]
 pub extern "C" fn belfry_take(
     moment: u64,
@@ -39,7 +42,8 @@ pub extern "C" fn belfry_take(
     keep(pane_live::take(before, state), pane, places)
 }
 
-// What a run returned and where it left the craft. 0 where that state is taken, 18 where it is not; 101 of a run that was refused.
+// The number that a run returned, and the state that it reached. Returns 0 if that state is taken, 18 if it is not,
+// and 101 for a refused run.
 #[no_mangle]
 pub extern "C" fn belfry_feed(
     answer: u64,
@@ -61,7 +65,8 @@ pub extern "C" fn belfry_feed(
     )
 }
 
-// 0 and the position; 102 and how late, in milliseconds; 103 for empty; or 7. Where it is not current there is no position.
+// Returns 0 and the position; 102 and how late, in milliseconds; 103 for empty; or 7. There is a position only with
+// 0.
 #[no_mangle]
 pub extern "C" fn belfry_frame(
     pane: &[u64; 5],
@@ -73,8 +78,26 @@ pub extern "C" fn belfry_frame(
     ensures { λ r. ⌜ framed r (now (position .exit)) (now (late .exit)) ≡ ofFrame
         (frameAt (paneOf (now (pane .entry)) (now (places .entry))) moment) ⌝ }
 {
-    let shown = live::frame(pane_of(*pane, *places), moment);
+    let shown = memory::shown_at(pane, places, moment);
     *position = memory::position_in(shown);
     *late = memory::late_in(shown);
     memory::returned_by(shown)
+}
+
+// As belfry_frame, with the velocity after the position. There are both only with 0.
+#[no_mangle]
+pub extern "C" fn belfry_frame_motion(
+    pane: &[u64; 5],
+    places: &[f64; 18],
+    moment: u64,
+    motion: &mut [f64; 6],
+    late: &mut u64,
+) -> u64
+    ensures { λ r. ⌜ inMotion r (now (motion .exit)) (now (late .exit)) ≡ ofMotion
+        (motionAt (paneOf (now (pane .entry)) (now (places .entry))) moment) ⌝ }
+{
+    let shown = pane_motion::frame_motion(pane_of(*pane, *places), moment);
+    *motion = moving::motion_in(shown);
+    *late = moving::late_in(shown);
+    moving::returned_by(shown)
 }

@@ -1,4 +1,4 @@
-// A pane, a run's answer and a frame, between lent memory and the values of the crates below.
+// Converts a pane, the answer of a run and a frame between the caller's memory and the values of the crates below.
 
 use gravity::Guesses;
 use pane_live::FrameAnswer;
@@ -10,15 +10,16 @@ use state::State;
 ghost use lib.Ieee.{nan};
 ghost use mathlib.Core.Path.{_≡_};
 ghost use Rattle.c_answer.specs.Handed.{handed};
+ghost use Rattle.pane_live.specs.Pane.{frameAt};
 ghost use Rattle.belfry_pane.specs.Lent.{keptIn, olderOf, newerOf, paneOf, numbersIn, placesIn, outcomeOf, flownTo, left, ofFrame};
 
 const GOING: u64 = 100;
 
 const UNCHANGED: u64 = 101;
 
-const LATE: u64 = 102;
+pub const LATE: u64 = 102;
 
-const EMPTY: u64 = 103;
+pub const EMPTY: u64 = 103;
 
 fn older_of(n: [u64; 5], c: [f64; 18]) -> State
     ensures { λ r. ⌜ r ≡ olderOf n c ⌝ }
@@ -131,7 +132,7 @@ pub fn places_in(pane: Pane) -> [f64; 18]
     }
 }
 
-// A state that is not taken leaves the memory as it was.
+// If a state is not taken, the memory stays unchanged.
 pub fn keep(answer: TakeAnswer, pane: &mut [u64; 5], places: &mut [f64; 18]) -> u64
     ensures { λ r. ⌜ handed r (keptIn (now (pane .exit)) (now (places .exit))) ≡ left (keptIn (now (pane .entry)) (now (places .entry))) answer ⌝ }
 {
@@ -177,7 +178,57 @@ pub fn flown_to(returned: u64, state: State) -> RunAnswer
     }
 }
 
-fn no_number() -> f64
+fn older_in(numbers: &[u64; 5], places: &[f64; 18]) -> State
+    ensures { λ r. ⌜ r ≡ olderOf (now (numbers .entry)) (now (places .entry)) ⌝ }
+{
+    State {
+        moment: numbers[1],
+        centre: numbers[2],
+        x: places[0],
+        y: places[1],
+        z: places[2],
+        vx: places[3],
+        vy: places[4],
+        vz: places[5],
+        ax: places[6],
+        ay: places[7],
+        az: places[8],
+    }
+}
+
+fn newer_in(numbers: &[u64; 5], places: &[f64; 18]) -> State
+    ensures { λ r. ⌜ r ≡ newerOf (now (numbers .entry)) (now (places .entry)) ⌝ }
+{
+    State {
+        moment: numbers[3],
+        centre: numbers[4],
+        x: places[9],
+        y: places[10],
+        z: places[11],
+        vx: places[12],
+        vy: places[13],
+        vz: places[14],
+        ax: places[15],
+        ay: places[16],
+        az: places[17],
+    }
+}
+
+// What a pane in memory shows at a moment. The memory is read in place: copying it takes longer than a late frame.
+pub fn shown_at(n: &[u64; 5], c: &[f64; 18], moment: u64) -> FrameAnswer
+    ensures { λ r. ⌜ r ≡ frameAt (paneOf (now (n .entry)) (now (c .entry))) moment ⌝ }
+{
+    if n[0] == 2 {
+        let newest = n[3];
+        if newest < moment {
+            return FrameAnswer::Late(moment - newest);
+        }
+        return pane_live::frame(Pane::Two(older_in(n, c), newer_in(n, c)), moment);
+    }
+    FrameAnswer::Empty
+}
+
+pub fn no_number() -> f64
     ensures { λ r. ⌜ r ≡ nan ⌝ }
 {
     // infinity less infinity is a NaN
@@ -185,7 +236,7 @@ fn no_number() -> f64
     top - top
 }
 
-// Where a frame is not current, no older figure stands in the position's place.
+// If a frame is not current, no older figure remains in the place of the position.
 pub fn position_in(shown: FrameAnswer) -> [f64; 3]
     ensures { λ r. ⌜ r ≡ ofFrame shown .position ⌝ }
 {

@@ -4,18 +4,9 @@ use borrow.Author.Needs.{needs}
 use Rattle.belfry_pane.proofs.belfry_clear.Statement.{statement}
 use Rattle.belfry_pane.proofs.belfry_clear.Tie as tie
 
-clear-requires : tie.Need-clear-requires
-clear-requires c κs = search needs
-
-numbers-in-requires : tie.Need-numbers-in-requires
-numbers-in-requires c κs = search needs
-
-places-in-requires : tie.Need-places-in-requires
-places-in-requires c κs = search needs
-
 returns : tie.Need-returns
 returns c = rw (c .places-in .ensures, c .before .numbers-in .ensures, c .before .before .clear .ensures) refl
 
 pub belfry-clear-spec : {M : Type 1} → statement M
 belfry-clear-spec =
-    tie.close (tie.spec clear-requires numbers-in-requires places-in-requires returns)
+    tie.close (tie.spec (λ c κs. search needs) (λ c κs. search needs) (λ c κs. search needs) returns)

@@ -3,21 +3,6 @@ use borrow.Author.Needs.{needs}
 use Rattle.belfry_pane.proofs.belfry_feed.Statement.{statement}
 use Rattle.belfry_pane.proofs.belfry_feed.Tie as tie
 
-pane-of-requires : tie.Need-pane-of-requires
-pane-of-requires c κs = search needs
-
-state-of-requires : tie.Need-state-of-requires
-state-of-requires c κs = search needs
-
-flown-to-requires : tie.Need-flown-to-requires
-flown-to-requires c κs = search needs
-
-feed-requires : tie.Need-feed-requires
-feed-requires c κs = search needs
-
-keep-requires : tie.Need-keep-requires
-keep-requires c κs = search needs
-
 returns : tie.Need-returns
 returns c =
     let at-call = c .before .before .before in
@@ -33,9 +18,9 @@ pub belfry-feed-spec : {M : Type 1} → statement M
 belfry-feed-spec =
     tie.close
     (tie.spec
-    pane-of-requires
-    state-of-requires
-    flown-to-requires
-    feed-requires
-    keep-requires
+    (λ c κs. search needs)
+    (λ c κs. search needs)
+    (λ c κs. search needs)
+    (λ c κs. search needs)
+    (λ c κs. search needs)
     returns)

@@ -3,21 +3,10 @@ use borrow.Author.Needs.{needs}
 use Rattle.belfry_pane.proofs.belfry_take.Statement.{statement}
 use Rattle.belfry_pane.proofs.belfry_take.Tie as tie
 
-pane-of-requires : tie.Need-pane-of-requires
-pane-of-requires c κs = search needs
-
-state-of-requires : tie.Need-state-of-requires
-state-of-requires c κs = search needs
-
-take-requires : tie.Need-take-requires
-take-requires c κs = search needs
-
-keep-requires : tie.Need-keep-requires
-keep-requires c κs = search needs
-
 returns : tie.Need-returns
-returns c = rw (← c .before .before .before .before .before .before .pane-of .ensures, ← c .before .before .before .before .state-of .ensures, ← c .before .before .before .take .ensures) (c .keep .ensures)
+returns c =
+    let at = c .before .before .before in rw (← at .before .before .before .pane-of .ensures, ← at .before .state-of .ensures, ← at .take .ensures) (c .keep .ensures)
 
 pub belfry-take-spec : {M : Type 1} → statement M
 belfry-take-spec =
-    tie.close (tie.spec pane-of-requires state-of-requires take-requires keep-requires returns)
+    tie.close (tie.spec (λ c κs. search needs) (λ c κs. search needs) (λ c κs. search needs) (λ c κs. search needs) returns)

@@ -3,11 +3,8 @@ use borrow.Author.Needs.{needs}
 use Rattle.belfry_pane.proofs.memory.flown_to.Statement.{statement}
 use Rattle.belfry_pane.proofs.memory.flown_to.Tie as tie
 
-outcome-of-requires : tie.Need-outcome-of-requires
-outcome-of-requires c κs = search needs
-
 returns : tie.Need-returns
 returns c = rw (c .outcome-of .ensures)
 
 pub flown-to-spec : {M : Type 1} → statement M
-flown-to-spec = tie.close (tie.spec outcome-of-requires returns)
+flown-to-spec = tie.close (tie.spec (λ c κs. search needs) returns)

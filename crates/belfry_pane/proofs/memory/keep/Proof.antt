@@ -4,21 +4,6 @@ use borrow.Author.Needs.{needs}
 use Rattle.belfry_pane.proofs.memory.keep.Statement.{statement}
 use Rattle.belfry_pane.proofs.memory.keep.Tie as tie
 
-enum-known-answer : tie.Need-enum-known-answer
-enum-known-answer c = search needs
-
-numbers-in-requires : tie.Need-numbers-in-requires
-numbers-in-requires c κs = search needs
-
-places-in-requires : tie.Need-places-in-requires
-places-in-requires c κs = search needs
-
-enum-told : tie.Need-enum-told
-enum-told c = search needs
-
-enum-known-answer-2 : tie.Need-enum-known-answer-2
-enum-known-answer-2 c = search needs
-
 returns : tie.Need-returns
 returns c = rw (c .before .before .before .answer .given .1, c .places-in .ensures, c .before .numbers-in .ensures) refl
 
@@ -32,11 +17,11 @@ pub keep-spec : {M : Type 1} → statement M
 keep-spec =
     tie.close
     (tie.spec
-    enum-known-answer
-    numbers-in-requires
-    places-in-requires
-    enum-told
-    enum-known-answer-2
+    (λ c. search needs)
+    (λ c κs. search needs)
+    (λ c κs. search needs)
+    (λ c. search needs)
+    (λ c. search needs)
     returns
     returns-2
     returns-3)

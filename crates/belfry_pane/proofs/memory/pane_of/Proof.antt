@@ -5,20 +5,8 @@ use borrow.Author.Needs.{needs}
 use Rattle.belfry_pane.proofs.memory.pane_of.Statement.{statement}
 use Rattle.belfry_pane.proofs.memory.pane_of.Tie as tie
 
-array-read-held : tie.Need-array-read-held
-array-read-held c = search needs
-
-older-of-requires : tie.Need-older-of-requires
-older-of-requires c κs = search needs
-
-newer-of-requires : tie.Need-newer-of-requires
-newer-of-requires c κs = search needs
-
 returns : tie.Need-returns
 returns c = rw (eq-eqb _ _ (c .before .before .if1 .taken), c .before .older-of .ensures, c .newer-of .ensures) refl
-
-older-of-requires-2 : tie.Need-older-of-requires-2
-older-of-requires-2 c κs = search needs
 
 returns-2 : tie.Need-returns-2
 returns-2 c = rw (ne-eqb _ _ (c .before .before .if1 .left), eq-eqb _ _ (c .before .if2 .taken), c .older-of2 .ensures) refl
@@ -30,10 +18,10 @@ pub pane-of-spec : {M : Type 1} → statement M
 pane-of-spec =
     tie.close
     (tie.spec
-    array-read-held
-    older-of-requires
-    newer-of-requires
+    (λ c. search needs)
+    (λ c κs. search needs)
+    (λ c κs. search needs)
     returns
-    older-of-requires-2
+    (λ c κs. search needs)
     returns-2
     returns-3)

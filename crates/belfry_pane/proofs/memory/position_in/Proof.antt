@@ -4,27 +4,6 @@ use borrow.Author.Needs.{needs}
 use Rattle.belfry_pane.proofs.memory.position_in.Statement.{statement}
 use Rattle.belfry_pane.proofs.memory.position_in.Tie as tie
 
-enum-known-shown : tie.Need-enum-known-shown
-enum-known-shown c = search needs
-
-enum-known-shown-2 : tie.Need-enum-known-shown-2
-enum-known-shown-2 c = search needs
-
-no-number-requires : tie.Need-no-number-requires
-no-number-requires c κs = search needs
-
-enum-told : tie.Need-enum-told
-enum-told c = search needs
-
-no-number-requires-2 : tie.Need-no-number-requires-2
-no-number-requires-2 c κs = search needs
-
-enum-known-shown-3 : tie.Need-enum-known-shown-3
-enum-known-shown-3 c = search needs
-
-no-number-requires-3 : tie.Need-no-number-requires-3
-no-number-requires-3 c κs = search needs
-
 returns : tie.Need-returns
 returns c = rw (c .before .shown .given .1) refl
 
@@ -41,13 +20,13 @@ pub position-in-spec : {M : Type 1} → statement M
 position-in-spec =
     tie.close
     (tie.spec
-    enum-known-shown
-    enum-known-shown-2
-    no-number-requires
-    enum-told
-    no-number-requires-2
-    enum-known-shown-3
-    no-number-requires-3
+    (λ c. search needs)
+    (λ c. search needs)
+    (λ c κs. search needs)
+    (λ c. search needs)
+    (λ c κs. search needs)
+    (λ c. search needs)
+    (λ c κs. search needs)
     returns
     returns-2
     returns-3
