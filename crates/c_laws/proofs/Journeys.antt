@@ -1,5 +1,5 @@
--- What a linked run wrote reads back as the state and the guesses that it handed back, so a journey through the calls for C and Rust is
--- a journey as demand 3 speaks of it. Assumes nothing.
+-- What a linked run wrote reads back as the state and the guesses of its answer. So a journey through the calls for C and Rust is a journey
+-- of demand 3. Assumes nothing.
 use mathlib.Core.List.{List, [], _∷_, map}
 use mathlib.Core.Path.{_≡_, refl, sym, ap, _∙_}
 use Prim.Native.Nat.{ℕ, zero, suc}
@@ -18,7 +18,7 @@ use Rattle.run.specs.declared.RunAnswer.{RunAnswer}
 use Rattle.run_laws.specs.Journey.{Call, journey}
 use Rattle.run_laws.proofs.Answers.{answerIs, refusedIs, runFrom, centreStays}
 use Rattle.run_laws.proofs.Order.{run-launched}
-use Rattle.lent.specs.Lent.{settingOf, noExtras, injectionOf, stateOf, guessesOf, coordinatesIn, wholeIn, guessesIn}
+use Rattle.c_run.specs.Lent.{settingOf, noExtras, injectionOf, stateOf, guessesOf, coordinatesIn, wholeIn}
 use Rattle.c_run.specs.Answers.{RunMemory, ofRun, ofFlight}
 use Rattle.c_laws.specs.Linked.{LinkedCall, asCall, linkedJourney, oldJourney}
 

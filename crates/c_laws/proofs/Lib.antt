@@ -2,3 +2,4 @@ pub mod Numbers
 pub mod OneAnswer
 pub mod Journeys
 pub mod Panes
+pub mod Desks

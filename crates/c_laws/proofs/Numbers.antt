@@ -1,5 +1,5 @@
--- Every refusal of every call has a number of the table, 1 to 18. So a call returns 0 only where it is accepted, and a
--- run returns 100 only where it is going. Assumes nothing.
+-- Every refusal of every call has a number of the table, 1 to 18. So a call returns 0 only if it is accepted, and a run returns 100 only if
+-- it is going. Assumes nothing.
 use mathlib.Core.Bool.{Bool, true, false, not, _&&_, _||_}
 use mathlib.Core.List.{List}
 use mathlib.Core.Path.{_≡_, refl}
@@ -22,6 +22,7 @@ use Rattle.hour.specs.declared.HourAnswer.{HourAnswer}
 use Rattle.root.specs.Root.{negative, rootAnswer}
 use Rattle.sine.specs.Sine.{sineCosineAnswer}
 use Rattle.book.specs.Position.{positionAnswer}
+use Rattle.base.specs.Checks.{refusedBy}
 use Rattle.book.proofs.Refused as book
 use Rattle.book.specs.declared.PositionAnswer.{PositionAnswer}
 use Rattle.gravity.specs.Acceleration.{accelerationAnswer}
@@ -50,13 +51,13 @@ use Rattle.belfry_almanac.specs.Answers.{ofDate, ofDay, ofJulian, ofHour, ofRoo
 use Rattle.c_run.specs.Answers.{ofAcceleration, ofInjection, ofMove}
 use Rattle.c_earth.specs.Earth.{ofFixed, ofSphere}
 use Rattle.c_conic.specs.Figures.{ofConic}
-use Rattle.linked.specs.Table.{tabled, told, outcomeTold}
+use Rattle.c_laws.specs.Table.{tabled, inTable, outcomeTold}
 
 -- 0 for none, or a number of the table
 abbrev none-or-tabled : ℕ → Bool
 none-or-tabled k = k =? 0 || tabled k
 
--- where 0 goes on, any other number is a refusal's
+-- if 0 means to continue, any other number is that of a refusal
 by-number :
     {A : Type 0} (p : A → Bool) (c ok : Bool) {a b : A}
     → (c || ok) ≡ true
@@ -66,59 +67,59 @@ by-number :
 by-number p true ok number holds-a holds-b = holds-a
 by-number p false ok number holds-a holds-b = holds-b number
 
-pub date-told : (day : ℕ) → told (ofDate (dateAnswer day)) ≡ true
-date-told day = by-if (λ a. told (ofDate a)) (day ≤? lastDay) refl refl
+pub date-told : (day : ℕ) → inTable (ofDate (dateAnswer day)) ≡ true
+date-told day = by-if (λ a. inTable (ofDate a)) (day ≤? lastDay) refl refl
 
-pub day-told : (year month day : ℕ) → told (ofDay (dayAnswer year month day)) ≡ true
-day-told year month day = by-if (λ a. told (ofDay a)) (isDate (ymd year month day)) refl refl
+pub day-told : (year month day : ℕ) → inTable (ofDay (dayAnswer year month day)) ≡ true
+day-told year month day = by-if (λ a. inTable (ofDay a)) (isDate (ymd year month day)) refl refl
 
-pub julian-told : (day : ℕ) → told (ofJulian (julianAnswer day)) ≡ true
-julian-told day = by-if (λ a. told (ofJulian a)) (day ≤? lastDay) refl refl
+pub julian-told : (day : ℕ) → inTable (ofJulian (julianAnswer day)) ≡ true
+julian-told day = by-if (λ a. inTable (ofJulian a)) (day ≤? lastDay) refl refl
 
-pub sidereal-told : (rule moment dut : ℕ) → told (ofHour (siderealAnswer rule moment dut)) ≡ true
+pub sidereal-told : (rule moment dut : ℕ) → inTable (ofHour (siderealAnswer rule moment dut)) ≡ true
 sidereal-told rule moment dut =
-    let p : HourAnswer → Bool = λ a. told (ofHour a) in
+    let p : HourAnswer → Bool = λ a. inTable (ofHour a) in
     by-if p (not (isDUT dut)) refl
     (by-if p (not (isRule rule)) refl (by-if p (not (isMoment moment)) refl (by-if p (moment <? dut) refl refl)))
 
-pub hour-told : (moment dut : ℕ) → told (ofHour (hourAnswer moment dut)) ≡ true
+pub hour-told : (moment dut : ℕ) → inTable (ofHour (hourAnswer moment dut)) ≡ true
 hour-told moment dut = sidereal-told 0 moment dut
 
-pub root-told : (x : Float) → told (ofRoot (rootAnswer x)) ≡ true
+pub root-told : (x : Float) → inTable (ofRoot (rootAnswer x)) ≡ true
 unfolding rootAnswer
-root-told x = by-if (λ a. told (ofRoot a)) (negative x || not (finite x)) refl refl
+root-told x = by-if (λ a. inTable (ofRoot a)) (negative x || not (finite x)) refl refl
 
-pub sine-cosine-told : (parts : ℕ) → told (ofSineCosine (sineCosineAnswer parts)) ≡ true
+pub sine-cosine-told : (parts : ℕ) → inTable (ofSineCosine (sineCosineAnswer parts)) ≡ true
 unfolding sineCosineAnswer
-sine-cosine-told parts = by-if (λ a. told (ofSineCosine a)) (parts <? circle) refl refl
+sine-cosine-told parts = by-if (λ a. inTable (ofSineCosine a)) (parts <? circle) refl refl
 
-position-is-told : (a : PositionAnswer) → book.refusedBy tabled a ≡ true → told (ofPosition a) ≡ true
+position-is-told : (a : PositionAnswer) → refusedBy tabled (book.asAnswer a) ≡ true → inTable (ofPosition a) ≡ true
 position-is-told (PositionAnswer.At R) by = refl
 position-is-told (PositionAnswer.Refused k) by = by
 
-pub position-told : (b : List ℕ) (body t : ℕ) → told (ofPosition (positionAnswer b body t)) ≡ true
+pub position-told : (b : List ℕ) (body t : ℕ) → inTable (ofPosition (positionAnswer b body t)) ≡ true
 position-told b body t = position-is-told (positionAnswer b body t) (book.position-refused tabled refl refl refl refl b body t)
 
-acceleration-is-told : (a : AccelerationAnswer) → gravity.refusedBy tabled a ≡ true → told (ofAcceleration a) ≡ true
+acceleration-is-told : (a : AccelerationAnswer) → refusedBy tabled (gravity.asAnswer a) ≡ true → inTable (ofAcceleration a) ≡ true
 acceleration-is-told (AccelerationAnswer.Is v) by = refl
 acceleration-is-told (AccelerationAnswer.Refused k) by = by
 
-pub acceleration-told : (b : List ℕ) (s : Setting) (c t : ℕ) (P : Vector) → told (ofAcceleration (accelerationAnswer b s c t P)) ≡ true
+pub acceleration-told : (b : List ℕ) (s : Setting) (c t : ℕ) (P : Vector) → inTable (ofAcceleration (accelerationAnswer b s c t P)) ≡ true
 acceleration-told b s c t P =
     acceleration-is-told (accelerationAnswer b s c t P) (gravity.acceleration-refused tabled refl refl refl refl refl refl b s c t P)
 
-move-is-told : (a : MoveAnswer) → centre.refusedBy tabled a ≡ true → told (ofMove a) ≡ true
+move-is-told : (a : MoveAnswer) → refusedBy tabled (centre.asAnswer a) ≡ true → inTable (ofMove a) ≡ true
 move-is-told (MoveAnswer.Moved s) by = refl
 move-is-told (MoveAnswer.Refused k) by = by
 
-pub move-told : (b : List ℕ) (setting : Setting) (s : State) (c : ℕ) → told (ofMove (moveAnswer b setting s c)) ≡ true
+pub move-told : (b : List ℕ) (setting : Setting) (s : State) (c : ℕ) → inTable (ofMove (moveAnswer b setting s c)) ≡ true
 move-told b setting s c = move-is-told (moveAnswer b setting s c) (centre.move-refused tabled refl refl refl refl refl refl b setting s c)
 
-injection-is-told : (a : InjectionAnswer) → injection.refusedBy tabled a ≡ true → told (ofInjection a) ≡ true
+injection-is-told : (a : InjectionAnswer) → refusedBy tabled (injection.asAnswer a) ≡ true → inTable (ofInjection a) ≡ true
 injection-is-told (InjectionAnswer.Injected s) by = refl
 injection-is-told (InjectionAnswer.Refused k) by = by
 
-pub injection-told : (b : List ℕ) (setting : Setting) (i : Injection) → told (ofInjection (injection-answer b setting i)) ≡ true
+pub injection-told : (b : List ℕ) (setting : Setting) (i : Injection) → inTable (ofInjection (injection-answer b setting i)) ≡ true
 injection-told b setting i =
     injection-is-told (injection-answer b setting i) (injection.injection-refused tabled refl refl refl refl refl refl b setting i)
 
@@ -137,45 +138,45 @@ pub single-step-told : (b : List ℕ) (setting : Setting) (s : State) (h : ℕ) 
     → outcomeTold (singleStepAnswer b setting s h given .outcome) ≡ true
 single-step-told b setting s h given = run-told b setting s h (s .moment + h) 1 given
 
-finite-told : (rule dut : ℕ) (state : State) → told (ofFixed (finiteAnswer rule dut state)) ≡ true
+finite-told : (rule dut : ℕ) (state : State) → inTable (ofFixed (finiteAnswer rule dut state)) ≡ true
 unfolding finiteAnswer
 finite-told rule dut state =
-    let p : FixedAnswer → Bool = λ a. told (ofFixed a) in
+    let p : FixedAnswer → Bool = λ a. inTable (ofFixed a) in
     by-if p (not (finiteState state)) refl (by-if p (not (finiteFixed (turned (rotation rule (state .moment) dut) state))) refl refl)
 
 after-hour-told :
     (hour : HourAnswer) (answer : FixedAnswer)
-    → told (ofHour hour) ≡ true
-    → told (ofFixed answer) ≡ true
-    → told (ofFixed (afterHour hour answer)) ≡ true
+    → inTable (ofHour hour) ≡ true
+    → inTable (ofFixed answer) ≡ true
+    → inTable (ofFixed (afterHour hour answer)) ≡ true
 after-hour-told (HourAnswer.Parts parts) answer first rest = rest
 after-hour-told (HourAnswer.Refused k) answer first rest = first
 
-pub fixed-told : (rule dut : ℕ) (state : State) → told (ofFixed (fixedAnswer rule dut state)) ≡ true
+pub fixed-told : (rule dut : ℕ) (state : State) → inTable (ofFixed (fixedAnswer rule dut state)) ≡ true
 unfolding fixedAnswer
 fixed-told rule dut state =
-    let p : FixedAnswer → Bool = λ a. told (ofFixed a) in
+    let p : FixedAnswer → Bool = λ a. inTable (ofFixed a) in
     by-if p (not (isDUT dut)) refl
     (by-if p (not (isRule rule)) refl
     (by-if p (not (state .centre =? 1)) refl
     (after-hour-told (siderealAnswer rule (state .moment) dut) (finiteAnswer rule dut state) (sidereal-told rule (state .moment) dut)
     (finite-told rule dut state))))
 
-sphere-told : (s : Sphere) (rule moment dut : ℕ) → told (ofSphere (injectionAnswer s rule moment dut)) ≡ true
+sphere-told : (s : Sphere) (rule moment dut : ℕ) → inTable (ofSphere (injectionAnswer s rule moment dut)) ≡ true
 unfolding injectionAnswer
 sphere-told s rule moment dut =
-    let p : SphereAnswer → Bool = λ a. told (ofSphere a) in
+    let p : SphereAnswer → Bool = λ a. inTable (ofSphere a) in
     by-if p (not (anglesAllowed s)) refl (by-if p (not (sizesAllowed s)) refl (by-if p (finiteInjection (injected s rule moment dut)) refl refl))
 
 sphere-after-hour :
     (hour : HourAnswer) (answer : SphereAnswer)
-    → told (ofHour hour) ≡ true
-    → told (ofSphere answer) ≡ true
-    → told (ofSphere (sphere.afterHour hour answer)) ≡ true
+    → inTable (ofHour hour) ≡ true
+    → inTable (ofSphere answer) ≡ true
+    → inTable (ofSphere (sphere.afterHour hour answer)) ≡ true
 sphere-after-hour (HourAnswer.Parts parts) answer first rest = rest
 sphere-after-hour (HourAnswer.Refused k) answer first rest = first
 
-pub from-sphere-told : (s : Sphere) (rule moment dut : ℕ) → told (ofSphere (sphereAnswer s rule moment dut)) ≡ true
+pub from-sphere-told : (s : Sphere) (rule moment dut : ℕ) → inTable (ofSphere (sphereAnswer s rule moment dut)) ≡ true
 unfolding sphereAnswer
 from-sphere-told s rule moment dut =
     sphere-after-hour (siderealAnswer rule moment dut) (injectionAnswer s rule moment dut) (sidereal-told rule moment dut) (sphere-told s rule moment dut)
@@ -209,15 +210,15 @@ refusal-told m state =
     (unfit-told _ 0 refl))
     (unfit-told _ 0 refl)
 
-orbit-told : (m : Float) (state : State) → told (ofConic (orbitAnswer (state .centre) (orbit m state))) ≡ true
+orbit-told : (m : Float) (state : State) → inTable (ofConic (orbitAnswer (state .centre) (orbit m state))) ≡ true
 unfolding orbitAnswer
 orbit-told m state =
-    by-number (λ a. told (ofConic a)) (refusal (orbit m state) =? 0) (tabled (refusal (orbit m state)))
+    by-number (λ a. inTable (ofConic a)) (refusal (orbit m state) =? 0) (tabled (refusal (orbit m state)))
     (refusal-told m state) refl (λ number. number)
 
-pub conic-told : (m : Float) (state : State) → told (ofConic (conicAnswer m state)) ≡ true
+pub conic-told : (m : Float) (state : State) → inTable (ofConic (conicAnswer m state)) ≡ true
 unfolding conicAnswer figuresAbout
 conic-told m state =
-    let p : ConicAnswer → Bool = λ a. told (ofConic a) in
+    let p : ConicAnswer → Bool = λ a. inTable (ofConic a) in
     by-if p (not (finite m && above0 m)) refl
     (by-if p (not (isBody (state .centre))) refl (by-if p (not (finiteState state)) refl (orbit-told m state)))

@@ -1,13 +1,12 @@
--- Any two outcomes that the promise of an exported call allows are equal: the number that it returns and all the memory that it was
--- lent to write, together. Assumes nothing.
-use mathlib.Core.Bool.{Bool}
+-- Any two outcomes that the promise of an exported call allows are equal: the returned number and all the memory that it may write,
+-- together. Assumes nothing.
 use mathlib.Core.List.{List}
 use mathlib.Core.Path.{refl}
 use Prim.Native.Nat.{ℕ}
 use lib.Ieee.{Float}
 use denote.Ref.{now}
 use Rattle.base.specs.Choice.{if_then_else_}
-use Rattle.basis.proofs.OneAnswer.{Told, Tell, OneOutcome, OneAnswer, one-outcome, one-answer}
+use Rattle.base.proofs.OneAnswer.{Tell, OneOutcome, OneAnswer, one-outcome, one-answer}
 use Rattle.calendar.specs.Answers.{dateAnswer, dayAnswer, julianAnswer}
 use Rattle.hour.specs.Hour.{hourAnswer, siderealAnswer}
 use Rattle.root.specs.Root.{rootAnswer}
@@ -25,7 +24,7 @@ use Rattle.belfry_almanac.specs.Answers.{ofDate, ofDay, ofJulian, ofHour, ofRoo
 use Rattle.c_run.specs.Lent.{settingOf, noExtras, vectorOf, injectionOf, stateOf, unkeptOf, guessesOf}
 use Rattle.c_earth.specs.Earth.{sphereOf, ofFixed, ofSphere}
 use Rattle.c_conic.specs.Figures.{Both, bothIn, ofConic}
-use Rattle.lent.specs.Answers.{ofAcceleration, ofInjection, ofMove, RunMemory, handedBack, ofRun, ofFlight}
+use Rattle.c_run.specs.Answers.{ofAcceleration, ofInjection, ofMove, RunMemory, runMemory, ofRun, ofFlight}
 use Rattle.belfry_almanac.proofs.belfry_date as date
 use Rattle.belfry_almanac.proofs.belfry_day as day
 use Rattle.belfry_almanac.proofs.belfry_twice_julian_date as twice-julian-date
@@ -118,7 +117,8 @@ tell-acceleration κs r after = handed r (now (after .1 .1 .1 .1 .1 .0))
 pub acceleration-answers-once : OneOutcome acceleration.ended (λ M. acceleration.clauses) (λ κs. Handed (List Float)) tell-acceleration
 acceleration-answers-once =
     one-outcome (λ κs. Handed (List Float)) tell-acceleration
-    (λ κs inputs. answered (now (inputs .1 .1 .1 .1 .1 .0)) (ofAcceleration (accelerationAnswer (now (inputs .0)) (settingOf (now (inputs .1 .0)) noExtras (inputs .1 .1 .0) 0) 1 (inputs .1 .1 .1 .0) (vectorOf (now (inputs .1 .1 .1 .1 .0))))))
+    (λ κs inputs. answered (now (inputs .1 .1 .1 .1 .1 .0))
+    (ofAcceleration (accelerationAnswer (now (inputs .0)) (settingOf (now (inputs .1 .0)) noExtras (inputs .1 .1 .0) 0) 1 (inputs .1 .1 .1 .0) (vectorOf (now (inputs .1 .1 .1 .1 .0))))))
     (λ M 𝓤 H A mem run″ κs inputs g r after. refl)
 
 abbrev tell-from-sphere : Tell from-sphere.ended (λ κs. Handed (List Float))
@@ -165,7 +165,9 @@ pull-answers-once =
     one-outcome (λ κs. Handed (List Float)) tell-pull
     (λ κs inputs.
     answered (now (inputs .1 .1 .1 .1 .1 .1 .1 .1 .0))
-    (ofAcceleration (accelerationAnswer (now (inputs .0)) (settingOf (now (inputs .1 .0)) (now (inputs .1 .1 .0)) (inputs .1 .1 .1 .0) (inputs .1 .1 .1 .1 .0)) (inputs .1 .1 .1 .1 .1 .1 .0) (inputs .1 .1 .1 .1 .1 .0) (vectorOf (now (inputs .1 .1 .1 .1 .1 .1 .1 .0))))))
+    (ofAcceleration
+    (accelerationAnswer (now (inputs .0)) (settingOf (now (inputs .1 .0)) (now (inputs .1 .1 .0)) (inputs .1 .1 .1 .0) (inputs .1 .1 .1 .1 .0))
+    (inputs .1 .1 .1 .1 .1 .1 .0) (inputs .1 .1 .1 .1 .1 .0) (vectorOf (now (inputs .1 .1 .1 .1 .1 .1 .1 .0))))))
     (λ M 𝓤 H A mem run″ κs inputs g r after. refl)
 
 abbrev tell-inject : Tell inject.ended (λ κs. Handed (List Float))
@@ -176,7 +178,9 @@ inject-answers-once =
     one-outcome (λ κs. Handed (List Float)) tell-inject
     (λ κs inputs.
     answered (now (inputs .1 .1 .1 .1 .1 .1 .1 .1 .0))
-    (ofInjection (injectionAnswer (now (inputs .0)) (settingOf (now (inputs .1 .0)) (now (inputs .1 .1 .0)) (inputs .1 .1 .1 .0) (inputs .1 .1 .1 .1 .0)) (injectionOf (inputs .1 .1 .1 .1 .1 .0) (inputs .1 .1 .1 .1 .1 .1 .0) (now (inputs .1 .1 .1 .1 .1 .1 .1 .0))))))
+    (ofInjection
+    (injectionAnswer (now (inputs .0)) (settingOf (now (inputs .1 .0)) (now (inputs .1 .1 .0)) (inputs .1 .1 .1 .0) (inputs .1 .1 .1 .1 .0))
+    (injectionOf (inputs .1 .1 .1 .1 .1 .0) (inputs .1 .1 .1 .1 .1 .1 .0) (now (inputs .1 .1 .1 .1 .1 .1 .1 .0))))))
     (λ M 𝓤 H A mem run″ κs inputs g r after. refl)
 
 abbrev tell-move : Tell move.ended (λ κs. Handed (List Float))
@@ -187,12 +191,14 @@ move-answers-once =
     one-outcome (λ κs. Handed (List Float)) tell-move
     (λ κs inputs.
     answered (now (inputs .1 .1 .1 .1 .1 .1 .1 .1 .1 .0))
-    (ofMove (moveAnswer (now (inputs .0)) (settingOf (now (inputs .1 .0)) (now (inputs .1 .1 .0)) (inputs .1 .1 .1 .0) (inputs .1 .1 .1 .1 .0)) (stateOf (inputs .1 .1 .1 .1 .1 .0) (inputs .1 .1 .1 .1 .1 .1 .0) (now (inputs .1 .1 .1 .1 .1 .1 .1 .0))) (inputs .1 .1 .1 .1 .1 .1 .1 .1 .0))))
+    (ofMove
+    (moveAnswer (now (inputs .0)) (settingOf (now (inputs .1 .0)) (now (inputs .1 .1 .0)) (inputs .1 .1 .1 .0) (inputs .1 .1 .1 .1 .0))
+    (stateOf (inputs .1 .1 .1 .1 .1 .0) (inputs .1 .1 .1 .1 .1 .1 .0) (now (inputs .1 .1 .1 .1 .1 .1 .1 .0))) (inputs .1 .1 .1 .1 .1 .1 .1 .1 .0))))
     (λ M 𝓤 H A mem run″ κs inputs g r after. refl)
 
 abbrev tell-fly : Tell fly.ended (λ κs. RunMemory)
 tell-fly κs r after =
-    let out = after .1 .1 .1 .1 .1 .1 .1 .1 .1 .1 .1 .1 in handedBack r (now (out .0)) (now (out .1 .0)) (now (out .1 .1 .0)) (now (out .1 .1 .1 .0))
+    let out = after .1 .1 .1 .1 .1 .1 .1 .1 .1 .1 .1 .1 in runMemory r (now (out .0)) (now (out .1 .0)) (now (out .1 .1 .0)) (now (out .1 .1 .1 .0))
 
 pub fly-answers-once : OneOutcome fly.ended (λ M. fly.clauses) (λ κs. RunMemory) tell-fly
 fly-answers-once =
@@ -200,7 +206,8 @@ fly-answers-once =
     (λ κs inputs.
     let rest = inputs .1 .1 .1 .1 .1 .1 .1 .1 in
     ofFlight
-    (runAnswer (now (inputs .0)) (settingOf (now (inputs .1 .0)) (now (inputs .1 .1 .0)) (inputs .1 .1 .1 .0) (inputs .1 .1 .1 .1 .0)) (stateOf (inputs .1 .1 .1 .1 .1 .0) (inputs .1 .1 .1 .1 .1 .1 .0) (now (inputs .1 .1 .1 .1 .1 .1 .1 .0))) (rest .0)
+    (runAnswer (now (inputs .0)) (settingOf (now (inputs .1 .0)) (now (inputs .1 .1 .0)) (inputs .1 .1 .1 .0) (inputs .1 .1 .1 .1 .0))
+    (stateOf (inputs .1 .1 .1 .1 .1 .0) (inputs .1 .1 .1 .1 .1 .1 .0) (now (inputs .1 .1 .1 .1 .1 .1 .1 .0))) (rest .0)
     (rest .1 .0) (rest .1 .1 .0) (guessesOf (now (rest .1 .1 .1 .0)))))
     (λ M 𝓤 H A mem run″ κs inputs g r after. refl)
 
@@ -231,7 +238,7 @@ book-passes-answers-once =
 -- what a run or a single step returns, and the four places that it writes
 abbrev tell-run : Tell run.ended (λ κs. RunMemory)
 tell-run κs r after =
-    let out = after .1 .1 .1 .1 .1 .1 .1 .1 .1 in handedBack r (now (out .0)) (now (out .1 .0)) (now (out .1 .1 .0)) (now (out .1 .1 .1 .0))
+    let out = after .1 .1 .1 .1 .1 .1 .1 .1 .1 in runMemory r (now (out .0)) (now (out .1 .0)) (now (out .1 .1 .0)) (now (out .1 .1 .1 .0))
 
 pub run-answers-once : OneOutcome run.ended (λ M. run.clauses) (λ κs. RunMemory) tell-run
 run-answers-once =
@@ -246,7 +253,7 @@ run-answers-once =
 
 abbrev tell-single-step : Tell single-step.ended (λ κs. RunMemory)
 tell-single-step κs r after =
-    let out = after .1 .1 .1 .1 .1 .1 .1 in handedBack r (now (out .0)) (now (out .1 .0)) (now (out .1 .1 .0)) (now (out .1 .1 .1 .0))
+    let out = after .1 .1 .1 .1 .1 .1 .1 in runMemory r (now (out .0)) (now (out .1 .0)) (now (out .1 .1 .0)) (now (out .1 .1 .1 .0))
 
 pub single-step-answers-once : OneOutcome single-step.ended (λ M. single-step.clauses) (λ κs. RunMemory) tell-single-step
 single-step-answers-once =

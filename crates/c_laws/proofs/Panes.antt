@@ -1,20 +1,18 @@
--- (02, R-14) What a call of the pane wrote reads back as the pane that it left, so a pane in memory that is fed by flights is the pane that is
--- fed by the journey; and the night itself, in memory. Assumes nothing.
+-- (02, R-14) What a call of the pane wrote reads back as the pane after it. So a pane in memory fed with flights is the pane fed with the
+-- journey. Assumes nothing.
 use mathlib.Core.Bool.{Bool, true}
 use mathlib.Core.List.{List, [], _∷_, map}
-use mathlib.Core.Path.{_≡_, refl, sym, ap, _∙_}
+use mathlib.Core.Path.{_≡_, refl, ap, _∙_}
 use Prim.Native.Nat.{ℕ, _-_, _≤_, _<_}
 use native.Mathlib.Omega.{arith}
 use lib.Ieee.{Float}
 use borrow.Author.Tests.{leb-true, ne-eqb}
 use Rattle.base.specs.Choice.{_<?_, _≤?_}
 use Rattle.base.proofs.Cases.{by-if}
-use Rattle.book.proofs.Below as below
+use Rattle.base.proofs.Bools as bools
 use Rattle.state.specs.State.{finiteVector}
 use Rattle.state.specs.declared.State.{State}
 use Rattle.state.specs.declared.Setting.{Setting}
-use Rattle.gravity.specs.declared.Guesses.{Guesses}
-use Rattle.start.specs.Start.{startRefusal}
 use Rattle.run.specs.Run.{runAnswer}
 use Rattle.run.specs.declared.Outcome.{Outcome}
 use Rattle.run.specs.declared.RunAnswer.{RunAnswer}
@@ -26,11 +24,10 @@ use Rattle.pane_live.specs.declared.Pane.the-variants.{Blank, One, Two}
 use Rattle.pane_live.specs.declared.TakeAnswer.{TakeAnswer}
 use Rattle.pane_live.specs.declared.TakeAnswer.the-variants as taken
 use Rattle.pane_live.specs.declared.FrameAnswer.{FrameAnswer}
-use Rattle.live.proofs.Night.{the-night}
 use Rattle.c_run.specs.Lent.{settingOf, stateOf, guessesOf, wholeIn}
-use Rattle.lent.specs.Answers.{outcomeNumber, RunMemory, ofFlight}
-use Rattle.panelink.specs.Lent.{Kept, paneOf, numbersIn, placesIn, paneIn, outcomeOf, flownTo, left, late, nothing, framed, ofFrame}
-use Rattle.linked.specs.Table.{tabled, outcomeTold}
+use Rattle.c_run.specs.Answers.{outcomeNumber}
+use Rattle.belfry_pane.specs.Lent.{Kept, paneOf, numbersIn, placesIn, paneIn, outcomeOf, flownTo, left, ofFrame}
+use Rattle.c_laws.specs.Table.{outcomeTold}
 use Rattle.c_laws.specs.Linked.{LinkedCall, asCall, linkedJourney}
 use Rattle.c_laws.specs.Panes.{fedIn, takenOr18, fedOr18, frameTold}
 use Rattle.c_laws.proofs.Numbers.{run-told}
@@ -46,12 +43,12 @@ outcome-reads-back : (o : Outcome) → outcomeTold o ≡ true → outcomeOf (out
 outcome-reads-back Outcome.Arrived e = refl
 outcome-reads-back Outcome.Going e = refl
 outcome-reads-back (Outcome.Refused k) e =
-    let least : 1 ≤ k = leb-true 1 k (below.left (1 ≤? k) (k ≤? 18) e) in
-    let most : k ≤ 18 = leb-true k 18 (below.right (1 ≤? k) (k ≤? 18) e) in
+    let least : 1 ≤ k = leb-true 1 k (bools.left (1 ≤? k) (k ≤? 18) e) in
+    let most : k ≤ 18 = leb-true k 18 (bools.right (1 ≤? k) (k ≤? 18) e) in
     rw (ne-eqb k 0 (λ z. absurd (omega arith)), ne-eqb k 100 (λ z. absurd (omega arith)))
 
 -- "`feed` takes what ask's `fly` answers": steps and guesses are not read
-fed-as-answered : (pane : Pane) (r : RunAnswer) → outcomeTold (r .outcome) ≡ true → feed pane (flownTo (outcomeNumber (r .outcome)) (r .state)) ≡ feed pane r
+pub fed-as-answered : (pane : Pane) (r : RunAnswer) → outcomeTold (r .outcome) ≡ true → feed pane (flownTo (outcomeNumber (r .outcome)) (r .state)) ≡ feed pane r
 unfolding feed
 fed-as-answered pane r e = ap (λ (o : Outcome). feedBy o pane (r .state)) (outcome-reads-back (r .outcome) e)
 
@@ -96,28 +93,7 @@ module _ (b : List ℕ) (m extras : List Float) (dut rule centre h target : ℕ)
       ∙ ap (λ (from : State). paneIn (fed next (journey b setting h target from (map asCall calls))))
       (state-reads-back b setting s h target (call .budget) (guessesOf (call .guesses)))
 
-  -- The night: a flight was refused by k, and the pane holds nothing later. Whatever flights follow, with any budgets and guesses, a frame past
-  -- the newer state returns 102, how late it is, and no position.
-  pub the-night-in-memory : (moment : ℕ) (coordinates : List Float) (call : LinkedCall) (k : ℕ) (calls : List LinkedCall) (older newer : State) (t : ℕ)
-      → startRefusal b setting (stateOf moment centre coordinates) h target ≡ 0
-      → flight moment coordinates call .outcome ≡ Outcome.Refused k
-      → flight moment coordinates call .state .moment ≤ newer .moment → newer .moment < t
-      → (let r = flight moment coordinates call in
-      let kept = fedIn centre (paneIn (Two older newer)) (linkedJourney b m extras dut rule centre h target (r .state .moment) (wholeIn (r .state)) calls) in
-      ofFrame (frameAt (paneOf (kept .numbers) (kept .places)) t) ≡ framed late nothing (t - newer .moment))
-  the-night-in-memory moment coordinates call k calls older newer t checks refused reached past =
-      let s = stateOf moment centre coordinates in
-      let given = guessesOf (call .guesses) in
-      let r = flight moment coordinates call in
-      let shownBy : Kept → _ = λ (kept : Kept). ofFrame (frameAt (paneOf (kept .numbers) (kept .places)) t) in
-      let pane = fed (Two older newer) (journey b setting h target (stateOf (r .state .moment) centre (wholeIn (r .state))) (map asCall calls)) in
-      ap shownBy (fed-in-memory (Two older newer) (r .state .moment) (wholeIn (r .state)) calls)
-      ∙ ap (λ (p : Pane). ofFrame (frameAt p t)) (pane-reads-back pane)
-      ∙ ap (λ (from : State). ofFrame (frameAt (fed (Two older newer) (journey b setting h target from (map asCall calls))) t))
-      (state-reads-back b setting s h target (call .budget) given)
-      ∙ ap ofFrame (the-night b setting h target s (call .budget) given k (map asCall calls) older newer t checks refused reached past)
-
--- the numbers that the calls return: a state is taken, or a position shown, at 0 alone, and no refusal is 101, 102 or 103
+-- the numbers that the calls return: only 0 means that a state is taken or a position shown, and no refusal is 101, 102 or 103
 module _ (before : Kept) where
   abbrev taking : TakeAnswer → Bool
   taking answer = takenOr18 (left before answer .returned)

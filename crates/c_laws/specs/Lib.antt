@@ -1,3 +1,4 @@
 pub mod Table
 pub mod Linked
 pub mod Panes
+pub mod Desks
