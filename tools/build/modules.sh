@@ -1,11 +1,11 @@
-# Sourced: how to get hold of the module that a static library is compiled from. Needs `work`, an existing folder of its own; sets `kit`,
+# Sourced: gets the module that a static library is compiled from. Needs `work`, an existing folder of its own; sets `kit`,
 # `machine` and `tools` (the kit's compiler for this machine).
 machine=$(uname -m)
 rt_path=$(command -v rt) || { echo "the Rattle toolchain's command rt is not on PATH" >&2; exit 2; }
 kit=$(dirname "$(dirname "$(readlink -f "$rt_path")")")
 tools=$kit/on/$machine/toolchain/bin
 
-# Makes $work/kit, a kit like the kit, but its compiler keeps the module that it is given as $work/module.bc.
+# Makes $work/kit, a copy of the kit whose compiler keeps its input module as $work/module.bc.
 keeping_kit() {
     shadow=$work/kit
     rm -rf "$shadow"
