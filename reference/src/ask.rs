@@ -1,4 +1,4 @@
-//! The question line: one call a line in, one answer a line out.
+//! The program ask: one call on each line in, one answer on each line out.
 
 use crate::conic::{conic, Kind};
 use crate::fields::{
@@ -10,7 +10,7 @@ use crate::rule::{acceleration, inject, Setting, State};
 use crate::sphere::{from_sphere, Sphere};
 use crate::{book, calendar, fixed, hour, moves, root, sine};
 
-/// A line longer than this, without its line feed, is no call.
+/// A line longer than this, without its line feed, is not a call.
 pub const LONGEST: usize = 1000;
 pub const UNREADABLE: &str = "UNREADABLE";
 
@@ -101,7 +101,7 @@ pub fn ask_move(book: &[u8], f: &[&[u8]]) -> Option<String> {
     Some(told(moves::moved(book, &setting, &state, decimal(new)?).map(|s| state_shown(&s))))
 }
 
-/// What a line of `fly` makes, from the state that it gives or from what is made of it.
+/// The call of a line of `fly`, from its state or from a state made from that.
 pub fn flown(book: &[u8], f: &[&[u8]], made: fn(&[u8], &Setting, &State) -> State) -> Option<Ran> {
     let (setting, state) = (setting(f.get(..SETTING)?)?, state(f.get(SETTING..SETTING + STATE)?)?);
     let [h, target, budget, guesses @ ..] = f.get(SETTING + STATE..)? else { return None };
@@ -109,7 +109,7 @@ pub fn flown(book: &[u8], f: &[&[u8]], made: fn(&[u8], &Setting, &State) -> Stat
     Some(run(book, &setting, &made(book, &setting, &state), h, target, budget, decimals(guesses)?))
 }
 
-/// Outcome and steps, the state as it is told, and guesses.
+/// Outcome and steps, the state as it is printed, and guesses.
 pub fn ran_line(ran: &Ran, state: &str) -> String {
     let outcome = match ran.outcome {
         Outcome::Arrived => "ARRIVED".to_string(),
@@ -125,26 +125,26 @@ pub fn ask_fly(book: &[u8], f: &[&[u8]]) -> Option<String> {
     Some(ran_line(&ran, &state_shown(&ran.state)))
 }
 
-/// An old state has the acceleration that the rule gives; as it is told it has none, and no centre.
+/// An old state has the acceleration that the rule gives. It is printed without acceleration and centre.
 pub fn ask_run(book: &[u8], f: &[&[u8]]) -> Option<String> {
     let ran = flown(book, f, of_an_order)?;
     let s = &ran.state;
     Some(ran_line(&ran, &format!("{} {}", s.moment, all_shown(&two(s.position, s.velocity)))))
 }
 
-/// An old line means rule 0 and the Earth, with J, A and K zero: put in where the new line has them. A conic looks at no moment,
-/// and neither it nor a turn at what is stored.
+/// An old line means rule 0 and the Earth, with J, A and K zero: these are inserted as fields of the new line. A conic reads no
+/// moment. Neither a conic nor a turn reads the stored acceleration.
 pub const RULE: &[u8] = b"0";
 pub const CENTRE: &[u8] = b"1";
 pub const MOMENT: &[u8] = b"0";
 pub const ZERO: &[u8] = b"0000000000000000";
-/// What an old line lacks: of a turn, of a conic, and of an acceleration or a run, which lacks its last three too.
+/// The fields that an old line lacks: those of a turn, of a conic, and of an acceleration or a run, which lacks the last three too.
 pub const OF_A_TURN: [(usize, &[u8]); 5] = [(0, RULE), (3, CENTRE), (10, ZERO), (11, ZERO), (12, ZERO)];
 pub const OF_A_CONIC: [(usize, &[u8]); 5] = [(1, MOMENT), (2, CENTRE), (9, ZERO), (10, ZERO), (11, ZERO)];
 pub const OF_A_PULL: [(usize, &[u8]); 5] = [(7, ZERO), (8, ZERO), (9, ZERO), (10, RULE), (12, CENTRE)];
 pub const OF_A_RUN: [(usize, &[u8]); 3] = [(19, ZERO), (20, ZERO), (21, ZERO)];
 
-/// The answer to one line, without line feeds; None when it is unreadable.
+/// The answer to one line, without line feeds; None if it is unreadable.
 pub fn readable(book: &[u8], line: &[u8]) -> Option<String> {
     if line.len() > LONGEST {
         return None;
@@ -178,7 +178,7 @@ pub fn answer(book: &[u8], line: &[u8]) -> String {
     readable(book, line).unwrap_or_else(|| UNREADABLE.to_string())
 }
 
-/// The whole output for a whole input. An empty last piece is no line.
+/// The whole output for a whole input. An empty last piece is not a line.
 pub fn answers(book: &[u8], input: &[u8]) -> Vec<u8> {
     let mut out = Vec::new();
     for piece in input.split_inclusive(|&b| b == b'\n') {

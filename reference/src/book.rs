@@ -46,19 +46,19 @@ pub fn entry(book: &[u8], i: usize) -> Option<Entry> {
     })
 }
 
-/// Body, n, start and span of one entry as they must be.
+/// Body, n, start and span of one entry are allowed.
 pub fn entry_passes(e: Entry) -> bool {
     let end = u128::from(e.start) + u128::from(e.span);
     (2..=6).contains(&e.body) && (2..=16).contains(&e.n) && e.span >= 1 && end <= u128::from(END)
 }
 
-/// One passing entry may stand before another: bodies ascend, no overlap within one.
+/// Whether one passing entry may come before another: bodies ascend, no overlap within one.
 pub fn follows(before: Entry, after: Entry) -> bool {
     after.body > before.body
         || (after.body == before.body && after.start >= before.start.saturating_add(before.span))
 }
 
-/// The book check; 1 when it does not pass.
+/// The check of a book; 1 if it does not pass.
 pub fn check(book: &[u8]) -> Result<(), u64> {
     let total = bytes_at(book, 0).map(u32::from_le_bytes).ok_or(1u64)?;
     let entries = bytes_at(book, 4).map(u32::from_le_bytes).ok_or(1u64)?;
@@ -109,7 +109,7 @@ pub fn find(book: &[u8], body: u64, t: u64) -> Option<usize> {
         .map(|(i, _)| i)
 }
 
-/// Where a body stands, in km, and how fast it goes, in km/s.
+/// The position of a body, in km, and its velocity, in km/s.
 #[derive(Clone, Copy, Debug, PartialEq)]
 pub struct Motion {
     pub place: Vector,
@@ -117,7 +117,7 @@ pub struct Motion {
 }
 
 impl Motion {
-    /// Place and then speed, as they are told.
+    /// Place and then speed, as they are printed.
     pub fn six(&self) -> [f64; 6] {
         let (p, v) = (self.place, self.speed);
         [p[0], p[1], p[2], v[0], v[1], v[2]]
@@ -140,7 +140,7 @@ pub fn series(book: &[u8], at: usize, n: usize, w: f64) -> Option<(f64, f64)> {
     Some((value, slope))
 }
 
-/// Position and velocity at t by a covering entry; 7 when one of them is not finite.
+/// Position and velocity at t by a covering entry; 7 if one of them is not finite.
 pub fn motion(book: &[u8], i: usize, t: u64) -> Result<Motion, u64> {
     let e = entry(book, i).ok_or(6u64)?;
     let twice = 2 * (i128::from(t) - i128::from(e.start)) - i128::from(e.span);

@@ -1,6 +1,6 @@
 //! Calendar and day count, 1950 January 1 to 2049 December 31.
 
-/// Day 0 stands in this year.
+/// The year of day 0.
 pub const FIRST_YEAR: u64 = 1950;
 /// The last year with days.
 pub const LAST_YEAR: u64 = 2049;
@@ -11,7 +11,7 @@ pub fn leap(year: u64) -> bool {
     year % 4 == 0 && (year % 100 != 0 || year % 400 == 0)
 }
 
-/// Days of a month; 0 for a month that is none.
+/// Days of a month; 0 if there is no such month.
 pub fn month_days(year: u64, month: u64) -> u64 {
     match month {
         1 | 3 | 5 | 7 | 8 | 10 | 12 => 31,
@@ -22,7 +22,7 @@ pub fn month_days(year: u64, month: u64) -> u64 {
     }
 }
 
-/// Year, month and day of month of a day number, by counting months off.
+/// Year, month and day of month of a day number, by subtracting the lengths of months.
 pub fn date_of(day: u64) -> Result<(u64, u64, u64), u64> {
     if day > LAST_DAY {
         return Err(8);

@@ -17,7 +17,7 @@ impl Extras {
     /// Document 003's J and A, without sunlight.
     pub const NOMINAL: Extras = Extras { j: 0.001623450, a: 6378.1650, k: 0.0 };
 
-    /// None of the three negative or not finite; else 4.
+    /// 4 if one of the three is negative or not finite.
     pub fn allowed(&self) -> Result<(), u64> {
         let allowed = [self.j, self.a, self.k].iter().all(|x| x.is_finite() && *x >= 0.0);
         allowed.then_some(()).ok_or(4)
@@ -29,8 +29,8 @@ impl Extras {
     }
 }
 
-/// What an acceleration loses to the oblate Earth of coefficient m, at a position from it: with u = (z·z)/n, x and y
-/// ((J·g)·((A·A)/n))·(1 - 5·u), z the same with 3 for 1.
+/// What the term of the oblate Earth of coefficient m subtracts, at a position from it. With u = (z·z)/n it is ((J·g)·((A·A)/n))·(1
+/// - 5·u) for x and y; for z it has 3 instead of 1.
 pub fn flattening(extras: &Extras, position: Vector, m: f64) -> Result<Vector, u64> {
     let g = pull(position, m)?;
     let n = n(position);
@@ -39,8 +39,8 @@ pub fn flattening(extras: &Extras, position: Vector, m: f64) -> Result<Vector, u
     Ok([part(g[0], 1.0), part(g[1], 1.0), part(g[2], 3.0)])
 }
 
-/// An acceleration with both terms, from the position from the Earth of coefficient m and that from the Sun; a term whose J or K
-/// is zero is left out.
+/// An acceleration with both terms, by the position from the Earth of coefficient m and that from the Sun. A term whose J or K is
+/// zero is left out.
 pub fn with_both(a: Vector, extras: &Extras, from_earth: Vector, m: f64, from_sun: Vector) -> Result<Vector, u64> {
     let mut a = a;
     if extras.j > 0.0 {

@@ -4,7 +4,7 @@ use crate::extras::Extras;
 use crate::rule::{Setting, State};
 use crate::vector::Vector;
 
-/// One to twenty digits, no sign, within a u64.
+/// One to twenty digits, no sign, and the number fits a u64.
 pub fn decimal(field: &[u8]) -> Option<u64> {
     if field.is_empty() || field.len() > 20 {
         return None;
@@ -86,7 +86,7 @@ pub fn halves(v: [f64; 6]) -> (Vector, Vector) {
     ([v[0], v[1], v[2]], [v[3], v[4], v[5]])
 }
 
-/// A decimal that may carry a minus sign.
+/// A decimal that may have a minus sign.
 pub fn signed(field: &[u8]) -> Option<i128> {
     match field.strip_prefix(b"-") {
         Some(rest) => Some(-i128::from(decimal(rest)?)),
@@ -112,19 +112,19 @@ pub fn bare_state(f: &[&[u8]]) -> Option<State> {
     Some(State::bare(decimal(moment)?, decimal(centre)?, position, velocity))
 }
 
-/// The fields of a state: those, and the acceleration kept.
+/// The fields of a state: those, and the stored acceleration.
 pub fn state(f: &[&[u8]]) -> Option<State> {
     let (bare, kept) = (f.get(..STATE - 3)?, f.get(STATE - 3..)?);
     Some(State { acceleration: floats(kept)?, ..bare_state(bare)? })
 }
 
-/// A state as it is told.
+/// A state as it is printed.
 pub fn state_shown(s: &State) -> String {
     let (six, kept) = (all_shown(&two(s.position, s.velocity)), all_shown(&s.acceleration));
     format!("{} {} {six} {kept}", s.moment, s.centre)
 }
 
-/// The fields of an old line with others put in, each at its place in the new line; none where it does not reach so far.
+/// The fields of an old line with others inserted, each at its place in the new line; None if the line is too short.
 pub fn put_in<'a>(f: &[&'a [u8]], others: &[(usize, &'a [u8])]) -> Option<Vec<&'a [u8]>> {
     let mut list = f.to_vec();
     for &(at, field) in others {

@@ -5,7 +5,7 @@ use crate::rule::{State, EARTH};
 use crate::sine::{sine_cosine, C};
 use crate::vector::{finite, Vector};
 
-/// The turn's three rows.
+/// The three rows of the turn.
 pub fn turn(sine: f64, cosine: f64) -> [Vector; 3] {
     [[cosine, sine, 0.0], [-sine, cosine, 0.0], [0.0, 0.0, 1.0]]
 }
@@ -18,7 +18,7 @@ pub fn turned(rows: [Vector; 3], v: Vector) -> Vector {
 /// Whole milliseconds from the epoch 1950.0 to moment 0: DELTJD is -0.076643 day.
 pub const SINCE_1950_0: u64 = 6_621_955;
 
-/// Document 000's table from 1950.0 to the mean equator of date, section ROTEQ, t in centuries.
+/// Document 000's table from 1950.0 to the mean equator of date, section ROTEQ; t in centuries.
 pub fn precession_by(t: f64) -> [Vector; 3] {
     let series = |c: [f64; 4]| ((c[3] * t + c[2]) * t + c[1]) * t + c[0];
     let a11 = series([1.0, 0.0, -0.00029697, -0.00000013]);
@@ -35,7 +35,7 @@ pub fn precession(moment: u64) -> [Vector; 3] {
     precession_by((moment + SINCE_1950_0) as f64 / 3_155_760_000_000.0)
 }
 
-/// Each element (first + second) + third, rows of the left by columns of the right.
+/// Each element is (first + second) + third: rows of the left table by columns of the right.
 pub fn product(left: [Vector; 3], right: [Vector; 3]) -> [Vector; 3] {
     let element = |row: Vector, j: usize| (row[0] * right[0][j] + row[1] * right[1][j]) + row[2] * right[2][j];
     left.map(|row| [element(row, 0), element(row, 1), element(row, 2)])

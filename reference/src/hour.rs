@@ -12,7 +12,7 @@ pub const CIRCLE: u64 = 3_600_000_000_000;
 /// The rules are 0 and 1.
 pub const LAST_RULE: u64 = 1;
 
-/// DUT and rule as a setting may have them; else 4.
+/// 4 if a setting may not have this DUT or rule.
 pub fn allowed(rule: u64, dut: u32) -> Result<(), u64> {
     if dut > DUT_MOST || rule > LAST_RULE {
         return Err(4);
@@ -29,7 +29,7 @@ pub fn universal(moment: u64, dut: u32) -> Result<u64, u64> {
     moment.checked_sub(u64::from(dut)).ok_or(3)
 }
 
-/// Hour angle in parts at a UT; 3 when it is out of range.
+/// Hour angle in parts at a UT; 3 if it is out of range.
 pub fn angle_at(ut: u64) -> Result<u64, u64> {
     if ut >= END {
         return Err(3);
@@ -42,14 +42,14 @@ pub fn angle_at(ut: u64) -> Result<u64, u64> {
     Ok((sum % u128::from(CIRCLE)) as u64)
 }
 
-/// The exact value of the 1982 rule at a UT in range, in parts: whole ones, and what is left over PART.
+/// The exact value of the 1982 rule at a UT in range, in parts: whole ones, and the rest over PART.
 pub fn exact_1982(ut: u64) -> (i128, i128) {
     let (u, t) = (2 * i128::from(ut / DAY) - 36_525, i128::from(ut % DAY));
     // Seconds at 0h in 10^-7 over 73,050^3, and the rate in 10^-16 over 73,050^2.
     let seconds = 241_105_484_100 * SPAN.pow(3) + 86_401_848_128_660 * u * SPAN.pow(2)
         + 931_040 * u.pow(2) * SPAN - 62 * u.pow(3);
     let rate = 10_027_379_093_507_950 * SPAN.pow(2) + 590_060 * u * SPAN - 59 * u.pow(2);
-    // 24 seconds are 10^9 parts. Each of the two is whole parts and a rest that is not negative.
+    // 24 seconds are 10^9 parts. Each of the two is a whole number of parts and a rest that is not negative.
     let (day, time) = (100 * seconds, t * rate);
     let (by_day, by_time) = (24 * SPAN.pow(3), 240_000_000_000 * SPAN.pow(2));
     let rests = day.rem_euclid(by_day) * 10_000_000_000 + time.rem_euclid(by_time) * SPAN;
@@ -58,10 +58,10 @@ pub fn exact_1982(ut: u64) -> (i128, i128) {
 
 /// Days in a Julian century, twice: T is (2d - 36,525) over it.
 const SPAN: i128 = 73_050;
-/// What `exact_1982` has as the denominator of a part.
+/// The denominator of a part in `exact_1982`.
 pub const PART: i128 = 240_000_000_000 * SPAN.pow(3);
 
-/// The angle at a UT by a rule, in parts; 3 when it is out of range.
+/// The angle at a UT by a rule, in parts; 3 if it is out of range.
 pub fn angle_by(rule: u64, ut: u64) -> Result<u64, u64> {
     if rule == 0 || ut >= END {
         return angle_at(ut);

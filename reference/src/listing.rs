@@ -3,7 +3,7 @@
 
 use crate::hour::END;
 
-/// What a line is, looked at by itself.
+/// The kind of a single line.
 #[derive(Clone, Copy, Debug)]
 pub enum Kind {
     Header,
@@ -23,7 +23,7 @@ pub fn lines(text: &[u8]) -> Vec<&[u8]> {
     all
 }
 
-/// A decimal of any length without a zero in front.
+/// A decimal of any length without a leading zero.
 fn is_number(word: &[u8]) -> bool {
     !word.is_empty() && word.iter().all(u8::is_ascii_digit) && (word == b"0" || word[0] != b'0')
 }
@@ -60,7 +60,7 @@ fn kind(line: &[u8]) -> Kind {
     }
 }
 
-/// What may stand in the next line.
+/// What may be the next line.
 #[derive(Clone, Copy, Debug, Default)]
 enum Next {
     #[default]

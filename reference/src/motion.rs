@@ -12,7 +12,7 @@ pub enum Outcome {
     Refused(u64),
 }
 
-/// What a run answers.
+/// The answer of a run.
 #[derive(Clone, Copy, Debug)]
 pub struct Ran {
     pub outcome: Outcome,
@@ -30,8 +30,8 @@ pub fn blend(base: Vector, sixth: f64, k: [Vector; 4]) -> Vector {
     new
 }
 
-/// One step of h milliseconds, by a rule for the acceleration at a moment and a position. The first slope is the acceleration kept, and
-/// the new state has its own, or the step is refused.
+/// One step of h milliseconds, by a rule for the acceleration at a moment and a position. The first slope is the stored
+/// acceleration. The new state has its own, or the step is refused.
 pub fn step_by(mut rule: impl FnMut(u64, Vector) -> Result<Vector, u64>, s: &State, h: u32) -> Result<State, u64> {
     let whole = f64::from(h) / 1000.0;
     let half = whole * 0.5;
@@ -51,12 +51,12 @@ pub fn step_by(mut rule: impl FnMut(u64, Vector) -> Result<Vector, u64>, s: &Sta
     Ok(State { acceleration: rule(last, position)?, ..next })
 }
 
-/// The same by the acceleration's own rule.
+/// The same by the rule of the acceleration itself.
 pub fn step(book: &[u8], setting: &Setting, s: &State, h: u32) -> Result<State, u64> {
     step_by(|t, p| slope(book, setting, t, s.centre, p), s, h)
 }
 
-/// What is stored is the rule's, bit by bit: the rule's own 6 or 7, then 15.
+/// Checks that the stored acceleration is the rule's, bit by bit: the rule's own 6 or 7, then 15.
 pub fn kept(book: &[u8], setting: &Setting, s: &State) -> Result<(), u64> {
     let bits = |s: &State| s.acceleration.map(f64::to_bits);
     if bits(&ruled(book, setting, s)?) == bits(s) {
@@ -66,13 +66,13 @@ pub fn kept(book: &[u8], setting: &Setting, s: &State) -> Result<(), u64> {
     }
 }
 
-/// The state of an old order: with the acceleration that the rule gives. Where it gives none the run's checks refuse the state,
-/// whatever is stored.
+/// The state of an old order: with the acceleration that the rule gives. If it gives none, the run's checks refuse the state for
+/// any stored value.
 pub fn of_an_order(book: &[u8], setting: &Setting, s: &State) -> State {
     inject(book, setting, s).unwrap_or(*s)
 }
 
-/// What is refused before any step: 1, 4, 14, 3 (state, then target), 7, the rule's own 6 or 7, 15, 2, 5.
+/// The refusals before any step: 1, 4, 14, 3 (state, then target), 7, the rule's own 6 or 7, 15, 2, 5.
 pub fn start_checks(book: &[u8], setting: &Setting, s: &State, h: u32, target: u64) -> Result<(), u64> {
     book::check(book)?;
     setting_allowed(setting)?;
@@ -118,7 +118,7 @@ pub fn walk(
     walk_by(|s| step(book, setting, s, h), from, target, budget)
 }
 
-/// The run call. The guesses are not used for looking up, only given back.
+/// The run call. The guesses are not used for lookups, only returned.
 pub fn run(
     book: &[u8], setting: &Setting, state: &State, h: u32, target: u64, budget: u32,
     guesses: [u64; 5],
@@ -140,7 +140,7 @@ pub fn run(
 
 /// A single step: a run with budget 1 and the target one step on.
 pub fn single(book: &[u8], setting: &Setting, state: &State, h: u32, guesses: [u64; 5]) -> Ran {
-    // At or past the end of time the target is refused with 3, wrapped or not.
+    // At or past the end of time the target is refused with 3, whether it wraps or not.
     let target = state.moment.saturating_add(u64::from(h));
     run(book, setting, state, h, target, 1, guesses)
 }

@@ -5,7 +5,7 @@ use crate::hour::END;
 use crate::rule::{centre_allowed, ruled, setting_allowed, Setting, State, EARTH};
 use crate::vector::sub;
 
-/// The entry that covers a centre, or none where it is the Earth, which needs no cover; else 6.
+/// The entry that covers a centre; none for the Earth, which needs no cover; else 6.
 pub fn cover(book: &[u8], centre: u64, t: u64) -> Result<Option<usize>, u64> {
     if centre == EARTH {
         return Ok(None);
@@ -13,7 +13,7 @@ pub fn cover(book: &[u8], centre: u64, t: u64) -> Result<Option<usize>, u64> {
     book::find(book, centre, t).map(Some).ok_or(6)
 }
 
-/// Where a covered centre stands and how fast it goes; 7 where it is not finite, as the result is then.
+/// Position and velocity of a covered centre; 7 if they are not finite, because the result is not either.
 pub fn stands(book: &[u8], entry: Option<usize>, t: u64) -> Result<Motion, u64> {
     match entry {
         Some(i) => book::motion(book, i, t),
@@ -22,7 +22,7 @@ pub fn stands(book: &[u8], entry: Option<usize>, t: u64) -> Result<Motion, u64> 
 }
 
 /// The move call: 1, 4, 14 (the state's centre), 14 (the new one), 3, 7 (state), 6 (either centre), 7 (result), then the rule's own
-/// 6 or 7 at the new state. What is stored is not read: it is handed back, or worked out anew.
+/// 6 or 7 at the new state. The stored acceleration is not read: it is returned, or computed anew.
 pub fn moved(book: &[u8], setting: &Setting, s: &State, new: u64) -> Result<State, u64> {
     book::check(book)?;
     setting_allowed(setting)?;

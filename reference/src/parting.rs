@@ -1,4 +1,4 @@
-//! Request R-1 of document 02: where two strips part. Written from the request, document 01's form of a listing and the readings
+//! Request R-1 of document 02: where two strips differ. Written from the request, document 01's form of a listing and the readings
 //! in docs/DECISIONS.md.
 
 use std::collections::BTreeMap;
@@ -34,7 +34,7 @@ fn listing(text: &[u8]) -> Result<Listing, usize> {
     Ok(listing)
 }
 
-/// Float steps: -0.0 is one below +0.0.
+/// Float steps: -0.0 is one step below +0.0.
 fn steps(a: u64, b: u64) -> u128 {
     let order = |bits: u64| if bits >> 63 == 0 { i128::from(bits) } else { -i128::from(bits - (1 << 63)) - 1 };
     order(a).abs_diff(order(b))

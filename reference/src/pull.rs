@@ -3,7 +3,7 @@
 use crate::root::root;
 use crate::vector::{n, Vector};
 
-/// g(v, m); 7 when n is not finite, or r3 is zero or not finite.
+/// g(v, m); 7 if n is not finite, or r3 is zero or not finite.
 pub fn pull(v: Vector, m: f64) -> Result<Vector, u64> {
     let n = n(v);
     if !n.is_finite() {

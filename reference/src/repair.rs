@@ -3,7 +3,7 @@
 
 use crate::book::{bytes_at, entry, entry_passes, float_at, Entry, ENTRY, HEAD, LIMIT};
 
-/// What becomes of an entry that is looked at.
+/// The fate of an entry that is looked at.
 #[derive(Clone, Copy, Debug, PartialEq, Eq)]
 pub enum Fate {
     Kept(usize),
@@ -14,7 +14,7 @@ pub enum Fate {
     Room,
 }
 
-/// What changed against the input.
+/// What changed compared with the input.
 #[derive(Clone, Copy, Debug, Default, PartialEq, Eq)]
 pub struct Changed {
     pub total: bool,
@@ -35,7 +35,7 @@ fn block(input: &[u8], e: Entry) -> Option<&[u8]> {
     input.get(from..from + 24 * usize::from(e.n))
 }
 
-/// The first reason found, of the three that need no other entry.
+/// The first reason found, of the three that depend only on the entry itself.
 fn reason(input: &[u8], e: Entry) -> Option<Fate> {
     if !entry_passes(e) {
         return Some(Fate::Fields);
@@ -74,7 +74,7 @@ fn written(input: &[u8], kept: &[Entry]) -> Vec<u8> {
     book
 }
 
-/// The input's bytes and the output's length; a refusal is its number.
+/// Takes the bytes of the input and the length of the output; a refusal is its number.
 pub fn repair(input: &[u8], output: usize) -> Result<Repaired, u64> {
     if input.len() < HEAD || output < HEAD {
         return Err(16);

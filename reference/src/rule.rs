@@ -20,7 +20,7 @@ pub const EARTH: u64 = 1;
 pub const SUN: u64 = 3;
 pub const CENTRES: std::ops::RangeInclusive<u64> = 1..=6;
 
-/// A moment and a centre, with position and velocity from that centre, and the acceleration kept with them.
+/// A moment and a centre, with position and velocity from that centre, and the stored acceleration.
 #[derive(Clone, Copy, Debug)]
 pub struct State {
     pub moment: u64,
@@ -31,12 +31,12 @@ pub struct State {
 }
 
 impl State {
-    /// A state whose acceleration is still to be worked out.
+    /// A state whose acceleration is still to be computed.
     pub fn bare(moment: u64, centre: u64, position: Vector, velocity: Vector) -> State {
         State { moment, centre, position, velocity, acceleration: [0.0; 3] }
     }
 
-    /// Position and velocity finite; else 7.
+    /// 7 if position or velocity is not finite.
     pub fn finite(&self) -> Result<(), u64> {
         if finite(self.position) && finite(self.velocity) {
             Ok(())
@@ -46,7 +46,7 @@ impl State {
     }
 }
 
-/// Coefficients, J, A and K, DUT and rule; else 4.
+/// The checks of coefficients, J, A and K, DUT and rule: 4.
 pub fn setting_allowed(setting: &Setting) -> Result<(), u64> {
     let m = setting.coefficients;
     let allowed = m.iter().all(|c| c.is_finite() && *c >= 0.0) && m[0] > 0.0;
@@ -57,23 +57,23 @@ pub fn setting_allowed(setting: &Setting) -> Result<(), u64> {
     hour::allowed(setting.rule, setting.dut)
 }
 
-/// The body numbers whose coefficient is above 0, with it.
+/// The numbers of the bodies whose coefficient is above 0, with it.
 pub fn used(setting: &Setting) -> impl Iterator<Item = (usize, f64)> + '_ {
     (1..=6).map(|body| (body, setting.coefficients[body - 1])).filter(|&(_, m)| m > 0.0)
 }
 
-/// The bodies looked up: the used ones but the Earth, and the Sun where it shines, used or not.
+/// The bodies looked up: the used ones except the Earth, and the Sun if it shines, used or not.
 pub fn looked_up(setting: &Setting) -> impl Iterator<Item = usize> + '_ {
     let lit = |body| body as u64 == SUN && setting.extras.sun_shines();
     (2..=6).filter(move |&body| setting.coefficients[body - 1] > 0.0 || lit(body))
 }
 
-/// A centre is one of the used bodies; else 14.
+/// 14 if a centre is not one of the used bodies.
 pub fn centre_allowed(setting: &Setting, centre: u64) -> Result<(), u64> {
     used(setting).any(|(body, _)| body as u64 == centre).then_some(()).ok_or(14)
 }
 
-/// Positions from the Earth, of the bodies looked up in rising number: 6, then 7, body by body. The Earth's is zero.
+/// Positions from the Earth of the bodies looked up, in rising number: 6, then 7, body by body. The Earth's is zero.
 pub fn lookups(book: &[u8], setting: &Setting, t: u64) -> Result<[Vector; 7], u64> {
     let mut places = [[0.0; 3]; 7];
     for body in looked_up(setting) {
@@ -83,7 +83,7 @@ pub fn lookups(book: &[u8], setting: &Setting, t: u64) -> Result<[Vector; 7], u6
     Ok(places)
 }
 
-/// The acceleration's own rule, for a book that passes and a setting and a centre that are allowed.
+/// The rule of the acceleration itself, for a book that passes and a setting and a centre that are allowed.
 pub fn slope(book: &[u8], setting: &Setting, t: u64, centre: u64, p: Vector) -> Result<Vector, u64> {
     slope_under(&lookups(book, setting, t)?, setting, centre, p)
 }
@@ -122,13 +122,13 @@ pub fn acceleration(
     slope(book, setting, t, centre, p)
 }
 
-/// The state with the acceleration that the rule gives there; the rule's own 6 or 7.
+/// The state with the acceleration that the rule gives; the rule's own 6 or 7.
 pub fn ruled(book: &[u8], setting: &Setting, s: &State) -> Result<State, u64> {
     let acceleration = slope(book, setting, s.moment, s.centre, s.position)?;
     Ok(State { acceleration, ..*s })
 }
 
-/// The injection call: 1, 4, 14, 3, 7 (position and velocity), then the rule's own 6 or 7. What is stored is not read.
+/// The injection call: 1, 4, 14, 3, 7 (position and velocity), then the rule's own 6 or 7. The stored acceleration is not read.
 pub fn inject(book: &[u8], setting: &Setting, s: &State) -> Result<State, u64> {
     book::check(book)?;
     setting_allowed(setting)?;

@@ -14,7 +14,7 @@ pub fn coefficient(k: u64, of: u64) -> f64 {
     sign / factorial
 }
 
-/// Horner in z from the highest k: odd factorials with `odd` 1, even ones with 0.
+/// Horner in z from the highest k: odd factorials if `odd` is 1, even ones if it is 0.
 pub fn horner(z: f64, highest: u64, odd: u64) -> f64 {
     let mut sum = coefficient(highest, 2 * highest + odd);
     for k in (0..highest).rev() {

@@ -1,4 +1,4 @@
-//! An injection as launch crews speak it: Earth-fixed spherical, to a state in 1950.0 axes.
+//! An injection as launch crews speak it: from Earth-fixed spherical to a state in 1950.0 axes.
 
 use crate::fixed::{precession, product, rate, turn, turned};
 use crate::hour::{sidereal, universal, CIRCLE, DAY};
@@ -19,7 +19,7 @@ pub struct Sphere {
     pub azimuth: u64,
 }
 
-/// Sine and cosine of an angle from -90 to 90 degrees; a negative one gets a circle first. Else 12.
+/// Sine and cosine of an angle from -90 to 90 degrees; a circle is added to a negative one first. Else 12.
 fn signed(angle: i128) -> Result<(f64, f64), u64> {
     if angle.unsigned_abs() > u128::from(QUARTER) {
         return Err(12);
@@ -36,7 +36,7 @@ fn transposed(t: [Vector; 3]) -> [Vector; 3] {
 pub fn from_sphere(rule: u64, dut: u32, moment: u64, s: &Sphere) -> Result<(Vector, Vector), u64> {
     let angle = sidereal(rule, moment, dut)?;
     let ut = universal(moment, dut)?;
-    // Every angle before any size.
+    // All angles are checked before the sizes.
     let (latitude, longitude) = (signed(s.latitude)?, sine_cosine(s.longitude)?);
     let (path, azimuth) = (signed(s.path)?, sine_cosine(s.azimuth)?);
     if !s.radius.is_finite() || !s.speed.is_finite() || s.radius <= 0.0 {

@@ -7,7 +7,7 @@ use crate::extras::Extras;
 use crate::motion;
 use crate::rule::{Setting, State, EARTH};
 
-/// Bytes of an order, and of one with J, A and K behind it.
+/// Bytes of an order, and of one with J, A and K after it.
 pub const ORDER: usize = 120;
 pub const ORDER_144: usize = 144;
 
@@ -19,7 +19,7 @@ pub struct Order {
     pub target: u64,
 }
 
-/// The order at the front of the input, if it is long enough; it has no centre, and so the Earth, and no last terms.
+/// The order at the front of the input, if it is long enough. It has no centre, so the Earth, and no last terms.
 pub fn read_order(input: &[u8]) -> Option<Order> {
     let mut f = [0.0; 6];
     for (i, value) in f.iter_mut().enumerate() {
@@ -35,7 +35,7 @@ pub fn read_order(input: &[u8]) -> Option<Order> {
     Some(Order { setting, state, h, target })
 }
 
-/// The same with J, A and K behind it.
+/// The same with J, A and K after it.
 pub fn read_order144(input: &[u8]) -> Option<Order> {
     let order = read_order(input)?;
     let at = |i: usize| float_at(input, ORDER + 8 * i);
@@ -43,7 +43,7 @@ pub fn read_order144(input: &[u8]) -> Option<Order> {
     Some(Order { setting: Setting { extras, ..order.setting }, ..order })
 }
 
-/// An order that stands alone, of either length.
+/// An order without a book, of either length.
 pub fn read_either(order: &[u8]) -> Option<Order> {
     match order.len() {
         ORDER => read_order(order),
@@ -62,7 +62,7 @@ pub fn state_line(s: &State) -> String {
     line
 }
 
-/// Header, states and outcome of an order under a book, written as they come; no order is one that the input was too short for.
+/// Header, states and outcome of an order under a book, written as they come. None is an order for which the input was too short.
 /// The injection is made from the order, and then refused as a run refuses it.
 pub fn listing_into(order: Option<Order>, book: &[u8], out: &mut impl Write) -> io::Result<()> {
     let Some(Order { setting, mut state, h, target }) = order else {

@@ -12,7 +12,7 @@ pub fn is_large(bits: u64) -> bool {
 }
 
 /// How many units of 10^-places a magnitude below 10^12 has: the exact float rounded to nearest, a tie to even. The float is the
-/// fraction significand / 2^k with k above 0; times 10^6 its numerator has at most 73 bits, so that from k = 75 on it is below one half.
+/// fraction significand / 2^k with k above 0. Times 10^6 its numerator has at most 73 bits, so from k = 75 on it is below one half.
 fn units(bits: u64, places: u32) -> u128 {
     let (field, fraction) = (bits >> 52 & 0x7ff, bits & ((1 << 52) - 1));
     let (significand, field) = if field == 0 { (fraction, 1) } else { (fraction | 1 << 52, field) };
@@ -45,7 +45,7 @@ pub fn numeral(bits: u64, places: u32, out: &mut Vec<u8>) {
     digits(units, places, out);
 }
 
-/// A day and its date: states of one day follow one another.
+/// A day and its date: consecutive states are often of the same day.
 type Today = (u64, [u64; 3]);
 
 /// "Moment as 1950-01-01T00:00:00.000".
@@ -75,7 +75,7 @@ fn row(moment: u64, bits: &[u64; 6], today: &mut Today, out: &mut Vec<u8>) {
     out.extend(b"\r\n");
 }
 
-/// The rows of a listing, and the number and the line by which it is refused, if it is.
+/// The rows of a listing; if it is refused, also the number and the line.
 fn rows(text: &[u8], out: &mut Vec<u8>) -> Result<(), (u64, usize)> {
     let mut form = Form::default();
     let mut today = (u64::MAX, [0; 3]);

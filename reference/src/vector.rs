@@ -1,4 +1,4 @@
-//! Three floats, and the few things done with them.
+//! Three floats, and a few operations.
 
 pub type Vector = [f64; 3];
 

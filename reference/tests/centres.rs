@@ -32,20 +32,20 @@ fn state(centre: u64, position: [f64; 3], velocity: [f64; 3]) -> State {
     State::bare(MIDDLE, centre, position, velocity)
 }
 
-/// Bits of moment, centre and coordinates, and of the acceleration kept.
+/// Bits of moment, centre and coordinates, and of the stored acceleration.
 fn bits(s: &State) -> (u64, u64, [[u64; 3]; 3]) {
     (s.moment, s.centre, [s.position, s.velocity, s.acceleration].map(|v| v.map(f64::to_bits)))
 }
 
-/// By hand: about the Moon at (4, 0, 0) and a craft at (2, 0, 0) from it. The Moon of 16 pulls by -16/4; the Earth of 8 stands at
-/// (-4, 0, 0), the craft 6 from it: -(8/36 - 8/16).
+/// By hand: the Moon is at (4, 0, 0), and the craft at (2, 0, 0) from it. The Moon of 16 pulls by -16/4. The Earth of 8 is at (-4,
+/// 0, 0), and the craft is 6 from it: -(8/36 - 8/16).
 #[test]
 fn an_acceleration_about_the_moon() {
     let at = |setting: &Setting, centre| acceleration(&book(), setting, MIDDLE, centre, [2.0, 0.0, 0.0]);
     let a = at(&setting([8.0, 16.0, 0.0]), 2).unwrap();
     let earth = (8.0 * 6.0) / 216.0 + (8.0 * -4.0) / 64.0;
     assert_eq!(a, [-4.0 - earth, 0.0, 0.0]);
-    // The Sun of 64 stands at (-4, 8, 0) from the Moon, the craft (6, -8, 0) from it, which is 10.
+    // The Sun of 64 is at (-4, 8, 0) from the Moon, and the craft (6, -8, 0) from it: a distance of 10.
     let sun = |m: f64| [(m * 6.0) / 1000.0, (m * -8.0) / 1000.0];
     let r3 = 80.0 * 80f64.sqrt();
     let fall = [(64.0 * -4.0) / r3, (64.0 * 8.0) / r3];
@@ -82,12 +82,12 @@ fn refusals_of_a_move() {
     assert_eq!(number(&all, late, 2), Some(6));
     assert_eq!(number(&all, State { centre: 3, ..late }, 1), Some(6));
     assert_eq!(number(&all, State { velocity: [f64::MAX; 3], ..fine }, 2), None);
-    // To the centre it has, nothing is looked up.
+    // For the same centre nothing is looked up.
     let held = State { centre: 3, position: [-0.0, f64::MAX, 5e-324], acceleration: [f64::NAN, -0.0, f64::INFINITY], ..late };
     assert_eq!(moved(&book(), &all, &held, 3).map(|s| bits(&s)), Ok(bits(&held)));
 }
 
-/// Both covers come before a result that is not finite, and that before the rule's own cover.
+/// Both lookups come before a result that is not finite, and that before the rule's own lookups.
 #[test]
 fn cover_before_overflow() {
     let piece = |body, start, x: f64| Piece { body, start, span: 10, coefficients: vec![x, 0.0, 0.0, 0.0, 0.0, 0.0] };
@@ -119,7 +119,7 @@ fn centres_of_the_other_calls() {
         assert_eq!(earth_fixed(2, 0, &about(centre)), Err(4));
     }
     assert_eq!(earth_fixed(0, 51, &earth), Err(3));
-    // The rule's own cover: the centre in its turn, at the target too.
+    // The rule's own lookups: the centre in its turn, at the target too.
     let all = setting([8.0, 16.0, 64.0]);
     let late = State { moment: 100, ..about(2) };
     assert_eq!(acceleration(&book(), &all, 100, 2, [1.0; 3]), Err(6));
@@ -129,7 +129,7 @@ fn centres_of_the_other_calls() {
     assert_eq!(outcome(&State { centre: 5, ..late }, END), Outcome::Refused(14));
 }
 
-/// About the Earth and by the old rule every new line answers as the old one does.
+/// About the Earth and by the old rule every new line gives the answer of the old one.
 #[test]
 fn about_the_earth_as_before() {
     let mut c = Chance::new(21);

@@ -1,4 +1,4 @@
-//! Where two strips part: the lines of the report, one by one.
+//! Where two strips differ: the lines of the report, one by one.
 
 use reference::parting::report;
 

@@ -60,8 +60,8 @@ fn calendar() {
     }
 }
 
-/// In the books from DE405 a body's velocity is the difference of its places half a second before and
-/// after, within the rounding of that difference.
+/// In the books from DE405 the velocity of a body is the difference of its positions half a second before and after, within the
+/// rounding of that difference.
 #[test]
 fn speeds_of_real_books() {
     let mut compared = 0;
@@ -95,7 +95,7 @@ fn speeds() {
     assert_eq!(three.six(), [-1.5, -1.5, -1.5, -4.0, -4.0, -4.0]);
 }
 
-/// The table by document 000's own angles, which its series in T stand for.
+/// The table by document 000's own angles, for which its series in T are an approximation.
 fn by_angles(t: f64) -> [[f64; 3]; 3] {
     let angle = |c: [f64; 3]| (((c[2] * t + c[1]) * t + c[0]) * t / 3600.0).to_radians().sin_cos();
     let (sa, ca) = angle([2304.997, 0.302, 0.0179]);
@@ -108,7 +108,7 @@ fn by_angles(t: f64) -> [[f64; 3]; 3] {
     ]
 }
 
-/// How far the two tables lie apart at most, at a day.
+/// The greatest difference of the two tables, at a day.
 fn apart(day: u64) -> f64 {
     let t = (day * DAY + SINCE_1950_0) as f64 / 3_155_760_000_000.0;
     let (table, other) = (precession(day * DAY), by_angles(t));
@@ -131,10 +131,9 @@ fn ground(p: [f64; 3]) -> (f64, f64) {
     ((p[2] / n(p).sqrt()).asin().to_degrees(), p[1].atan2(p[0]).to_degrees().rem_euclid(360.0))
 }
 
-/// Document 000's check cases 3 and 4 print an injection in 1950.0 coordinates and the ground point
-/// under it. What is left is nutation, which neither the document's table nor ours has; without
-/// precession both are off by 0.07 and 0.17 degrees. Signs of the third case as its other lines have
-/// them, where the print lost them.
+/// Document 000's check cases 3 and 4 print an injection in 1950.0 coordinates and the ground point under it. The remaining
+/// difference is nutation, which neither the document's table nor ours has. Without precession both are off by 0.07 and 0.17
+/// degrees. Where the print of the third case lost signs, they are taken from its other lines.
 #[test]
 fn ground_points() {
     let cases = [
@@ -149,8 +148,8 @@ fn ground_points() {
     }
 }
 
-/// Document 003's Exhibit A: an injection spherical and Earth-fixed beside its Cartesian coordinates,
-/// which are of date: the state in 1950.0 coordinates is taken there by the precession table.
+/// Document 003's Exhibit A: an injection, spherical and Earth-fixed, and its Cartesian coordinates, which are of date. The
+/// precession table takes the state in 1950.0 coordinates there.
 #[test]
 fn injection_of_exhibit_a() {
     let parts = |degrees: f64| (degrees * 1e10).round() as i128;
@@ -172,9 +171,9 @@ fn injection_of_exhibit_a() {
     }
 }
 
-/// Check cases 3 and 4: the injection as document 000 prints it, spherical and Earth-fixed, beside the
-/// same in 1950.0 coordinates. Nutation is left out: 0.002 degrees, a quarter of a kilometre. The azimuth
-/// of case 4 is read 121.16659, as its velocity asks for; the copy at hand has 127.11659.
+/// Check cases 3 and 4: the injection as document 000 prints it, spherical and Earth-fixed, and the same in 1950.0 coordinates.
+/// Nutation is left out: 0.002 degrees, a quarter of a kilometre. The azimuth of case 4 is read as 121.16659, because its velocity
+/// requires it; our copy has 127.11659.
 #[test]
 fn injections() {
     let parts = |degrees: f64| (degrees * 1e10).round() as i128;
@@ -201,11 +200,11 @@ fn injections() {
     }
 }
 
-/// The 1982 rule once more, as one sum over one denominator with the document's coefficients as they stand, on
-/// every day. The sum has 134 bits: it is compared by its rests modulo three numbers of 60 bits and more.
+/// The 1982 rule a second time, as one sum over one denominator with the document's own coefficients, on every day. The sum has 134
+/// bits: it is compared by its rests modulo three numbers of 60 bits and more.
 #[test]
 fn rule_of_1982() {
-    // Worked out in fractions: 1950 January 1, 2000 January 1 at 0h and 12h, the last millisecond.
+    // Computed in fractions: 1950 January 1, 2000 January 1 at 0h and 12h, the last millisecond.
     let at = |ut| sidereal(1, ut, 0).unwrap();
     assert_eq!(at(0), 1000756885573);
     assert_eq!(at(18_262 * DAY), 999677946918);
@@ -236,7 +235,7 @@ fn rule_of_1982() {
     for ut in (0..END).step_by(7_777_777_777) {
         assert!(angle_by(1, ut).unwrap() < CIRCLE);
         assert_eq!(angle_by(0, ut), angle_at(ut));
-        // The two rules tell nearly the same.
+        // The two rules give nearly the same.
         let apart = (angle_by(1, ut).unwrap() + CIRCLE - angle_at(ut).unwrap()) % CIRCLE;
         assert!(apart.min(CIRCLE - apart) < 200_000_000, "{ut} {apart}");
     }
@@ -245,7 +244,7 @@ fn rule_of_1982() {
     assert_eq!(sidereal(1, 5, 6), Err(3));
 }
 
-/// A setting's rule is judged wherever a setting is.
+/// The rule of a setting is checked in every call that takes a setting.
 #[test]
 fn rule_of_a_setting() {
     let state = about_earth(0, [2.0, 0.0, 0.0], [0.0, 4.0, 0.0]);

@@ -1,4 +1,4 @@
-//! The live pane: every rule of it, its lines, and wrong panes told apart.
+//! The live pane: all its rules, its lines, and wrong panes that must be detected.
 
 use reference::fields::state_shown;
 use reference::motion::Outcome;
@@ -51,8 +51,8 @@ fn empty_current_and_late() {
     frames.iter().for_each(|(t, expected)| assert_eq!(two().frame(*t), *expected, "{t}"));
 }
 
-/// Figures by another program in this order. Another order in c2 or in c3 and the Hermite form give other bits in the first three, floats
-/// made of the moments themselves in the last.
+/// Figures by another program in this order. Another order in c2 or in c3 and the Hermite form give other bits in the first three;
+/// floats made from the moments themselves do in the last.
 #[test]
 fn the_order_of_operations() {
     for (t0, t1, t, [p0, v0, p1, v1], figure) in [
@@ -105,10 +105,10 @@ fn lines() {
     }
 }
 
-/// What a wrong pane answers to a line, where it is not what the right one does.
+/// The answer of a wrong pane to a line, if it differs from the right one.
 type Fault = fn(&mut Pane, Line) -> Option<String>;
 
-/// Takes a state that follows, whatever the centre or the moment.
+/// Takes the next state for any centre or moment.
 fn forced(pane: &mut Pane, s: State, when: impl Fn(&State) -> bool) -> Option<String> {
     let last = pane.newer().filter(when)?;
     *pane = Pane::Two(last, s);
@@ -122,7 +122,7 @@ fn offered(line: Line) -> Option<State> {
     }
 }
 
-/// What a wrong pane says to a frame, by the states that it keeps.
+/// The answer of a wrong pane to a frame, by the states that it keeps.
 fn framed(line: Line, say: impl Fn(u64) -> Option<String>) -> Option<String> {
     if let Line::Frame(t) = line { say(t) } else { None }
 }

@@ -1,4 +1,4 @@
-//! Request R-8: the acceleration kept with the state.
+//! Request R-8: the acceleration stored with the state.
 
 use reference::ask::answer;
 use reference::extras::Extras;
@@ -34,13 +34,13 @@ fn bits(s: &State) -> (u64, u64, [[u64; 3]; 3]) {
     (s.moment, s.centre, [s.position, s.velocity, s.acceleration].map(|v| v.map(f64::to_bits)))
 }
 
-/// Refused at the start by this number: state, steps and guesses as given.
+/// Refused at the start with this number: state, steps and guesses as given.
 fn refused(ran: &Ran, number: u64, given: &State) {
     assert_eq!((ran.outcome, ran.steps, ran.guesses), (Outcome::Refused(number), 0, [9; 5]));
     assert_eq!(bits(&ran.state), bits(given));
 }
 
-/// By hand: the pull of 8 at 2 is 2, and the zeros have their sign. What was stored before is not read.
+/// By hand: the pull of 8 at 2 is 2, and the zeros have their sign. The value stored before is not read.
 #[test]
 fn an_injection() {
     for stored in [[0.0; 3], [f64::NAN; 3]] {
@@ -58,7 +58,8 @@ fn an_injection() {
     assert_eq!(number(EARTH, State { position: [0.0; 3], ..start() }), Some(7));
 }
 
-/// Any bit is another value, the sign of a zero too, at any budget and at the target; and what is not finite.
+/// Any changed bit is another value, also the sign of a zero, at any budget and at the target; and so is a value that is not
+/// finite.
 #[test]
 fn another_bit_is_15() {
     let right = inject(&book(), &setting(EARTH), &start()).unwrap();
@@ -107,7 +108,7 @@ fn none_is_refused_at_once() {
     }
 }
 
-/// A step uses what is stored as its first slope, and its new state has the rule's.
+/// A step uses the stored value as its first slope, and its new state has the rule's.
 #[test]
 fn a_step_keeps_it() {
     let mut c = Chance::new(41);
@@ -134,8 +135,8 @@ fn a_step_keeps_it() {
     assert_ne!(bits(&stepped(&right)), bits(&stepped(&wrong)));
 }
 
-/// Steps that end exactly on a body that hardly pulls: mostly all four stages pass, and the new state has no acceleration. The state
-/// before it is handed back with the guesses that cover its moment, and the refusal is met again.
+/// Steps that end exactly on a body that hardly pulls. Mostly all four stages pass, and the new state has no acceleration. The
+/// state before it is returned with the guesses that cover its moment. The next call is refused again.
 #[test]
 fn a_new_state_without() {
     let mut c = Chance::new(42);
@@ -162,7 +163,8 @@ fn a_new_state_without() {
     assert!(seen[0] > 20 && seen[1] > 20, "{seen:?}");
 }
 
-/// A move works it out anew, and to the centre it has hands back what is stored; a new state that has none is refused behind 7 (result).
+/// A move computes it anew; a move to the same centre returns the stored value. A new state that has none is refused after 7
+/// (result).
 #[test]
 fn moves() {
     let all = setting([8.0, 16.0, 1.0]);
@@ -171,7 +173,7 @@ fn moves() {
     let moon = moved(&book(), &all, &odd, 2).unwrap();
     assert_eq!(bits(&moon), bits(&inject(&book(), &all, &moon).unwrap()));
     assert_eq!(moon.position, [-2.0, 0.0, 0.0]);
-    // Both centres are covered and the Sun is not.
+    // Both centres have cover and the Sun has none.
     let late = State { moment: 150, ..odd };
     assert_eq!(moved(&book(), &all, &late, 2).err(), Some(6));
     assert_eq!(moved(&book(), &all, &late, 1).map(|s| bits(&s)), Ok(bits(&late)));

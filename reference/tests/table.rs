@@ -15,7 +15,7 @@ fn ties_go_to_the_even_last_digit() {
     }
     assert_eq!(told(0.0078125, 6), "0.007812");
     assert_eq!(told(0.0234375, 6), "0.023438");
-    // Not ties: the floats lie beside the decimal.
+    // Not ties: the floats are next to the decimal.
     assert_eq!(told(0.0005, 3), "0.001");
     assert_eq!(told(0.0015, 3), "0.002");
     assert_eq!(told(1.0005, 3), "1.000");

@@ -17,7 +17,7 @@ use reference::trial::terms::TERMS;
 use reference::trial::trip::Trip;
 use reference::trial::world::World;
 
-/// The Moon at (4, 0, 0) and the Sun at (0, 8, 0) for 100 ms; the Sun 100 ms more, and there it stands on the Earth's centre.
+/// The Moon at (4, 0, 0) and the Sun at (0, 8, 0) for 100 ms. Then the Sun for 100 ms more, on the centre of the Earth.
 fn book() -> Vec<u8> {
     let piece = |body, start, coefficients: [f64; 6]| Piece { body, start, span: 100, coefficients: coefficients.to_vec() };
     let moon = piece(2, 0, [4.0, 0.0, 0.0, 0.0, 0.0, 0.0]);
@@ -35,7 +35,7 @@ fn at(m: [f64; 3], extras: [f64; 3], centre: u64, p: [f64; 3]) -> Result<[f64; 3
 
 const EARTH: [f64; 3] = [8.0, 0.0, 0.0];
 
-/// By hand: g of 8 at 2 is 2, and ((1/2·2)·(16/4)) is 4; in the equator's plane it is taken once, over the pole -2 times.
+/// By hand: g of 8 at 2 is 2, and ((1/2·2)·(16/4)) is 4; in the plane of the equator it is taken once, over the pole -2 times.
 #[test]
 fn oblate_by_hand() {
     assert_eq!(at(EARTH, [0.5, 4.0, 0.0], 1, [2.0, 0.0, 0.0]), Ok([-6.0, 0.0, 0.0]));
@@ -48,7 +48,7 @@ fn oblate_by_hand() {
     assert_eq!(a, Ok([-g[0] - lost[0], 0.0, -g[1] - lost[1]]));
 }
 
-/// By hand: the craft at (6, 0, 0) is (6, -8, 0) from the Sun, which is 10, and it is pushed away from it.
+/// By hand: the craft at (6, 0, 0) is (6, -8, 0) from the Sun, a distance of 10, and is pushed away from it.
 #[test]
 fn sunlight_by_hand() {
     let pushed = [(64.0 * 6.0) / 1000.0, (64.0 * -8.0) / 1000.0];
@@ -71,7 +71,7 @@ fn both_about_the_moon() {
     assert_eq!(at(m, [0.3, 7.0, 64.0], 2, [2.0, 0.0, 0.0]), Ok([(x - lost) + pushed[0], y + pushed[1], 0.0]));
 }
 
-/// Negative or not finite is 4, of each of the three, whether its term is left out or not; a zero of either sign passes.
+/// Negative or not finite is 4, for each of the three, whether its term is left out or not; a zero of either sign passes.
 #[test]
 fn refused_by_4() {
     let mut bad: Vec<f64> = NOT_FINITE.iter().map(|&bits| f64::from_bits(bits)).collect();
@@ -89,14 +89,14 @@ fn refused_by_4() {
     assert!(at(EARTH, [-0.0; 3], 1, [2.0, 0.0, 0.0]).is_ok());
 }
 
-/// The Sun is looked up for its light, pulls nothing, and is no centre; its guess comes back as a used body's.
+/// The Sun is looked up for its light, does not pull, and is not a centre; its guess comes back as that of a used body.
 #[test]
 fn light_alone() {
     let lit = setting(EARTH, [0.0, 0.0, 1.0]);
     let number = |setting: &Setting, t, centre| acceleration(&book(), setting, t, centre, [2.0, 0.0, 0.0]).err();
     assert_eq!((number(&lit, 50, 1), number(&lit, 200, 1), number(&lit, 200, 3)), (None, Some(6), Some(14)));
     assert_eq!(number(&setting(EARTH, [1.0, 1.0, 0.0]), 200, 1), None);
-    // On the Earth's centre: it has no pull there that could be refused, and gives light.
+    // On the centre of the Earth: the Sun has no pull there that could be refused, and gives light.
     assert_eq!(acceleration(&book(), &lit, 150, 1, [2.0, 0.0, 0.0]), Ok([-2.0 + 0.25, 0.0, 0.0]));
     assert_eq!(number(&setting([8.0, 0.0, 1.0], [0.0, 0.0, 1.0]), 150, 1), Some(7));
     // On the Sun.
@@ -109,7 +109,8 @@ fn light_alone() {
     assert_eq!(moved(&book(), &lit, &start, 3).err(), Some(14));
 }
 
-/// Left out and carried out, by the sign of a zero over the pole, where 1 - 5u is negative; J above 0 with A zero is carried out.
+/// Terms left out and terms computed, by the sign of a zero over the pole, where 1 - 5u is negative; J above 0 with A zero is
+/// computed.
 #[test]
 fn a_zero_is_left_out() {
     let x = |extras| at(EARTH, extras, 1, [0.0, 0.0, 2.0]).map(|a| a[0].to_bits());
@@ -140,7 +141,7 @@ fn refused_by_7() {
     }
 }
 
-/// With J and K zero, of either sign and whatever A is, every answer is what it was.
+/// With J and K zero, of either sign and for every A, every answer is what it was.
 #[test]
 fn switched_off() {
     let mut c = Chance::new(31);
@@ -161,7 +162,7 @@ fn switched_off() {
     }
 }
 
-/// strip144 under J, A and K zero prints what strip does, and its order needs all its bytes.
+/// strip144 with J, A and K zero prints what strip does, and its order needs all its bytes.
 #[test]
 fn both_orders() {
     let mut c = Chance::new(32);
@@ -188,7 +189,7 @@ fn both_orders() {
     assert_eq!(seen, [true; 2]);
 }
 
-/// The lines with J, A and K and the acceleration kept: the longest has 561 bytes.
+/// The lines with J, A and K and the stored acceleration: the longest has 561 bytes.
 #[test]
 fn lines() {
     let say = |line: &str| answer(&book(), line.as_bytes());

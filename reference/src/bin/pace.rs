@@ -1,6 +1,5 @@
-//! How long the reference's walk takes: `pace INPUT [TIMES]`, where INPUT is a file as
-//! strip reads it. The journey is walked by one run call, TIMES times, and nothing is
-//! printed on the way.
+//! Measures the reference's walk: `pace INPUT [TIMES]`, where INPUT is a file as strip reads it. One run call walks the journey,
+//! TIMES times. Nothing is printed during the walk.
 
 use std::hint::black_box;
 use std::process::ExitCode;

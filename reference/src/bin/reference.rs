@@ -1,5 +1,6 @@
-//! The reference as a program: `reference ask [BOOK]`, `reference strip`, `reference strip144`, `reference repair`,
-//! `reference compare FIRST SECOND`, `reference table`, `reference pane` and `reference precession`, a line for each year from 1950 on: its day and the nine elements.
+//! The reference as a program: `reference ask [BOOK]`, `reference strip`, `reference strip144`, `reference repair`, `reference
+//! compare FIRST SECOND`, `reference table`, `reference pane` and `reference precession`. `precession` prints a line for each year
+//! from 1950 on: its day and the nine elements.
 
 use std::io::{self, BufWriter, Read, Write};
 use std::process::ExitCode;

@@ -1,4 +1,4 @@
-//! Trips about a centre of their own: on it, on another body, close to it, and about an unused one.
+//! Trips about a centre: on it, on another body, close to it, and about an unused one.
 
 use super::centres::{other_centre, used_centre};
 use super::chance::Chance;
@@ -7,7 +7,7 @@ use super::world::World;
 use crate::moves::{cover, stands};
 use crate::vector::{sub, Vector};
 
-/// Where a body stands from the Earth at the trip's moment, or zero where there is nothing to tell.
+/// The position of a body from the Earth at the moment of the trip; zero if there is none.
 pub fn place(w: &World, t: &Trip, body: u64) -> Vector {
     let now = t.state.moment;
     let found = cover(w.bytes(), body, now).and_then(|entry| stands(w.bytes(), entry, now));
@@ -52,7 +52,7 @@ fn close(c: &mut Chance, w: &World) -> Vec<(String, Trip)> {
     noted("", t)
 }
 
-/// A body that is not used, covered or not.
+/// A body that is not used, with cover or without.
 fn unused(c: &mut Chance, w: &World) -> Vec<(String, Trip)> {
     let mut t = trip(c, w);
     let centre = c.between(2, 6);
@@ -67,7 +67,7 @@ fn no_centre(c: &mut Chance, w: &World) -> Vec<(String, Trip)> {
     noted("", t)
 }
 
-/// The least coefficient above 0 makes a centre.
+/// The least coefficient above 0 is enough for a centre.
 fn least(c: &mut Chance, w: &World) -> Vec<(String, Trip)> {
     let mut t = other(c, w);
     t.setting.coefficients[t.state.centre as usize - 1] = f64::from_bits(1);

@@ -12,7 +12,7 @@ pub fn root_line(x: f64) -> Vec<String> {
     vec![format!("root {}", hex(x))]
 }
 
-/// A float moved by a few places of its last bit.
+/// A float moved by a few units of its last place.
 pub fn near(c: &mut Chance, x: f64) -> f64 {
     f64::from_bits(x.to_bits().wrapping_add(c.between(0, 4)).wrapping_sub(2))
 }
@@ -31,7 +31,7 @@ pub fn root_rounded_square(c: &mut Chance, _: &World) -> Vec<String> {
     root_line(near(c, x * x))
 }
 
-/// The square of a float and a half of its last place: close to a tie.
+/// The square of a float plus half a unit of its last place: close to a tie.
 pub fn root_tie(c: &mut Chance, _: &World) -> Vec<String> {
     let k = u128::from((1 << 53) + 2 * c.below(1 << 52) + 1);
     let x = (k * k) as f64 * 2f64.powi(2 * (c.below(200) as i32 - 100));
@@ -104,14 +104,14 @@ pub fn sidereal_line(rule: u64, moment: u64, dut: u32) -> Vec<String> {
     vec![format!("sidereal {rule} {moment} {dut}")]
 }
 
-/// A UT that the 1982 rule finds hard.
+/// A UT that is hard for the 1982 rule.
 pub fn sidereal_hard(c: &mut Chance, _: &World) -> Vec<String> {
     let dut = c.pick(&[0, 35_000, c.clone().below(u64::from(DUT_MOST) + 1)]);
     let moment = hard_ut(c) + dut;
     sidereal_line(1, moment, dut as u32)
 }
 
-/// Of rule, DUT and moment at least one refused.
+/// At least one of rule, DUT and moment is refused.
 pub fn sidereal_refused(c: &mut Chance, _: &World) -> Vec<String> {
     let which = c.between(1, 7);
     let rule = if which & 1 != 0 { bad_rule(c) } else { c.below(2) };
@@ -136,7 +136,7 @@ pub fn date_line(day: u64) -> Vec<String> {
     vec![format!("date {day}")]
 }
 
-/// A day by the end of a month, many of them by the end of February or of the year.
+/// A day near the end of a month, often of February or of the year.
 pub fn month_end(c: &mut Chance) -> u64 {
     let year = c.between(1950, 2049);
     let month = c.pick(&[1, 2, 2, 2, 3, 4, 5, 6, 7, 8, 9, 10, 11, 12, 12]);
@@ -157,7 +157,7 @@ pub fn day_line(year: u64, month: u64, day: u64) -> Vec<String> {
     vec![format!("day {year} {month} {day}")]
 }
 
-/// A date with one number grown by a power of two, as one that wraps would take it.
+/// A date with one number increased by a power of two, to find a wrap.
 pub fn day_wrapped(c: &mut Chance, _: &World) -> Vec<String> {
     let mut d = [c.between(1950, 2049), c.between(1, 12), c.between(1, 28)];
     d[c.below(3) as usize] += c.pick(&[1 << 8, 1 << 16, 1 << 32, 1 << 63]);

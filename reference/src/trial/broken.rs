@@ -1,4 +1,4 @@
-//! Run calls refused before the first step, or done before it.
+//! Run calls that are refused or done before the first step.
 
 use super::chance::Chance;
 use super::trip::{bad_h, break_at, noted, trip, trip_at, Trip, BREAKS, NOMINAL, OF_AN_ORDER};
@@ -45,7 +45,7 @@ pub fn ends(c: &mut Chance, w: &World) -> Vec<(String, Trip)> {
     noted("", t)
 }
 
-/// A single step: budget 1 and the target one step on, at or past the end of time too.
+/// A single step: budget 1 and the target one step on, also at or past the end of time.
 pub fn single(c: &mut Chance, w: &World) -> Vec<(String, Trip)> {
     let mut t = trip(c, w);
     if c.one_in(3) {
@@ -59,7 +59,7 @@ pub fn single(c: &mut Chance, w: &World) -> Vec<(String, Trip)> {
     noted("", t)
 }
 
-/// At the target already, mostly without cover, at any budget.
+/// Already at the target, mostly without cover, with any budget.
 pub fn at_target(c: &mut Chance, w: &World) -> Vec<(String, Trip)> {
     let t = c.below(END);
     let mut trip = trip_at(c, w, t);

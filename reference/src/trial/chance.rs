@@ -49,12 +49,12 @@ impl Chance {
         self.below(n) == 0
     }
 
-    /// One of a list that is not empty.
+    /// An element of a list that is not empty.
     pub fn pick<T: Clone>(&mut self, list: &[T]) -> T {
         list[self.below(list.len() as u64) as usize].clone()
     }
 
-    /// Every length of number alike: up to `bits` bits.
+    /// Numbers of up to `bits` bits, each length equally often.
     pub fn any_length(&mut self, bits: u64) -> u64 {
         let length = self.between(1, bits);
         self.next() >> (64 - length)

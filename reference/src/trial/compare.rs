@@ -1,4 +1,4 @@
-//! Comparing a program's answers with the reference's.
+//! Compares a program's answers with the reference's.
 
 use std::path::PathBuf;
 use std::time::Duration;
@@ -16,7 +16,7 @@ pub const SHOWN: usize = 10;
 pub struct Tally {
     pub compared: usize,
     pub differ: usize,
-    /// The expected answer to be spoiled, counted from 1; 0 for none.
+    /// The expected answer to spoil, counted from 1; 0 for none.
     pub spoil: usize,
     pub counts: Counts,
 }
@@ -31,7 +31,7 @@ pub fn short(bytes: &[u8]) -> String {
 }
 
 impl Tally {
-    /// One answer of each; the input is made only for showing.
+    /// Compares one answer of each; the input is made only for showing.
     pub fn one(&mut self, what: &str, mut expected: Vec<u8>, got: Option<&[u8]>, input: &dyn Fn() -> String) {
         self.compared += 1;
         if self.compared == self.spoil {
@@ -52,10 +52,10 @@ impl Tally {
         }
     }
 
-    /// The program's whole output for a group, line by line.
+    /// Compares the program's whole output for a group, line by line.
     pub fn group(&mut self, group: &Group, said: &Said) {
         let mut got: Vec<&[u8]> = said.output.split_inclusive(|&b| b == b'\n').collect();
-        // What comes behind the last answer belongs to it.
+        // The rest after the last answer belongs to it.
         let last = group.calls.len() - 1;
         let joined = got.get(last..).unwrap_or(&[]).concat();
         if got.len() > last {
@@ -93,7 +93,7 @@ pub fn group_input(group: &Group) -> Vec<u8> {
     input
 }
 
-/// Where books and inputs are kept that a program is given by name.
+/// The folder for books and inputs that a program is given by name.
 #[derive(Clone, Debug)]
 pub struct Programs {
     pub ask: Vec<String>,
@@ -104,7 +104,7 @@ pub struct Programs {
 }
 
 impl Programs {
-    /// The book of a group with differences is kept in the folder.
+    /// Keeps the book of a group with differences in the folder.
     pub fn ask_group(&self, tally: &mut Tally, group: &Group) -> Result<(), String> {
         let before = tally.differ;
         let file = self.folder.join(format!("book-{}", tally.compared + 1));
@@ -126,7 +126,7 @@ impl Programs {
         Ok(())
     }
 
-    /// The input of a strip that differs is kept in the folder.
+    /// Keeps the input of a strip that differs in the folder.
     pub fn print_strip(&self, tally: &mut Tally, s: &Strip) -> Result<(), String> {
         let (print, program) =
             if s.extras { (strip::strip144 as fn(&[u8]) -> Vec<u8>, &self.strip144) } else { (strip::strip as _, &self.strip) };

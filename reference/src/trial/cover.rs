@@ -6,7 +6,7 @@ use super::world::World;
 use crate::book::Entry;
 use crate::hour::END;
 
-/// Some entry, or one over all time when there is none.
+/// Some entry, or one over all time if there is none.
 pub fn some_entry(c: &mut Chance, w: &World) -> Entry {
     if w.entries.is_empty() {
         Entry { body: 2, n: 2, offset: 32, start: 0, span: END }
@@ -38,7 +38,7 @@ pub fn edge(c: &mut Chance, w: &World) -> Vec<(String, Trip)> {
     let off = c.below(3);
     let t = (place + off).saturating_sub(1 + back).min(END - 1);
     let mut trip = trip_at(c, w, t);
-    // The entry's own body is used, covered or not.
+    // The body of the entry itself is used, with cover or without.
     trip.setting.coefficients[usize::from(e.body) - 1] = 4900.0;
     trip.h = h as u32;
     trip.aim(c.between(1, 3));
@@ -46,7 +46,7 @@ pub fn edge(c: &mut Chance, w: &World) -> Vec<(String, Trip)> {
     noted(&format!("stage {stage} at {side} {}", ["-1", "+0", "+1"][off as usize]), trip)
 }
 
-/// Pairs of entries of one body with a gap between.
+/// Pairs of entries of one body with a gap between them.
 pub fn gaps(w: &World) -> Vec<(Entry, Entry)> {
     let pairs = w.entries.windows(2).map(|p| (p[0], p[1]));
     pairs.filter(|(a, b)| a.body == b.body && a.start + a.span < b.start).collect()
@@ -78,7 +78,7 @@ pub fn no_cover(c: &mut Chance, w: &World) -> Vec<(String, Trip)> {
     let mut trip = trip_at(c, w, t);
     trip.setting.coefficients = NOMINAL;
     if c.one_in(3) {
-        // The least coefficient above 0: the body is used all the same.
+        // The least coefficient above 0: the body still counts as used.
         trip.setting.coefficients[1..].fill(f64::from_bits(1));
     }
     if c.one_in(2) {
@@ -87,8 +87,7 @@ pub fn no_cover(c: &mut Chance, w: &World) -> Vec<(String, Trip)> {
     noted("", trip)
 }
 
-/// Cover at the first stage and mostly none at the second, whose position has overflowed:
-/// the lookup comes first.
+/// Cover at the first stage and mostly none at the second, whose position has overflowed: the lookup comes first.
 pub fn far_off(c: &mut Chance, w: &World) -> Vec<(String, Trip)> {
     let e = some_entry(c, w);
     let half = c.between(2_000, 43_200_000);

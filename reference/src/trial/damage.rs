@@ -28,7 +28,7 @@ pub fn changed(c: &mut Chance, mut p: Vec<Piece>, change: fn(&mut Piece)) -> Vec
     build(&p)
 }
 
-/// Cut to a length, with the stated total as it was or made to fit.
+/// Cut to a length; the stated total stays or is made to fit.
 pub fn cut(p: &[Piece], length: usize, fit: bool) -> Vec<u8> {
     let mut book = build(p);
     book.truncate(length);
@@ -38,7 +38,7 @@ pub fn cut(p: &[Piece], length: usize, fit: bool) -> Vec<u8> {
     book
 }
 
-/// Bytes behind the last block, with the stated total as it was or made to fit.
+/// Bytes after the last block; the stated total stays or is made to fit.
 pub fn extra(p: &[Piece], more: usize, fit: bool) -> Vec<u8> {
     let mut book = build(p);
     book.resize(book.len() + more, 0);
@@ -58,7 +58,7 @@ pub fn offset_moved(c: &mut Chance, p: &[Piece]) -> Vec<u8> {
     with_u32(p, HEAD + ENTRY * i + 4, offset.wrapping_add(by))
 }
 
-/// Two blocks of the same size in the other order.
+/// Two blocks of the same size exchanged.
 pub fn offsets_swapped(p: &[Piece]) -> Vec<u8> {
     let mut p = p.to_vec();
     p[1].coefficients = p[0].coefficients.clone();

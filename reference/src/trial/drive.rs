@@ -1,4 +1,4 @@
-//! What the drivers of one program share: the words that they are given, the counting of what differs, and how they end.
+//! Shared by the drivers of one program: their options, the counting of differences, and how they end.
 
 use std::collections::BTreeMap;
 use std::process::ExitCode;
@@ -8,7 +8,7 @@ use std::thread::{available_parallelism, scope};
 
 use super::compare::SHOWN;
 
-/// Words of the form `--name value`, each of a name that is known.
+/// Options of the form `--name value`, each with a known name.
 #[derive(Clone, Debug, Default)]
 pub struct Options(BTreeMap<String, String>);
 
@@ -39,8 +39,8 @@ impl Options {
     }
 }
 
-/// Works through a list on a thread for each processor; `work` is told which thread it is on and which case it has. The answers in the
-/// list's order.
+/// Works through a list with a thread for each processor. `work` gets the number of the thread and the case. The answers are in the
+/// order of the list.
 pub fn on_threads<T: Sync, R: Send>(
     list: &[T], work: impl Fn(usize, usize, &T) -> Result<R, String> + Sync,
 ) -> Result<Vec<R>, String> {
@@ -64,8 +64,8 @@ pub fn on_threads<T: Sync, R: Send>(
     said.into_values().collect()
 }
 
-/// Compares case after case; `differs` is told which thread asks, and says in words what differs. The answer numbered `spoil` is to be
-/// spoiled, and none behind it is looked at; 0 is none.
+/// Compares case after case. `differs` gets the number of the thread, and describes a difference in words. The answer with the
+/// number `spoil` is spoiled, and no later one is compared; 0 spoils none.
 pub fn count<T: Sync>(
     mut list: Vec<T>, spoil: u64, differs: impl Fn(usize, &T, bool) -> Result<Option<String>, String> + Sync,
 ) -> Result<bool, String> {
@@ -75,7 +75,7 @@ pub fn count<T: Sync>(
     Ok(told(&on_threads(&list, |thread, i, case| differs(thread, case, i as u64 + 1 == spoil))?))
 }
 
-/// Shows the first that differ, and how many were compared; whether there were some and all are alike.
+/// Shows the first differences, and how many were compared; whether there were some and all are the same.
 pub fn told(said: &[Option<String>]) -> bool {
     let differing: Vec<&String> = said.iter().flatten().collect();
     for what in differing.iter().take(SHOWN) {
@@ -94,7 +94,7 @@ pub fn sorts<T>(list: &[T], sort: impl Fn(&T) -> String) -> String {
     sorts.iter().map(|(sort, n)| format!("{n} {sort}")).collect::<Vec<_>>().join(", ")
 }
 
-/// Ends with 0 where all are alike, 1 where some differ, 2 where nothing could be compared.
+/// Exit status: 0 if all are the same, 1 if some differ, 2 if nothing could be compared.
 pub fn end(name: &str, alike: Result<bool, String>) -> ExitCode {
     match alike {
         Ok(true) => ExitCode::SUCCESS,

@@ -1,4 +1,4 @@
-//! The Earth as centre: old lines, each with the new one that means the same.
+//! The Earth as centre: old lines, each with the new line of the same meaning.
 
 use super::chance::Chance;
 use super::floats::{anything, hexes};
@@ -7,7 +7,7 @@ use super::runs::RUN;
 use super::states::{CONIC, FIXED};
 use super::world::{Case, World};
 
-/// A line with fields put in, each at its place in the new line.
+/// A line with fields inserted, each at its place in the new line.
 pub fn with(line: &str, others: &[(usize, &str)]) -> String {
     let mut fields: Vec<&str> = line.split(' ').collect();
     others.iter().for_each(|&(at, field)| fields.insert(at, field));
@@ -34,7 +34,7 @@ pub fn pulls(c: &mut Chance, w: &World) -> Vec<[String; 2]> {
     make(c, w).into_iter().map(|(_, t)| [t.accel_line(), t.pull_line()]).collect()
 }
 
-/// The new line has the rule's acceleration, and its answer has the centre and that too.
+/// The new line has the rule's acceleration, and its answer has the centre and the acceleration too.
 pub fn flights(c: &mut Chance, w: &World) -> Vec<[String; 2]> {
     let (_, make) = c.pick(RUN);
     make(c, w).into_iter().map(|(_, t)| [t.run_line(), t.kept(w.bytes()).fly_line()]).collect()

@@ -10,7 +10,7 @@ pub fn flown(c: &mut Chance) -> Extras {
     Extras { j: if c.one_in(4) { j * 1.5 } else { j }, a, k }
 }
 
-/// A float that is allowed: a zero, the least, tiny, as it comes in a flight, huge, the greatest.
+/// An allowed float: a zero, the least, tiny, as in a flight, huge, the greatest.
 pub fn value(c: &mut Chance) -> f64 {
     let any = c.finite().abs();
     let list = [0.0, -0.0, f64::from_bits(1), f64::MIN_POSITIVE, 1e-150, 1e-3, 1.0, 6378.165, 1e8, 1e150, 1.4e154, 1e300, f64::MAX];
@@ -35,7 +35,7 @@ pub fn bad_value(c: &mut Chance) -> f64 {
     }
 }
 
-/// One of the three refused, now and then more, the others often zero.
+/// One of the three refused, sometimes more, the others often zero.
 pub fn bad_extras(c: &mut Chance) -> Extras {
     let mut list = if c.one_in(2) { [c.pick(&[0.0, -0.0]); 3] } else { [value(c), value(c), value(c)] };
     list[c.below(3) as usize] = bad_value(c);

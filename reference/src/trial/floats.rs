@@ -37,14 +37,14 @@ pub fn wild(c: &mut Chance) -> [f64; 6] {
     s
 }
 
-/// One of six floats is not finite.
+/// One of six floats that is not finite.
 pub fn one_not_finite(c: &mut Chance) -> [f64; 6] {
     let mut s = flight(c);
     s[c.below(6) as usize] = c.not_finite();
     s
 }
 
-/// Zeros of either sign, which the products with the table's zeros decide.
+/// Zeros of either sign: the products with the zeros of the table depend on it.
 pub fn signed_zeros(c: &mut Chance) -> [f64; 6] {
     let mut s = flight(c);
     for value in &mut s {
@@ -67,7 +67,7 @@ pub fn largest(c: &mut Chance) -> [f64; 6] {
     s
 }
 
-/// Three floats of any sort, now and then one that is not finite: what may be stored where it is not read.
+/// Three floats of any sort, sometimes one that is not finite: for stored values that are not read.
 pub fn anything(c: &mut Chance) -> [f64; 3] {
     let [x, y, z, ..] = wild(c);
     if c.one_in(4) { [x, c.not_finite(), z] } else { [x, y, z] }

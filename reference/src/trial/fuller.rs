@@ -1,5 +1,5 @@
-//! Pairs of books that pass, of which the second holds every entry of the first: records are added before the entries of a body,
-//! behind them, between them, and of a body that has none.
+//! Pairs of books that pass. The second holds every entry of the first. Records are added before, after and between the entries of
+//! a body, and for a body that has none.
 
 use super::books::{build, coefficients, entries, pieces, special, window, Piece};
 use super::chance::Chance;
@@ -7,7 +7,7 @@ use super::world::World;
 use crate::book::{float_at, ENTRY, LIMIT};
 use crate::hour::END;
 
-/// Where a record that the first book lacks stands beside those that it has.
+/// The place of an added record relative to the entries of the first book.
 #[derive(Clone, Copy, Debug, PartialEq, Eq, PartialOrd, Ord)]
 pub enum Added {
     Before,
@@ -18,7 +18,7 @@ pub enum Added {
 
 pub const ADDED: [Added; 4] = [Added::Before, Added::Behind, Added::Between, Added::OtherBody];
 
-/// Two books with what the second has more.
+/// Two books, and what the second has in addition.
 #[derive(Clone, Debug)]
 pub struct Pair {
     pub name: String,
@@ -48,7 +48,7 @@ fn end(p: &Piece) -> u64 {
     p.start + p.span
 }
 
-/// Where a time of a body stands beside the first book's entries of it; it overlaps none of them.
+/// The place of a span of a body relative to the entries of the first book; it overlaps none of them.
 fn sort(first: &[Piece], body: u16, start: u64) -> Added {
     let own = || first.iter().filter(|p| p.body == body);
     match (own().any(|p| p.start < start), own().any(|p| p.start > start)) {
@@ -59,7 +59,7 @@ fn sort(first: &[Piece], body: u16, start: u64) -> Added {
     }
 }
 
-/// What the second has more than the first, sort by sort.
+/// What the second has in addition, sort by sort.
 pub fn added(first: &[Piece], second: &[Piece]) -> Vec<Added> {
     let more = second.iter().filter(|b| !first.iter().any(|a| same(a, b)));
     more.map(|b| sort(first, b.body, b.start)).collect()
@@ -78,7 +78,7 @@ fn rooms(list: &[Piece], body: u16) -> Vec<(u64, u64)> {
     rooms
 }
 
-/// The time that a book is about: from its first entry's start to its last entry's end.
+/// The time of a book: from the start of its first entry to the end of its last.
 fn about(c: &mut Chance, list: &[Piece]) -> (u64, u64) {
     match (list.iter().map(|p| p.start).min(), list.iter().map(end).max()) {
         (Some(first), Some(last)) => (first, last),
@@ -89,7 +89,7 @@ fn about(c: &mut Chance, list: &[Piece]) -> (u64, u64) {
     }
 }
 
-/// A span in a room: all of it, at its front, at its end, or anywhere within.
+/// A span in a free interval: all of it, at its front, at its end, or anywhere within.
 fn span(c: &mut Chance, (from, to): (u64, u64)) -> (u64, u64) {
     let room = to - from;
     let length = match c.below(4) {
@@ -105,8 +105,8 @@ fn span(c: &mut Chance, (from, to): (u64, u64)) -> (u64, u64) {
     (start, length)
 }
 
-/// One record more, of one sort beside the first book's entries, where there is room in time and in the book; mostly near the time that
-/// the book is about. Whether there was.
+/// Adds one record of one sort, if there is room in time and in the book; mostly near the time of the book. Returns whether there
+/// was room.
 fn add(c: &mut Chance, first: &[Piece], list: &mut Vec<Piece>, sort_of: Added) -> bool {
     let (from, to) = about(c, list);
     let reach = if c.one_in(8) { END } else { ((to - from) / c.pick(&[1, 2, 8])).max(12) };
@@ -125,7 +125,7 @@ fn add(c: &mut Chance, first: &[Piece], list: &mut Vec<Piece>, sort_of: Added) -
     true
 }
 
-/// A book with some records more, now and then many, of these sorts where there is room for them.
+/// A book with some more records, sometimes many, of these sorts if there is room for them.
 pub fn fuller(c: &mut Chance, first: &[Piece], sorts: &[Added]) -> Vec<Piece> {
     let mut list = first.to_vec();
     let wish = if c.one_in(4) { c.between(10, 60) } else { c.between(1, 9) };
@@ -141,7 +141,7 @@ pub fn fuller(c: &mut Chance, first: &[Piece], sorts: &[Added]) -> Vec<Piece> {
     list
 }
 
-/// A book with some records less: here and there, all of a body, or all but one.
+/// A book with fewer records: some missing, all of a body, or all but one.
 pub fn thinner(c: &mut Chance, whole: &[Piece]) -> Vec<Piece> {
     let mut list = whole.to_vec();
     let gone = c.between(2, 6) as u16;
@@ -161,8 +161,8 @@ fn pair(name: &str, first: &[Piece], second: &[Piece]) -> Pair {
     Pair { name: name.to_string(), first: world("first", first), second: world("second", second), added: added(first, second) }
 }
 
-/// Real books with records more and with records less, those of a kind of their own with records more where they have room, and so many
-/// random ones, of which every sixth has records less and every fourth of the others records of one sort more.
+/// Real books with more records and with fewer, special ones with more records if they have room, and a number of random ones.
+/// Every sixth random one has fewer records, and every fourth of the others has more records of one sort.
 pub fn pairs(c: &mut Chance, n: usize, real: &[(String, Vec<u8>)]) -> Vec<Pair> {
     let mut list = Vec::new();
     for (name, book) in real {

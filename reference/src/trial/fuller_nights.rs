@@ -1,4 +1,4 @@
-//! What is asked under a book and under a fuller one: lines, journeys and orders.
+//! The questions under a book and under a fuller one: lines, journeys and orders.
 
 use super::centres::used_centre;
 use super::chance::Chance;
@@ -15,17 +15,17 @@ use crate::book::Entry;
 use crate::extras::Extras;
 use crate::rule::{EARTH, SUN};
 
-/// How many lines of each kind there are for a pair, how many runs out of the first book's cover, and how many journeys and orders.
+/// How many lines of each kind there are for a pair, how many runs leave the first book's cover, and how many journeys and orders.
 pub const LINES: [(&str, usize); 8] =
     [("body", 10), ("accel", 3), ("pull", 6), ("inject", 6), ("move", 8), ("fly", 12), ("run", 10), ("terms", 8)];
 pub const OUTWARD: usize = 10;
 pub const JOURNEYS: usize = 4;
 pub const ORDERS: usize = 4;
 
-/// The most steps of a line: one that is refused under the first book may go as far as it asks under the second.
+/// The most steps of a line. One that is refused under the first book may go on to its target under the second.
 const STEPS: u64 = 2000;
 
-/// A pair of books with what is asked under both. A line stands twice: the guesses under the second may be others.
+/// A pair of books with the questions under both. Each line is there twice, because the guesses under the second may differ.
 #[derive(Clone, Debug)]
 pub struct Night {
     pub pair: Pair,
@@ -39,7 +39,7 @@ fn alike(a: &Entry, b: &Entry) -> bool {
     (a.body, a.start, a.span) == (b.body, b.start, b.span)
 }
 
-/// Steps out of an entry of the first book into one that touches it and was added, where there is one, or over an entry's end. Other
+/// Steps out of an entry of the first book into an added one that touches it, if there is one, or over the end of an entry. Other
 /// bodies are mostly left out: they may have no cover there.
 fn outward(c: &mut Chance, p: &Pair) -> Trip {
     let old = |e: &Entry| p.first.entries.iter().any(|a| alike(a, e));
@@ -88,7 +88,7 @@ fn lines(c: &mut Chance, p: &Pair) -> Vec<(String, String)> {
     list.into_iter().map(|line| (line.clone(), guessed(c, p, line))).collect()
 }
 
-/// A line as it is asked under the second book: every other run has other guesses.
+/// The line for the second book: every other run has other guesses.
 fn guessed(c: &mut Chance, p: &Pair, line: String) -> String {
     match start_of(&line) {
         Some(moment) if is_run(&line) && c.one_in(2) => {
@@ -99,7 +99,7 @@ fn guessed(c: &mut Chance, p: &Pair, line: String) -> String {
     }
 }
 
-/// An order that takes at most so many steps under either book, every other one with J, A and K.
+/// An order of at most that many steps under either book, every other one with J, A and K.
 fn order(c: &mut Chance, p: &Pair) -> Vec<u8> {
     let make = c.pick(&[plain as MakeRuns, crossing, edge, middle_gap, long]);
     let w = if c.one_in(6) { &p.second } else { &p.first };
@@ -127,7 +127,7 @@ fn night(c: &mut Chance, pair: Pair) -> Night {
     Night { pair, lines, journeys, orders }
 }
 
-/// The real books' pairs with this order of theirs too, and so many random ones.
+/// The pairs of the real books, also with this order, and a number of random pairs.
 pub fn nights(c: &mut Chance, n: usize, real: &[(String, Vec<u8>)], own: &[u8]) -> Vec<Night> {
     let mut list: Vec<Night> = pairs(c, n, real).into_iter().map(|pair| night(c, pair)).collect();
     for night in &mut list {

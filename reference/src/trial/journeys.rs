@@ -13,8 +13,8 @@ use crate::moves::moved;
 /// The most portions of one leg.
 const PORTIONS: usize = 5;
 
-/// One leg to the trip's target in portions of any budget, each from the last answer, with guesses as they came back or wrong
-/// ones. The last portion has budget enough. Whether the leg arrived.
+/// Flies one leg to the target of the trip in portions of any budget, each from the last answer, with the returned guesses or wrong
+/// ones. The last portion has enough budget. Returns whether the leg arrived.
 fn leg(c: &mut Chance, w: &World, t: &mut Trip, lines: &mut Vec<String>) -> bool {
     for i in 1..=PORTIONS {
         t.budget = if i == PORTIONS { 1000 } else { c.below(5) as u32 };
@@ -32,7 +32,7 @@ fn leg(c: &mut Chance, w: &World, t: &mut Trip, lines: &mut Vec<String>) -> bool
     false
 }
 
-/// The trip's legs, a move behind each that arrives.
+/// The legs of a trip, with a move after each that arrives.
 fn legs(c: &mut Chance, w: &World, mut t: Trip) -> Vec<String> {
     let mut lines = Vec::new();
     t.state.centre = used_centre(c, &t.setting);

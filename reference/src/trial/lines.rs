@@ -87,7 +87,7 @@ pub fn is_run(line: &str) -> bool {
     line.starts_with("fly ") || line.starts_with("run ")
 }
 
-/// A run's line with the same number of fields put in, counted from the end.
+/// A run's line with some fields replaced, from a place counted from the end.
 fn replaced(line: &str, from_end: usize, new: &[String]) -> String {
     let mut list: Vec<&str> = line.split(' ').collect();
     let at = list.len() - from_end;
@@ -107,13 +107,13 @@ pub fn with_guesses(line: &str, guesses: [u64; 5]) -> String {
     replaced(line, 5, &guesses.map(|g| g.to_string()))
 }
 
-/// The moment that a run's line starts from, where it can be read.
+/// The moment that a run's line starts from, if it can be read.
 pub fn start_of(line: &str) -> Option<u64> {
     let at = if line.starts_with("fly ") { 12 } else { 8 };
     line.split(' ').nth(at)?.parse().ok()
 }
 
-/// The most steps that a run's line can come to; none where it cannot be read.
+/// The greatest number of steps of a run's line; none if it cannot be read.
 pub fn most_steps(line: &str) -> Option<u64> {
     let last: Vec<u64> = line.rsplit(' ').skip(5).take(3).map_while(|field| field.parse().ok()).collect();
     let [budget, target, h] = last[..] else { return None };

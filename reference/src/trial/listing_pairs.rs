@@ -1,4 +1,4 @@
-//! Pairs of listings for compare: alike, changed in one place, damaged, and at the edges of the form.
+//! Pairs of listings for compare: equal, changed in one place, damaged, and at the edges of the form.
 
 use super::chance::Chance;
 use super::listings::{any, change, damage, listing, odd_listings, text, ZEROS};
@@ -45,7 +45,7 @@ fn one(c: &mut Chance, i: usize) -> Pair {
     pair(["equal", "one change", "two changes", "changes", "others", "first damaged", "second damaged", "both damaged"][i % 8], first, second)
 }
 
-/// Every odd text beside a plain listing, and beside itself and its neighbour in the list.
+/// Every odd text with a plain listing, with itself, and with its neighbour in the list.
 pub fn edges(c: &mut Chance) -> Vec<Pair> {
     let plain = format!("STRIP 1\n4 {ZEROS}\nARRIVED 1\n").into_bytes();
     let texts = odd_listings(c);

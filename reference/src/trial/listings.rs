@@ -30,7 +30,7 @@ fn outcome(c: &mut Chance) -> Vec<u8> {
     if c.one_in(3) { format!("REFUSED {} {n}", c.between(1, 99)) } else { format!("ARRIVED {n}") }.into_bytes()
 }
 
-/// A listing of so many states, or a lone refusal for none.
+/// A listing of that many states; for 0 a lone refusal.
 pub fn listing(c: &mut Chance, states: usize, make: Component) -> Lines {
     if states == 0 {
         return vec![format!("REFUSED {}", c.below(20)).into_bytes()];
@@ -46,7 +46,7 @@ pub fn listing(c: &mut Chance, states: usize, make: Component) -> Lines {
     lines
 }
 
-/// A component of a state's line written over: its neighbour, its negative, or any float.
+/// A component of a state's line replaced: by its neighbour, its negative, or any float.
 fn component(c: &mut Chance, line: &mut Vec<u8>, make: Component) {
     let mut words: Vec<String> = String::from_utf8_lossy(line).split(' ').map(str::to_string).collect();
     if words.len() != 7 {
@@ -111,7 +111,7 @@ pub fn damage(c: &mut Chance, text: &mut Vec<u8>) {
 
 pub const ZEROS: &str = "0000000000000000 0000000000000000 0000000000000000 0000000000000000 0000000000000000 0000000000000000";
 
-/// Lines that are not of the form, or only just are, each in the place of a state.
+/// Lines that are not of the form, or only just are, each in place of a state.
 fn odd_lines() -> Vec<(String, Vec<u8>)> {
     let mut odd: Vec<(String, Vec<u8>)> = Vec::new();
     let mut add = |case: &str, line: String| odd.push((case.to_string(), line.into_bytes()));

@@ -25,7 +25,7 @@ pub fn body_edge(c: &mut Chance, w: &World) -> Vec<String> {
     body_line(u64::from(e.body), (place + c.below(4)).saturating_sub(2))
 }
 
-/// A number that is no body's, or wraps to one.
+/// A number without a body, or one that wraps to a body's.
 pub fn body_number(c: &mut Chance, w: &World) -> Vec<String> {
     let e = cover::some_entry(c, w);
     let near = u64::from(e.body);
@@ -56,7 +56,7 @@ pub fn accel_sizes(c: &mut Chance, w: &World) -> Vec<(String, Trip)> {
     noted("", t)
 }
 
-/// Some of 4, 3 and 7 (position), or all, with bodies that have cover or have none.
+/// Some of 4, 3 and 7 (position), or all; the bodies have cover or none.
 pub fn accel_broken(c: &mut Chance, w: &World) -> Vec<(String, Trip)> {
     let mut t = trip(c, w);
     if c.one_in(2) {
@@ -83,7 +83,7 @@ pub fn accel_wild(c: &mut Chance, w: &World) -> Vec<(String, Trip)> {
     noted("", t)
 }
 
-/// The inputs of a run call, as far as an acceleration takes them.
+/// The inputs of a run call that an acceleration takes.
 pub const ACCEL: &[RunCase] = &[
     ("plain", |c, w| noted("", trip(c, w))),
     ("plain", |c, w| noted("", trip(c, w))),

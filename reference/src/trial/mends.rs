@@ -5,7 +5,7 @@ use super::chance::Chance;
 use super::damage;
 use crate::book::{ENTRY, HEAD, LIMIT};
 
-/// An input for repair; no room stands for none given.
+/// An input for repair; `room` is the optional argument.
 #[derive(Clone, Debug)]
 pub struct Damaged {
     pub case: String,
@@ -17,8 +17,8 @@ fn damaged(case: &str, input: Vec<u8>, room: Option<u64>) -> Damaged {
     Damaged { case: case.to_string(), input, room }
 }
 
-/// A real book cut at every byte of its head and contents and of the last float of each block, and at every eleventh between; and
-/// with rooms up to its length.
+/// A real book cut at every byte of its head and contents and of the last float of each block, and at every eleventh byte between.
+/// Also with rooms up to its length.
 pub fn real(book: &[u8]) -> Vec<Damaged> {
     let cut = |n: usize| damaged(&format!("real, cut at {n}"), book[..n].to_vec(), None);
     let roomy = |n: usize| damaged("real", book.to_vec(), Some(n as u64));
@@ -59,7 +59,7 @@ fn stirred(c: &mut Chance) -> Vec<Piece> {
     list
 }
 
-/// One field of one entry of the contents written over.
+/// One field of one entry of the contents overwritten.
 fn field(c: &mut Chance, book: &mut [u8]) {
     let count = entries(book).len() as u64;
     let at = HEAD + ENTRY * c.below(count) as usize;
@@ -77,7 +77,7 @@ fn field(c: &mut Chance, book: &mut [u8]) {
     }
 }
 
-/// Total or count written over.
+/// Total or count overwritten.
 fn header(c: &mut Chance, book: &mut [u8]) {
     let count = entries(book).len() as u64;
     let any = c.next();

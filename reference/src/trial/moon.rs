@@ -37,7 +37,7 @@ pub struct Said {
 }
 
 impl Said {
-    /// The state that the answer has, where it is not refused.
+    /// The state in the answer, if it is not refused.
     pub fn state(&self) -> Option<State> {
         let list: Vec<&[u8]> = self.answer.split(' ').map(str::as_bytes).collect();
         let from = state_from(&self.answer)?;
@@ -45,7 +45,7 @@ impl Said {
     }
 }
 
-/// Where an answer's state begins: behind outcome and steps of a call that flies, at the front of one that injects or moves.
+/// Where the state of an answer begins: after outcome and steps for `fly`, at the front for an injection or a move.
 fn state_from(answer: &str) -> Option<usize> {
     match answer.split(' ').next() {
         Some("ARRIVED" | "GOING") => Some(2),
@@ -54,7 +54,7 @@ fn state_from(answer: &str) -> Option<usize> {
     }
 }
 
-/// Where a flight stands, in the fields of a line.
+/// The current state of a flight, as fields of a line.
 #[derive(Clone, Debug)]
 pub struct Place {
     pub state: Vec<String>,
@@ -62,7 +62,7 @@ pub struct Place {
 }
 
 impl Place {
-    /// From an answer; whether the call is still going. A refusal has no place.
+    /// Takes an answer; returns whether the call is still going. A refusal is an error.
     pub fn take(&mut self, answer: &str) -> Result<bool, String> {
         let list: Vec<String> = answer.split(' ').map(str::to_string).collect();
         let from = state_from(answer).ok_or_else(|| answer.to_string())?;
@@ -78,7 +78,7 @@ impl Place {
     }
 }
 
-/// The flight of an order, by whatever answers a line: every call with its answer. A refusal ends it.
+/// The flight of an order, with any function that answers a line: every call with its answer. A refusal ends it.
 pub fn flight(order: &Order, mut say: impl FnMut(&str) -> Result<String, String>) -> Result<Vec<Said>, String> {
     let (setting, s) = (&order.setting, &order.state);
     let Extras { j, a, k } = setting.extras;

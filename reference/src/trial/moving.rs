@@ -14,7 +14,7 @@ use crate::hour::END;
 use crate::rule::EARTH;
 use crate::moves::moved;
 
-/// A trip about a used centre, and another used one to move to. Where a body stands at a zero, so does the craft.
+/// A trip about a used centre, and another used one to move to. If a body is at zero, the craft is too.
 fn pair(c: &mut Chance, w: &World) -> (Trip, u64) {
     let mut t = trip(c, w);
     t.state.centre = used_centre(c, &t.setting);
@@ -28,7 +28,7 @@ fn pair(c: &mut Chance, w: &World) -> (Trip, u64) {
     (t, new)
 }
 
-/// The line of a move, half of them with anything stored.
+/// The line of a move, half of them with a random stored acceleration.
 fn line(c: &mut Chance, t: &Trip, new: u64) -> String {
     let mut t = t.clone();
     if c.one_in(2) {
@@ -56,7 +56,7 @@ fn there_and_back(c: &mut Chance, w: &World) -> Vec<String> {
     lines
 }
 
-/// To the centre it has, at any moment: nothing is looked up, and every bit stays; but 3 and 7 (state) come first.
+/// To the same centre, at any moment: nothing is looked up, and every bit stays. Only 3 and 7 (state) come first.
 fn same(c: &mut Chance, w: &World) -> Vec<String> {
     let at = c.below(END);
     let mut t = trip_at(c, w, at);
@@ -85,7 +85,7 @@ fn no_cover(c: &mut Chance, w: &World) -> Vec<String> {
     vec![line(c, &t, new)]
 }
 
-/// Both centres have cover and every body is used: the result first, then the rule's own cover of the others.
+/// Both centres have cover and every body is used: the result first, then the rule's own lookups of the others.
 fn others(c: &mut Chance, w: &World) -> Vec<String> {
     let (mut t, new) = pair(c, w);
     t.setting.coefficients = NOMINAL;
@@ -112,7 +112,7 @@ fn floats(c: &mut Chance, w: &World) -> Vec<String> {
     vec![line(c, &t, new)]
 }
 
-/// A body at a moment at which its place or its speed is not finite, if one is found.
+/// A body at a moment at which its position or velocity is not finite, if one is found.
 fn found_not_finite(c: &mut Chance, w: &World) -> Option<(u64, u64)> {
     (0..20).filter(|_| !w.entries.is_empty()).find_map(|_| {
         let i = c.below(w.entries.len() as u64) as usize;
@@ -122,7 +122,7 @@ fn found_not_finite(c: &mut Chance, w: &World) -> Option<(u64, u64)> {
     })
 }
 
-/// From or to a body that is not finite, with cover at the other end or none.
+/// From or to a body that is not finite; the other end has cover or none.
 fn not_finite(c: &mut Chance, w: &World) -> Vec<String> {
     let Some((body, now)) = found_not_finite(c, w) else { return no_cover(c, w) };
     let mut t = trip_at(c, w, now);
@@ -132,7 +132,7 @@ fn not_finite(c: &mut Chance, w: &World) -> Vec<String> {
     vec![line(c, &t, to)]
 }
 
-/// Onto the new centre, where the result is zero, or as far from it again, where it may overflow.
+/// Onto the new centre, where the result is zero, or twice as far, where it may overflow.
 fn onto(c: &mut Chance, w: &World) -> Vec<String> {
     let (mut t, new) = pair(c, w);
     t.set_state([0.0; 6]);
@@ -146,7 +146,7 @@ fn onto(c: &mut Chance, w: &World) -> Vec<String> {
     vec![line(c, &t, new)]
 }
 
-/// Some of 4, 14, 14, 3 and 7, or all, with bodies that have cover or have none.
+/// Some of 4, 14, 14, 3 and 7, or all; the bodies have cover or none.
 fn broken(c: &mut Chance, w: &World) -> Vec<String> {
     let (mut t, mut new) = pair(c, w);
     if c.one_in(2) {
@@ -177,7 +177,7 @@ fn broken(c: &mut Chance, w: &World) -> Vec<String> {
     vec![line(c, &t, new)]
 }
 
-/// A number that is none, or a body that is then not used.
+/// A number without a body, or a body that is then not used.
 fn no_centre(c: &mut Chance, t: &mut Trip) -> u64 {
     if c.one_in(2) {
         return bad_centre(c);

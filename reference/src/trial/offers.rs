@@ -35,7 +35,7 @@ pub fn state(moment: u64, centre: u64, s: [f64; 6], acceleration: [f64; 3]) -> S
     State { moment, centre, position: [s[0], s[1], s[2]], velocity: [s[3], s[4], s[5]], acceleration }
 }
 
-/// A state that follows on nothing.
+/// A state unrelated to the last one.
 pub fn fresh(c: &mut Chance) -> State {
     let moment = match c.below(8) {
         0 => 0,
@@ -58,7 +58,7 @@ pub fn gap(c: &mut Chance) -> u64 {
     }
 }
 
-/// A state that mostly follows on the last one kept, and else is of its moment or an earlier one or of another centre.
+/// A state that mostly follows the last one kept. Otherwise it has the same moment, an earlier one, or another centre.
 pub fn next(c: &mut Chance, pane: &Pane) -> State {
     let Some(last) = pane.newer() else { return fresh(c) };
     let mut s = state(last.moment.saturating_add(gap(c)), last.centre, six(c), anything(c));
@@ -77,7 +77,7 @@ pub fn state_fields(s: &State) -> String {
     format!("{} {} {} {} {}", s.moment, s.centre, hexes(&s.position), hexes(&s.velocity), hexes(&s.acceleration))
 }
 
-/// Mostly a line that takes it; else a run's answer with it, steps and guesses of every size.
+/// Mostly a line that takes it; else a run's answer with it, with steps and guesses of every size.
 pub fn offered(c: &mut Chance, s: &State) -> String {
     let fields = state_fields(s);
     let mut number = || if c.one_in(3) { c.any_length(64) } else { c.below(30) };

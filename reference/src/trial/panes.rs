@@ -39,7 +39,7 @@ impl Session {
     }
 }
 
-/// A session on its way: its lines, and the pane as they leave it.
+/// A session in progress: its lines, and the pane after them.
 struct Making<'a> {
     c: &'a mut Chance,
     pane: Pane,
@@ -53,7 +53,7 @@ impl Making<'_> {
         self.lines.push(line);
     }
 
-    /// Some frames, mostly where the states kept decide.
+    /// Some frames, mostly at moments that matter for the states kept.
     fn frames(&mut self, most: u64) {
         for _ in 0..self.c.between(1, most) {
             let t = moment(self.c, &self.pane);
@@ -61,7 +61,7 @@ impl Making<'_> {
         }
     }
 
-    /// Frames around both ends, in the middle, and at the ends of all numbers.
+    /// Frames around both ends, in the middle, and at the smallest and the greatest number.
     fn tour(&mut self) {
         let (a, b) = ends(&self.pane);
         let around = |t: u64| [t.saturating_sub(1), t, t.saturating_add(1)];
@@ -69,14 +69,14 @@ impl Making<'_> {
         list.iter().for_each(|t| self.say(format!("frame {t}")));
     }
 
-    /// A state by a line that takes it, or as a run's answer.
+    /// A state given by a line that takes it, or by a run's answer.
     fn offer(&mut self, s: &State) {
         let line = offered(self.c, s);
         self.say(line);
     }
 }
 
-/// The moments of the older state and the newer one; of one state twice.
+/// The moments of the older state and the newer one; of a single state twice.
 fn ends(pane: &Pane) -> (u64, u64) {
     match pane {
         Pane::Clear => (END / 2, END / 2),
@@ -85,7 +85,7 @@ fn ends(pane: &Pane) -> (u64, u64) {
     }
 }
 
-/// A frame's moment, at an end of the two kept or beside it, between them, past them, before them or anywhere.
+/// A moment for a frame: at an end of the two kept or next to it, between them, after them, before them or anywhere.
 fn moment(c: &mut Chance, pane: &Pane) -> u64 {
     let (a, b) = ends(pane);
     match c.below(14) {
@@ -103,7 +103,7 @@ fn moment(c: &mut Chance, pane: &Pane) -> u64 {
     }
 }
 
-/// Takes and runs' answers in turn, cleared now and then.
+/// Takes and runs' answers in turn, with a clearing now and then.
 fn takes(m: &mut Making, _: &World) {
     for _ in 0..16 {
         if m.c.one_in(9) {
@@ -115,7 +115,7 @@ fn takes(m: &mut Making, _: &World) {
     }
 }
 
-/// Two states at once, and every moment that decides.
+/// Two states, and every moment at an edge.
 fn tours(m: &mut Making, _: &World) {
     for _ in 0..3 {
         m.say("clear");
@@ -141,7 +141,7 @@ fn all_time(m: &mut Making, _: &World) {
     }
 }
 
-/// Positions that are finite, with velocities that are not between them, on one side or on both; and the other way about.
+/// Finite positions with velocities that are not finite between them, on one side or on both; and the reverse.
 fn no_figure(m: &mut Making, _: &World) {
     for i in 0..4 {
         m.say("clear");
@@ -160,7 +160,7 @@ fn no_figure(m: &mut Making, _: &World) {
     }
 }
 
-/// Lines that are no calls, with frames behind them: the pane is as it was.
+/// Lines that are not calls, followed by frames: the pane is unchanged.
 fn garbled(m: &mut Making, _: &World) {
     for _ in 0..14 {
         let s = next(m.c, &m.pane);
@@ -180,7 +180,8 @@ fn garbled(m: &mut Making, _: &World) {
     }
 }
 
-/// A journey flown by its own answers: runs fed as they answer, injections and moves taken, and the pane cleared behind some moves.
+/// A journey flown from its own answers: answers of runs are fed, states of injections and moves are taken, and the pane is cleared
+/// after some moves.
 fn journeys(m: &mut Making, w: &World) {
     let t = trip(m.c, w);
     let guesses = t.guesses;
@@ -202,7 +203,7 @@ fn journeys(m: &mut Making, w: &World) {
     m.tour();
 }
 
-/// Runs of every sort, most of them refused somewhere, fed as they answer to a pane that follows on one of them.
+/// Runs of every sort, most of them refused somewhere, fed to a pane that follows one of them.
 fn runs(m: &mut Making, w: &World) {
     let first = m.c.below(1000) as usize;
     for i in 0..8 {
@@ -218,7 +219,7 @@ fn runs(m: &mut Making, w: &World) {
     }
 }
 
-/// A run's answer with a NaN in it, which a run that is refused at its start hands back; and where no run has one.
+/// A run's answer with a NaN, as after a refusal at its start; also in answers that never have one.
 fn nans(m: &mut Making, w: &World) {
     takes(m, w);
     for _ in 0..12 {
@@ -240,7 +241,7 @@ const SORTS: [Sort; 10] = [
     ("no figure", no_figure), ("nans", nans), ("all time", all_time), ("takes", takes),
 ];
 
-/// So many sessions, under real books and made ones; the last line of each is a frame.
+/// That many sessions, under real books and made ones; the last line of each is a frame.
 pub fn sessions(c: &mut Chance, n: usize, real: &[(String, Vec<u8>)]) -> Vec<Session> {
     let worlds = worlds(c, real);
     let named = |w: &&World| real.iter().any(|(name, _)| *name == w.name);

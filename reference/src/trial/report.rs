@@ -24,7 +24,7 @@ pub fn grouped(n: usize) -> String {
     out
 }
 
-/// The sort of an answer: its last line's first words.
+/// The sort of an answer: the first words of its last line.
 pub fn sort(answer: &str) -> String {
     let last = answer.trim_end().lines().last().unwrap_or("");
     let words: Vec<&str> = last.split(' ').collect();

@@ -48,7 +48,7 @@ pub fn portions(c: &mut Chance, w: &World) -> Vec<(String, Trip)> {
     list
 }
 
-/// A run that is refused on the way, and calls from there.
+/// A run that is refused on the way, and further calls from there.
 pub fn again(c: &mut Chance, w: &World) -> Vec<(String, Trip)> {
     let mut t = crossing(c, w).remove(0).1;
     t.budget = 1000;
@@ -65,7 +65,7 @@ pub fn again(c: &mut Chance, w: &World) -> Vec<(String, Trip)> {
     list
 }
 
-/// A state as at injection, walked a while with the whole book in use.
+/// A state as at injection, flown for a while with all bodies of the book.
 pub fn long(c: &mut Chance, w: &World) -> Vec<(String, Trip)> {
     let t = covered_moment(c, w);
     let mut trip = trip_at(c, w, t);

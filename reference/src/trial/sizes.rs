@@ -20,7 +20,7 @@ pub fn overflow(c: &mut Chance, w: &World) -> Vec<(String, Trip)> {
     noted("", t)
 }
 
-/// Moving off so fast that r3 overflows after a few steps.
+/// Moving away so fast that r3 overflows after a few steps.
 pub fn growing(c: &mut Chance, w: &World) -> Vec<(String, Trip)> {
     let mut t = trip(c, w);
     let steps = c.between(1, 6);
@@ -42,8 +42,7 @@ pub fn earth_alone(c: &mut Chance, w: &World, m: f64) -> Trip {
     t
 }
 
-/// Stage four alone stands close to the centre: for the greater m its acceleration is
-/// finite, and the new velocity is not.
+/// Only stage four is close to the centre: for the greater m its acceleration is finite, and the new velocity is not.
 pub fn new_component(c: &mut Chance, w: &World) -> Vec<(String, Trip)> {
     let (m, note) = c.pick(&[(1e93, "velocity not finite"), (1e88, "velocity finite")]);
     let mut t = earth_alone(c, w, m);
@@ -52,9 +51,8 @@ pub fn new_component(c: &mut Chance, w: &World) -> Vec<(String, Trip)> {
     noted(note, t)
 }
 
-/// Stage three alone stands close to the centre: for the least side the velocity of stage
-/// four makes the new position overflow, while the new velocity is finite; for the next one
-/// the new position is finite, and so far out that it has no acceleration.
+/// Only stage three is close to the centre. For the smallest side the velocity of stage four makes the new position overflow, while
+/// the new velocity is finite. For the next one the new position is finite, but so far out that it has no acceleration.
 pub fn new_position(c: &mut Chance, w: &World) -> Vec<(String, Trip)> {
     let (side, note) = c.pick(&[(2e-107, "position not finite"), (1e-99, "no acceleration there"), (1.0, "position finite")]);
     let mut t = earth_alone(c, w, 2f64.powi(302));

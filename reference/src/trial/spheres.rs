@@ -7,7 +7,7 @@ use super::world::{Case, World};
 use crate::hour::{CIRCLE, END};
 use crate::sphere::QUARTER;
 
-/// What a line has: rule, DUT, moment, radius, speed, and the angles as they are written.
+/// The fields of a line: rule, DUT, moment, radius, speed, and the angles as they are written.
 struct Spoken {
     rule: u64,
     dut: u32,
@@ -58,7 +58,7 @@ fn sizes(c: &mut Chance, _: &World) -> Vec<String> {
     s.line()
 }
 
-/// An angle just out of its range, or far out, or below zero where none may be.
+/// An angle just out of its range, far out of it, or negative if it must not be.
 fn bad_angle(c: &mut Chance) -> (usize, String) {
     let i = c.below(4) as usize;
     let any = c.any_length(64);
@@ -102,7 +102,7 @@ fn broken(c: &mut Chance, _: &World) -> Vec<String> {
     s.line()
 }
 
-/// A line that is no call: a sign where none may stand, or more than one.
+/// A line that is not a call: a sign where none is allowed, or more than one.
 fn signs(c: &mut Chance, _: &World) -> Vec<String> {
     let mut s = flight(c);
     let i = c.below(4) as usize;

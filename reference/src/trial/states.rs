@@ -16,7 +16,7 @@ pub fn fixed_with(c: &mut Chance, s: [f64; 6]) -> Vec<String> {
     fixed_line(dut, moment, s)
 }
 
-/// Of DUT, moment and state at least one refused.
+/// At least one of DUT, moment and state is refused.
 pub fn fixed_refused(c: &mut Chance, _: &World) -> Vec<String> {
     let which = c.between(1, 7);
     let dut = if which & 1 != 0 { bad_dut(c) } else { c.between(1, 100_000) as u32 };
@@ -50,7 +50,7 @@ pub fn turn_centre(c: &mut Chance) -> u64 {
     }
 }
 
-/// A line of fixed as one of turn, by a rule and about a centre, with anything stored.
+/// A line of fixed as one of turn, by a rule and about a centre, with a random stored acceleration.
 pub fn turn_by(c: &mut Chance, rule: u64, fixed: Vec<String>) -> Vec<String> {
     let turn = |line: String| {
         let fields: Vec<&str> = line.splitn(4, ' ').collect();
@@ -114,14 +114,14 @@ pub fn conic_escape(c: &mut Chance, _: &World) -> Vec<String> {
     conic_line(m, [r, 0.0, 0.0, 0.0, v, 0.0])
 }
 
-/// Velocity along the position: n(C) is zero or close to it.
+/// Velocity along the position: n(C) is zero or nearly so.
 pub fn conic_radial(c: &mut Chance, _: &World) -> Vec<String> {
     let s = flight(c);
     let k = c.pick(&[0.0, -0.0, 1.0, -0.5, 0.001, 2.0]);
     conic_line(398603.2, [s[0], s[1], s[2], s[0] * k, s[1] * k, s[2] * k])
 }
 
-/// Sizes of m, position and velocity chosen apart: figures overflow or vanish one by one.
+/// Sizes of m, position and velocity chosen independently: figures overflow or vanish one by one.
 pub fn conic_sizes(c: &mut Chance, _: &World) -> Vec<String> {
     let (a, b, d) = (c.below(2020) as i64 - 1010, c.below(1060) as i64 - 540, c.below(1060) as i64 - 540);
     let m = c.sized(a, a + 2).abs();
@@ -133,7 +133,7 @@ pub fn conic_sizes(c: &mut Chance, _: &World) -> Vec<String> {
     conic_line(m, s)
 }
 
-/// A figure each that is not finite: n, v2, c3, n(C), p, e2, a, far; and p that vanishes.
+/// One figure that is not finite each time: n, v2, c3, n(C), p, e2, a, far; and a p that vanishes.
 pub fn conic_overflows(c: &mut Chance, _: &World) -> Vec<String> {
     let (m, s): (f64, [f64; 6]) = c.pick(&[
         (8.0, [1e155, 0.0, 0.0, 0.0, 1.0, 0.0]),
@@ -204,7 +204,7 @@ pub const CONIC: &[Case] = &[
     ("state refused", conic_state),
 ];
 
-/// A line of conic as one of orbit, at any moment and about any centre, with anything stored.
+/// A line of conic as one of orbit, at any moment and about any centre, with a random stored acceleration.
 pub fn orbit_of(c: &mut Chance, conic: &str) -> String {
     let fields: Vec<&str> = conic.splitn(3, ' ').collect();
     let moment = if c.one_in(2) { c.below(END) } else { c.any_length(64) };

@@ -1,4 +1,4 @@
-//! Trips whose stored acceleration is the rule's or not, states that have none, and steps that lead to one.
+//! Trips whose stored acceleration is the rule's or not, states without an acceleration, and steps that lead to one.
 
 use super::about::place;
 use super::broken::at_target;
@@ -27,7 +27,7 @@ fn as_it_is(c: &mut Chance, w: &World) -> Vec<(String, Trip)> {
     noted("", right(c, w))
 }
 
-/// One bit of one component is another: the last, the sign, or any.
+/// One bit of one component is changed: the last, the sign, or any.
 fn one_bit(c: &mut Chance, w: &World) -> Vec<(String, Trip)> {
     let mut t = right(c, w);
     let bit = c.pick(&[0, 0, 63, c.clone().below(64)]);
@@ -36,7 +36,7 @@ fn one_bit(c: &mut Chance, w: &World) -> Vec<(String, Trip)> {
     noted("", t)
 }
 
-/// On an axis under the Earth alone two components are zeros: of the right sign, or one of the other.
+/// On an axis, with only the Earth, two components are zeros: with the right sign, or one with the wrong sign.
 fn zeros(c: &mut Chance, w: &World) -> Vec<(String, Trip)> {
     let mut t = right(c, w);
     t.setting.coefficients[1..].fill(0.0);
@@ -53,7 +53,7 @@ fn zeros(c: &mut Chance, w: &World) -> Vec<(String, Trip)> {
     noted(note, t)
 }
 
-/// Anything in one component or in all, not finite too.
+/// Random values in one component or in all, also not finite.
 fn any(c: &mut Chance, w: &World) -> Vec<(String, Trip)> {
     let mut t = right(c, w);
     if c.one_in(2) {
@@ -64,7 +64,7 @@ fn any(c: &mut Chance, w: &World) -> Vec<(String, Trip)> {
     noted("", t)
 }
 
-/// The rule's of another place, moment, centre or setting.
+/// The rule's value for another place, moment, centre or setting.
 fn of_another(c: &mut Chance, w: &World) -> Vec<(String, Trip)> {
     let t = right(c, w);
     let mut other = t.clone();
@@ -78,7 +78,7 @@ fn of_another(c: &mut Chance, w: &World) -> Vec<(String, Trip)> {
     noted(note, Trip { state: State { acceleration, ..t.state }, ..t })
 }
 
-/// A wrong value, or a state that has none, beside other refusals: 14, 3 and 7 come first, 2 and 5 after.
+/// A wrong value, or a state without acceleration, together with other refusals: 14, 3 and 7 come first, 2 and 5 after.
 fn beside(c: &mut Chance, w: &World) -> Vec<(String, Trip)> {
     let (note, mut t) = c.pick(&[one_bit as MakeRuns, any, without, zeros])(c, w).remove(0);
     for _ in 0..c.between(1, 2) {
@@ -88,7 +88,7 @@ fn beside(c: &mut Chance, w: &World) -> Vec<(String, Trip)> {
     noted(&note, t)
 }
 
-/// No cover, or a body's centre, at the target or with no budget or with some; anything stored.
+/// No cover, or at the centre of a body; at the target, with no budget or with some; any stored value.
 fn without(c: &mut Chance, w: &World) -> Vec<(String, Trip)> {
     let make = c.pick(&[cover::no_cover as MakeRuns, at_target, on_body]);
     let mut t = make(c, w).remove(0).1;
@@ -114,7 +114,7 @@ fn gain(v: f64, whole: f64) -> f64 {
     (whole / 6.0) * (((v + 2.0 * v) + 2.0 * v) + v)
 }
 
-/// A velocity and a place so many steps before an end, where a step lands exactly on it and its fourth stage does not.
+/// A velocity and a place that many steps before an end, so that a step lands exactly on it and its fourth stage does not.
 fn before(c: &mut Chance, end: f64, whole: f64, steps: f64) -> (f64, f64) {
     let mut found = (end, 0.0);
     for _ in 0..40 {
@@ -154,7 +154,7 @@ fn onto(c: &mut Chance, w: &World) -> Vec<(String, Trip)> {
     noted(&format!("after {steps}"), t.kept(w.bytes()))
 }
 
-/// A plain trip, and again from its answer with the stored value spoiled.
+/// A plain trip, and a second one from its answer with the stored value spoiled.
 fn spoiled(c: &mut Chance, w: &World) -> Vec<(String, Trip)> {
     let t = plain(c, w).remove(0).1.kept(w.bytes());
     let ran = t.fly(w.bytes());

@@ -38,7 +38,7 @@ pub fn cut(c: &mut Chance, w: &World) -> Strip {
     named("cut", bytes, false)
 }
 
-/// Bytes behind the book, up to far above the limit.
+/// Bytes after the book, up to far above the limit.
 pub fn longer(c: &mut Chance, w: &World) -> Strip {
     let mut t = trip(c, w);
     if c.one_in(2) {
@@ -64,7 +64,7 @@ pub fn strip(c: &mut Chance, w: &World, i: usize) -> Strip {
     named(&format!("{name} {note}"), input(w, t), false)
 }
 
-/// A book's own journey of many steps.
+/// The journey of a book itself, of many steps.
 pub fn journey(c: &mut Chance, w: &World) -> Strip {
     let (_, mut t) = runs::long(c, w).remove(0);
     t.h = 60_000;
@@ -74,7 +74,7 @@ pub fn journey(c: &mut Chance, w: &World) -> Strip {
     named("journey", input, false)
 }
 
-/// An order with J, A and K about the Earth, and the book behind it.
+/// An order with J, A and K about the Earth, and the book after it.
 pub fn input144(w: &World, mut t: Trip) -> Vec<u8> {
     t.state.centre = EARTH;
     [&t.shortened(w.bytes(), MOST).order144()[..], w.bytes()].concat()
@@ -91,12 +91,12 @@ fn cut144(c: &mut Chance, w: &World) -> Strip {
     named("cut or longer", bytes, true)
 }
 
-/// A whole input of strip, which strip144 reads otherwise: its book begins where J, A and K stand.
+/// A whole input of strip, which strip144 reads differently: its book begins in the place of J, A and K.
 fn old(c: &mut Chance, w: &World) -> Strip {
     named("an old input", input(w, trip(c, w)), true)
 }
 
-/// One bit of the order is another: of a coefficient, of position or velocity, or of J, A and K.
+/// One bit of the order is changed: of a coefficient, of position or velocity, or of J, A and K.
 fn damaged144(c: &mut Chance, w: &World) -> Strip {
     let mut t = trip(c, w);
     t.setting.extras = some_extras(c);

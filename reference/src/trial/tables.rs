@@ -25,7 +25,7 @@ fn tie(c: &mut Chance) -> f64 {
     odd / c.pick(&[16.0, 128.0])
 }
 
-/// The float nearest to a decimal that lies half way, which is a tie itself or only just is none.
+/// The float nearest to a decimal that lies half way: a tie, or nearly one.
 fn half_way(c: &mut Chance) -> f64 {
     let odd = (c.any_length(40) | 1) as f64;
     odd / c.pick(&[2e3, 2e6])
@@ -79,8 +79,8 @@ fn enlarge(c: &mut Chance, lines: &mut Lines) {
     lines[i] = words.join(" ").into_bytes();
 }
 
-/// The limit and its neighbours in each component, before a state that passes and before one that does not; with the same line not
-/// of the form; and at the end of the text.
+/// The limit and its neighbours in each component, before a state that passes and before one that does not. Also with the same line
+/// not of the form, and at the end of the text.
 fn at_the_limit() -> Vec<Made> {
     let mut list = Vec::new();
     for k in 0..6 {

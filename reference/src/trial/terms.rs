@@ -1,4 +1,4 @@
-//! Trips with the two last terms: J, A and K of every size, the Sun for its light alone, and places where a term vanishes.
+//! Trips with the two last terms: J, A and K of every size, the Sun for its light only, and places where a term vanishes.
 
 use super::about::place;
 use super::centres::{some_centre, used_centre};
@@ -28,7 +28,7 @@ fn plain(c: &mut Chance, w: &World) -> Vec<(String, Trip)> {
     noted("", about(c, w))
 }
 
-/// Each of the three of any size that is allowed, near the Earth or anywhere.
+/// Each of the three of any allowed size, near the Earth or anywhere.
 fn values(c: &mut Chance, w: &World) -> Vec<(String, Trip)> {
     let mut t = about(c, w);
     t.setting.extras = Extras { j: value(c), a: value(c), k: value(c) };
@@ -38,7 +38,7 @@ fn values(c: &mut Chance, w: &World) -> Vec<(String, Trip)> {
     noted("", t)
 }
 
-/// One or more of the three refused, whether its term is left out or not, with other refusals behind it.
+/// One or more of the three refused, whether its term is left out or not, with other refusals after it.
 fn refused(c: &mut Chance, w: &World) -> Vec<(String, Trip)> {
     let mut t = about(c, w);
     t.setting.extras = bad_extras(c);
@@ -55,7 +55,7 @@ fn light_alone(c: &mut Chance, t: &mut Trip) {
     t.setting.extras = Extras { k: c.pick(&[f64::from_bits(1), 1e-3, 4e7, 1e12]), ..some_extras(c) };
 }
 
-/// Light alone, with cover or without it, about a used centre or about the Sun, which is none.
+/// Light only, with cover or without it, about a used centre or about the Sun, which is not one.
 fn light(c: &mut Chance, w: &World) -> Vec<(String, Trip)> {
     let mut t = if c.one_in(3) { let at = c.below(END); trip_at(c, w, at) } else { trip(c, w) };
     light_alone(c, &mut t);
@@ -66,7 +66,7 @@ fn light(c: &mut Chance, w: &World) -> Vec<(String, Trip)> {
     noted(if t.state.centre == SUN { "about the Sun" } else { "" }, t)
 }
 
-/// Light alone at the edges of the Sun's cover.
+/// Light only, at the edges of the Sun's cover.
 fn light_edge(c: &mut Chance, w: &World) -> Vec<(String, Trip)> {
     let suns: Vec<Entry> = w.entries.iter().copied().filter(|e| u64::from(e.body) == SUN).collect();
     if suns.is_empty() {
@@ -94,8 +94,8 @@ fn on_a_body(c: &mut Chance, w: &World) -> Vec<(String, Trip)> {
     noted(note, t)
 }
 
-/// In the equator's plane, over a pole, where 5u is 1 or 3, or with a zero of either sign, from the Earth; now and then under the
-/// Earth alone, where A zero shows by the sign of a zero.
+/// Seen from the Earth: in the plane of the equator, over a pole, where 5u is 1 or 3, or with a zero of either sign. Sometimes with
+/// only the Earth, so that A zero shows in the sign of a zero.
 fn marked(c: &mut Chance, w: &World) -> Vec<(String, Trip)> {
     let mut t = about(c, w);
     if c.one_in(3) {
@@ -118,7 +118,7 @@ fn marked(c: &mut Chance, w: &World) -> Vec<(String, Trip)> {
     noted(note, t)
 }
 
-/// A·A, (A·A)/n, a product with it or the sum overflows, or J·g vanishes beside it, and the pulls are finite.
+/// A·A, (A·A)/n, a product with it or the sum overflows, or J·g vanishes, while the pulls are finite.
 fn sizes(c: &mut Chance, w: &World) -> Vec<(String, Trip)> {
     let mut t = about(c, w);
     let (note, j, a, k, r) = c.pick(&[
@@ -176,7 +176,7 @@ pub const TERMS: &[RunCase] = &[
     ("any", any),
 ];
 
-/// A line of the trip: mostly fly, with the rule's acceleration, else pull, an injection or a move.
+/// A line of the trip: mostly fly, with the rule's acceleration; else pull, an injection or a move.
 pub fn line(c: &mut Chance, w: &World, t: &Trip) -> String {
     match c.below(8) {
         0..=3 => t.kept(w.bytes()).fly_line(),

@@ -43,7 +43,7 @@ pub const NEAR_WHOLE: [u64; 16] = [
 /// 2000 January 1: from this day on at 12h T is above 0.
 pub const DAY_2000: u64 = 18_262;
 
-/// A UT that the 1982 rule finds hard: a day's ends, 2000 January 1, close to a whole part.
+/// A UT that is hard for the 1982 rule: the ends of a day, 2000 January 1, close to a whole part.
 pub fn hard_ut(c: &mut Chance) -> u64 {
     match c.below(4) {
         0 => c.below(LAST_DAY + 1) * DAY,

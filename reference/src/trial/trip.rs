@@ -12,9 +12,9 @@ use crate::rule::{Setting, State, EARTH};
 
 /// Document 003's coefficients.
 pub const NOMINAL: [f64; 6] = [398603.20, 4900.7589, 132715440000.0, 324769.50, 42977.799, 126710600.0];
-/// Names of the run's refusals before any step, in their order.
+/// The names of a run's refusals before any step, in their order.
 pub const BREAKS: [&str; 8] = ["1", "4", "14", "3 state", "3 target", "7", "2", "5"];
-/// Those of them that an order or an old line can have: its book is the world's, and it has no centre.
+/// Those that an order or an old line can have: its book is the world's, and it has no centre.
 pub const OF_AN_ORDER: [usize; 6] = [1, 3, 4, 5, 6, 7];
 
 #[derive(Clone, Debug)]
@@ -28,12 +28,12 @@ pub struct Trip {
 }
 
 impl Trip {
-    /// The state as it is given, kept by the rule or not.
+    /// The state as it is given, with the rule's acceleration or not.
     pub fn fly(&self, book: &[u8]) -> Ran {
         run(book, &self.setting, &self.state, self.h, self.target, self.budget, self.guesses)
     }
 
-    /// The same with the acceleration that the rule gives, as an old order has it; what is stored where the rule gives none.
+    /// The same with the acceleration that the rule gives, as an old order has it; the stored value if the rule gives none.
     pub fn kept(&self, book: &[u8]) -> Trip {
         Trip { state: of_an_order(book, &self.setting, &self.state), ..self.clone() }
     }
@@ -42,7 +42,7 @@ impl Trip {
         self.kept(book).fly(book)
     }
 
-    /// At most so many steps, whatever is asked: the target is moved nearer.
+    /// At most that many steps: the target is moved nearer if needed.
     pub fn shortened(mut self, book: &[u8], most: u64) -> Trip {
         let state = of_an_order(book, &self.setting, &self.state);
         if start_checks(book, &self.setting, &state, self.h, self.target).is_ok() {
@@ -65,7 +65,7 @@ impl Trip {
     }
 }
 
-/// Run calls for a world; a note tells more of each.
+/// Run calls for a world; a note says more about each.
 pub type MakeRuns = fn(&mut Chance, &World) -> Vec<(String, Trip)>;
 pub type RunCase = (&'static str, MakeRuns);
 
@@ -73,7 +73,7 @@ pub fn noted(note: &str, t: Trip) -> Vec<(String, Trip)> {
     vec![(note.to_string(), t)]
 }
 
-/// A moment that some entry covers, or any when there is none.
+/// A moment that some entry covers, or any if there is none.
 pub fn covered_moment(c: &mut Chance, w: &World) -> u64 {
     if w.entries.is_empty() {
         return c.below(END);
@@ -82,7 +82,7 @@ pub fn covered_moment(c: &mut Chance, w: &World) -> u64 {
     (e.start + c.below(e.span.min(END))).min(END - 1)
 }
 
-/// Coefficients for the bodies that cover t, each left out now and then.
+/// Coefficients for the bodies that cover t, each left out sometimes.
 pub fn setting_at(c: &mut Chance, w: &World, t: u64) -> Setting {
     let mut coefficients = NOMINAL;
     for body in 2..=6u16 {
@@ -95,7 +95,7 @@ pub fn setting_at(c: &mut Chance, w: &World, t: u64) -> Setting {
     Setting { coefficients, dut, extras: Extras::NONE, rule: 0 }
 }
 
-/// An allowed h, any size, or one that fits the cover that is left.
+/// An allowed h: of any size, or one that fits the rest of the cover.
 pub fn pick_h(c: &mut Chance, w: &World, t: u64) -> u32 {
     let left = w.entries.iter().filter(|e| covers(**e, t)).map(|e| e.start + e.span - t).min();
     let h = match c.below(6) {
@@ -107,7 +107,7 @@ pub fn pick_h(c: &mut Chance, w: &World, t: u64) -> u32 {
     (h / 2 * 2).clamp(2, 86_400_000) as u32
 }
 
-/// One guess at a body's entry, in a style of wrongness.
+/// One guess at the entry of a body, wrong in a given style.
 pub fn guess(c: &mut Chance, w: &World, body: u16, t: u64, style: u64) -> u64 {
     let right = w.entries.iter().position(|e| e.body == body && covers(*e, t));
     let right = right.map_or(c.below(6), |i| i as u64);
@@ -198,13 +198,13 @@ pub fn break_target(c: &mut Chance, t: &mut Trip) {
     }
 }
 
-/// A number that is no centre's, or wraps to one.
+/// A number without a body, or one that wraps to a body's.
 pub fn bad_centre(c: &mut Chance) -> u64 {
     let near = c.between(1, 6);
     c.pick(&[0, 7, 8, 255, near + 256, near + 65_536, near + (1 << 32), near + (1 << 63), 1 << 63, u64::MAX])
 }
 
-/// Break what the names of BREAKS say, 4 to 5; 1 is the book's and left alone.
+/// Breaks what the names of BREAKS say, 4 to 5; 1 is about the book and is not touched.
 pub fn break_at(c: &mut Chance, t: &mut Trip, which: usize) {
     match which {
         1 => break_setting(c, t),

@@ -1,4 +1,4 @@
-//! Lines that are no calls, made from lines that are.
+//! Lines that are not calls, made from lines that are.
 
 use super::chance::Chance;
 
@@ -9,7 +9,7 @@ pub fn join(parts: &[&[u8]]) -> Vec<u8> {
     parts.concat()
 }
 
-/// The line with one of its fields put in place of another.
+/// The line with one of its fields in place of another.
 pub fn with_field(c: &mut Chance, line: &[u8], new: &[u8]) -> Vec<u8> {
     let mut fields: Vec<&[u8]> = line.split(|&b| b == b' ').collect();
     let i = c.between(1, (fields.len() as u64).max(2) - 1) as usize;
@@ -31,7 +31,7 @@ pub fn fields_changed(c: &mut Chance, line: &[u8], drop: bool) -> Vec<u8> {
     fields.join(&b' ')
 }
 
-/// A byte put in, taken out or changed anywhere; never a line feed.
+/// A byte inserted, removed or changed anywhere; never a line feed.
 pub fn byte_changed(c: &mut Chance, mut line: Vec<u8>) -> Vec<u8> {
     let i = c.below(line.len() as u64) as usize;
     let byte = match c.next() as u8 {
@@ -60,7 +60,7 @@ pub fn spaced(c: &mut Chance, line: Vec<u8>, length: usize) -> Vec<u8> {
     long
 }
 
-/// Every decimal of twenty digits, zeros before: the longest form of a line, which is read as it was.
+/// Every decimal with twenty digits and leading zeros: the longest form of a line, with the same meaning.
 pub fn twenty_digits(line: &[u8]) -> Vec<u8> {
     let padded = |field: &[u8]| {
         let decimal = field.len() < 16 && field.iter().all(u8::is_ascii_digit) && !field.is_empty();

@@ -1,4 +1,4 @@
-//! What a call is made for: a book with its entries.
+//! A book with its entries, for which calls are made.
 
 use super::books::entries;
 use super::chance::Chance;
