@@ -1,5 +1,5 @@
-//! Document 01 written a second time, in plain Rust, from the document alone.
-//! Every call is total: a refusal is the document's number in `Err`.
+//! Document 01 written a second time, in plain Rust, from the document only. Every call is total: a refusal is the document's
+//! number in `Err`.
 
 pub mod ask;
 pub mod book;
@@ -8,6 +8,7 @@ pub mod conic;
 pub mod extras;
 pub mod fields;
 pub mod fixed;
+pub mod holds;
 pub mod hour;
 pub mod listing;
 pub mod motion;

@@ -16,10 +16,11 @@ pub enum Pane {
     Two(State, State),
 }
 
-/// What a frame gets where it is not refused: a position in km, by how many milliseconds it is late, or nothing.
+/// The answer to a frame that is not refused: a position in km, or position and velocity; how many milliseconds it is late; or
+/// nothing.
 #[derive(Clone, Copy, Debug, PartialEq)]
-pub enum Frame {
-    Current(Vector),
+pub enum Frame<T = Vector> {
+    Current(T),
     Late(u64),
     Empty,
 }
@@ -33,7 +34,7 @@ impl Pane {
         }
     }
 
-    /// With a state more; 18 where its centre is not that of the last one or its moment is not later. Nothing else is judged.
+    /// With one more state; 18 if its centre is not that of the last one or its moment is not later. Nothing else is checked.
     pub fn take(&self, s: &State) -> Result<Pane, u64> {
         match self.newer() {
             None => Ok(Pane::One(*s)),
@@ -42,7 +43,7 @@ impl Pane {
         }
     }
 
-    /// With what a run answers: its state, and after a refused run as it was.
+    /// With the answer of a run: its state, or unchanged after a refused run.
     pub fn feed(&self, outcome: Outcome, s: &State) -> Result<Pane, u64> {
         match outcome {
             Outcome::Arrived | Outcome::Going => self.take(s),
@@ -50,7 +51,7 @@ impl Pane {
         }
     }
 
-    /// What is on air at a moment; 7 where the figure is not finite.
+    /// What is on air at a moment; 7 if the figure is not finite.
     pub fn frame(&self, t: u64) -> Result<Frame, u64> {
         let Pane::Two(older, newer) = self else { return Ok(Frame::Empty) };
         if t < older.moment {
@@ -66,9 +67,47 @@ impl Pane {
             Err(7)
         }
     }
+
+    /// The same with the velocity, in km/s, after the position; 7 if one of the six is not finite.
+    pub fn frame_motion(&self, t: u64) -> Result<Frame<[Vector; 2]>, u64> {
+        match (self.frame(t)?, self) {
+            (Frame::Current(position), Pane::Two(older, newer)) => {
+                let velocity = speed(older, newer, t);
+                if finite(velocity) {
+                    Ok(Frame::Current([position, velocity]))
+                } else {
+                    Err(7)
+                }
+            }
+            (Frame::Late(by), _) => Ok(Frame::Late(by)),
+            _ => Ok(Frame::Empty),
+        }
+    }
 }
 
-/// The position at a moment from the older state's to the newer one's: at either end that state's own.
+/// The velocity at a moment between the two states: at either end that of the state.
+pub fn speed(older: &State, newer: &State, t: u64) -> Vector {
+    if t == older.moment {
+        return older.velocity;
+    }
+    if t == newer.moment {
+        return newer.velocity;
+    }
+    let (whole, part) = ((newer.moment - older.moment) as f64, (t - older.moment) as f64);
+    let (p0, v0, p1, v1) = (older.position, older.velocity, newer.position, newer.velocity);
+    [0, 1, 2].map(|i| slope(whole / 1000.0, part / whole, [p0[i], v0[i]], [p1[i], v1[i]]))
+}
+
+/// One component of the time derivative of the cubic: (m0 + s·(2·c2 + s·(3·c3)))/D, with m0, c2 and c3 of the cubic.
+pub fn slope(d: f64, s: f64, [p0, v0]: [f64; 2], [p1, v1]: [f64; 2]) -> f64 {
+    let (m0, m1) = (d * v0, d * v1);
+    let e = p1 - p0;
+    let c2 = (3.0 * e - 2.0 * m0) - m1;
+    let c3 = (m0 + m1) - 2.0 * e;
+    (m0 + s * (2.0 * c2 + s * (3.0 * c3))) / d
+}
+
+/// The position at a moment between the two states: at either end that of the state.
 pub fn figure(older: &State, newer: &State, t: u64) -> Vector {
     if t == older.moment {
         older.position
@@ -88,7 +127,7 @@ pub fn between(older: &State, newer: &State, t: u64) -> Vector {
     [0, 1, 2].map(|i| cubic(d, s, [p0[i], v0[i]], [p1[i], v1[i]]))
 }
 
-/// One component, from position and velocity at both ends that lie D seconds apart:
+/// One component, from position and velocity at both ends, D seconds apart:
 /// p0 + s·(m0 + s·(c2 + s·c3)) with c2 = (3·e - 2·m0) - m1 and c3 = (m0 + m1) - 2·e.
 pub fn cubic(d: f64, s: f64, [p0, v0]: [f64; 2], [p1, v1]: [f64; 2]) -> f64 {
     let (m0, m1) = (d * v0, d * v1);
@@ -107,13 +146,13 @@ pub enum Line {
     Frame(u64),
 }
 
-/// What a refused run hands back may hold a NaN, which ask tells as `nan`: any that can be read, for it is not kept.
+/// The state of a refused run may have a NaN, which ask prints as `nan`. Any readable state is allowed, because it is not kept.
 fn with_nans<'a>(fields: &[&'a [u8]]) -> Vec<&'a [u8]> {
     let readable = |(i, &field): (usize, &&'a [u8])| if i >= 2 && field == b"nan" { &b"7ff8000000000000"[..] } else { field };
     fields.iter().enumerate().map(readable).collect()
 }
 
-/// Outcome, steps, state and guesses, as a run answers them.
+/// Outcome, steps, state and guesses, as in the answer of a run.
 fn read_feed(f: &[&[u8]]) -> Option<Line> {
     let (outcome, rest) = match f {
         [b"ARRIVED", rest @ ..] => (Outcome::Arrived, rest),
@@ -132,7 +171,7 @@ fn read_feed(f: &[&[u8]]) -> Option<Line> {
     Some(Line::Feed(outcome, state))
 }
 
-/// A line without its line feed; None when it is unreadable.
+/// A line without its line feed; None if it is unreadable.
 pub fn read(line: &[u8]) -> Option<Line> {
     let fields: Vec<&[u8]> = line.split(|&b| b == b' ').collect();
     match &fields[..] {
@@ -144,7 +183,7 @@ pub fn read(line: &[u8]) -> Option<Line> {
     }
 }
 
-/// A frame's answer as it is told.
+/// The answer to a frame as it is printed.
 pub fn frame_shown(frame: Result<Frame, u64>) -> String {
     match frame {
         Ok(Frame::Current(position)) => format!("CURRENT {}", all_shown(&position)),
@@ -155,7 +194,7 @@ pub fn frame_shown(frame: Result<Frame, u64>) -> String {
 }
 
 impl Pane {
-    /// The pane with a state more, or as it was where that is refused; and what is told.
+    /// The pane with one more state, or unchanged if that is refused; and what is printed.
     fn kept(&mut self, new: Result<Pane, u64>, done: &str) -> String {
         match new {
             Ok(pane) => {
@@ -181,7 +220,7 @@ impl Pane {
     }
 }
 
-/// The program: each line answered as it comes. An empty last piece is no line.
+/// The program: answers each line as it comes. An empty last piece is not a line.
 pub fn live(mut input: impl BufRead, out: &mut impl Write) -> io::Result<()> {
     let (mut pane, mut piece) = (Pane::Clear, Vec::new());
     while input.read_until(b'\n', &mut piece)? > 0 {
