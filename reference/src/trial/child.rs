@@ -1,4 +1,4 @@
-//! Starting a program with an input and taking its output.
+//! Starts a program with an input and takes its output.
 
 use std::io::{Read, Write};
 use std::path::Path;
@@ -14,7 +14,7 @@ pub struct Said {
     pub ended: String,
 }
 
-/// Wait for the end until a time, then end the child.
+/// Waits for the end until a time, then ends the child.
 pub fn wait(child: &mut Child, until: Instant) -> String {
     loop {
         match child.try_wait() {
@@ -46,7 +46,7 @@ pub fn talk(
     let stdin = child.stdin.take();
     let stdout = child.stdout.take();
     Ok(scope(|s| {
-        // A program that ends early breaks the pipe: its output tells.
+        // A program that ends early breaks the pipe: its output shows that.
         s.spawn(move || stdin.map(|mut pipe| pipe.write_all(input)));
         let (send, receive) = channel();
         s.spawn(move || {
@@ -63,13 +63,18 @@ pub fn talk(
     }))
 }
 
-/// Standard output and standard error of a program started with a word behind and an input.
+/// Standard output and standard error of a program started with one more word and an input.
 pub fn talk_both(command: &[String], word: Option<&str>, input: &[u8]) -> Result<(Vec<u8>, Vec<u8>), String> {
+    talk_with(command, &word.iter().map(Path::new).collect::<Vec<_>>(), input)
+}
+
+/// The same with any number of words.
+pub fn talk_with(command: &[String], behind: &[&Path], input: &[u8]) -> Result<(Vec<u8>, Vec<u8>), String> {
     let (program, words) = command.split_first().ok_or("no program given")?;
     let told = |error| format!("{program}: {error}");
     let mut child = Command::new(program)
         .args(words)
-        .args(word)
+        .args(behind)
         .stdin(Stdio::piped())
         .stdout(Stdio::piped())
         .stderr(Stdio::piped())
@@ -90,7 +95,7 @@ pub fn talk_both(command: &[String], word: Option<&str>, input: &[u8]) -> Result
     Ok((output, reader.join().map_err(|_| "the report was not read")?))
 }
 
-/// An output line by line, with their line feeds: so many at most, and what comes behind the last of them belongs to it.
+/// An output as lines with their line feeds, at most that many. The rest after the last of them belongs to it.
 pub fn by_line(output: &[u8], most: usize) -> Vec<Vec<u8>> {
     let lines: Vec<&[u8]> = output.split_inclusive(|&b| b == b'\n').collect();
     let last = most.saturating_sub(1).min(lines.len());
