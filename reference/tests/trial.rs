@@ -1,4 +1,4 @@
-//! The generators reach what they are made for, and the comparing can fail.
+//! The generators reach what they are made for, and the comparison can fail.
 
 use std::collections::BTreeSet;
 
@@ -10,13 +10,13 @@ use reference::trial::books::{build, pieces, special, sturdy};
 use reference::trial::chance::Chance;
 use reference::trial::child::Said;
 use reference::trial::compare::{group_input, Tally};
-use reference::trial::plan::{groups, strips, strips144, KINDS};
+use reference::trial::plan::{groups, names, strips, strips144};
 use reference::trial::trip::{break_at, trip, BREAKS};
 use reference::trial::world::World;
 use reference::trial::{damage, sizes};
 
 fn kinds() -> Vec<&'static str> {
-    KINDS.iter().map(|(k, _)| *k).collect()
+    names()
 }
 
 #[test]
@@ -90,7 +90,7 @@ fn only_the_new_component_overflows() {
     assert_eq!(seen.len(), 5);
 }
 
-/// The reference's own answers compared with themselves, with one spoiled or none.
+/// The reference's own answers compared with themselves, one spoiled or none.
 fn tally(spoil: usize) -> Tally {
     let mut c = Chance::new(11);
     let mut tally = Tally { spoil, ..Tally::default() };
@@ -154,7 +154,7 @@ fn numbers_of_calls_and_strips_are_as_asked() {
     }
 }
 
-/// Each file of the driver with its stage and the files that it names.
+/// Each file of the driver with its stage and the files that it uses.
 fn imports() -> Vec<(String, usize, Vec<String>)> {
     let folder = format!("{}/src/trial", env!("CARGO_MANIFEST_DIR"));
     let read = |name: &str| std::fs::read_to_string(format!("{folder}/{name}.rs")).expect(name);

@@ -40,13 +40,23 @@ pub fn build(pieces: &[Piece]) -> Vec<u8> {
     book
 }
 
+/// The pieces of a book that passes.
+pub fn taken_apart(book: &[u8]) -> Vec<Piece> {
+    let coefficient = |at: usize| f64::from_le_bytes(book[at..at + 8].try_into().expect("eight bytes"));
+    let piece = |e: Entry| {
+        let coefficients = (0..3 * usize::from(e.n)).map(|k| coefficient(e.offset as usize + 8 * k)).collect();
+        Piece { body: e.body, start: e.start, span: e.span, coefficients }
+    };
+    entries(book).into_iter().map(piece).collect()
+}
+
 /// All entries of a book that passes.
 pub fn entries(book: &[u8]) -> Vec<Entry> {
     let count = crate::book::count(book) as usize;
     (0..count).map_while(|i| crate::book::entry(book, i)).collect()
 }
 
-/// Coefficients as a body has them, and one in so many times others.
+/// Coefficients as a body has them; one time in `others`, other ones.
 pub fn coefficients(c: &mut Chance, n: u16, others: u64) -> Vec<f64> {
     let style = if c.one_in(others) { c.below(5) } else { 5 };
     let size = c.pick(&[2e5, 4e5, 1e8, 5e8]);
@@ -66,7 +76,7 @@ pub fn coefficients(c: &mut Chance, n: u16, others: u64) -> Vec<f64> {
     list
 }
 
-/// Cuts of a window into at most `most` spans, some with a gap behind them.
+/// Cuts of a window into at most `most` spans, some followed by a gap.
 pub fn spans(c: &mut Chance, first: u64, width: u64, most: u64) -> Vec<(u64, u64)> {
     let mut cuts = vec![first, first + width];
     for _ in 1..c.between(1, most) {
@@ -116,7 +126,7 @@ pub fn pieces(c: &mut Chance) -> Vec<Piece> {
     list
 }
 
-/// Two bodies at least, of which the first has two entries that touch.
+/// At least two bodies; the first has two entries that touch.
 pub fn sturdy(c: &mut Chance) -> Vec<Piece> {
     let start = c.between(1000, END / 2);
     let mut list = Vec::new();
@@ -128,11 +138,11 @@ pub fn sturdy(c: &mut Chance) -> Vec<Piece> {
     list
 }
 
-/// A book of as many units of 24 bytes behind its head as wished, by one body.
+/// A book with a given number of units of 24 bytes after its head, all of one body.
 pub fn long(c: &mut Chance, units: usize) -> Vec<Piece> {
     let (mut left, mut list) = (units, Vec::new());
     while left >= 3 {
-        // An entry takes n + 1 units; no rest of 1 or 2 may stay behind.
+        // An entry takes n + 1 units; a rest of 1 or 2 must not remain.
         let n = if left <= 17 { left - 1 } else if left - 17 < 3 { 13 } else { 16 };
         let coefficients = (0..3 * n).map(|_| c.within(4e5)).collect();
         list.push(Piece { body: 2, start: 1000 * list.len() as u64, span: 1000, coefficients });
@@ -151,8 +161,8 @@ pub fn zeros(c: &mut Chance) -> Vec<Piece> {
     (0..30).map(|i| piece(c, i)).collect()
 }
 
-/// A body by entries of two milliseconds. At the middle of each it stands still where it should, and in
-/// every third its velocity overflows there; the last of those is not above the floats by a little.
+/// A body with entries of two milliseconds. At the middle of each its position is ordinary. In some its velocity overflows there,
+/// in others it only just does not.
 pub fn fast(body: u16) -> Vec<Piece> {
     let slope = |i: u64| match i % 6 {
         2 => 1e306,
@@ -163,26 +173,26 @@ pub fn fast(body: u16) -> Vec<Piece> {
     (0..30).map(|i| Piece { body, start: 2 * i, span: 2, coefficients: axes(i) }).collect()
 }
 
-/// The Moon and Venus as far out as floats go, the Sun on the other side: a difference of two may overflow.
+/// The Moon and Venus as far out as floats reach, the Sun on the other side: a difference of two may overflow.
 pub fn far_apart() -> Vec<Piece> {
     let at = |body, x: f64| Piece { body, start: 0, span: 10_000_000, coefficients: vec![x, 0.0, x, 0.0, 4e5, 1.0] };
     vec![at(2, 1.7e308), at(3, -1.7e308), at(4, 1.7e308)]
 }
 
-/// The Moon and the Sun at the greatest speed, one against the other, by entries of a millisecond.
+/// The Moon and the Sun at the greatest speed, in opposite directions, with entries of a millisecond.
 pub fn fast_apart() -> Vec<Piece> {
     let at = |body, i, slope: f64| Piece { body, start: i, span: 1, coefficients: vec![4e5, slope, 2e5, 1.0, 1e5, -slope] };
     [(2, 8.5e304), (3, -8.5e304)].iter().flat_map(|&(body, slope)| (0..40).map(move |i| at(body, i, slope))).collect()
 }
 
-/// The Moon all the time, and for half of it the Sun on the Earth's centre.
+/// The Moon all the time, and the Sun on the centre of the Earth for half of it.
 pub fn sun_at_home() -> Vec<Piece> {
     let moon = vec![3e5, 1e4, 2e5, -1e4, 1e5, 1e3];
     let piece = |body, span, coefficients| Piece { body, start: 0, span, coefficients };
     vec![piece(2, 10_000_000, moon), piece(3, 5_000_000, vec![0.0; 6])]
 }
 
-/// Books that pass and are of a kind of their own.
+/// Special books that pass.
 pub fn special(c: &mut Chance) -> Vec<(&'static str, Vec<u8>)> {
     let whole = Piece { body: 6, start: 0, span: END, coefficients: coefficients(c, 16, 1000) };
     let last = Piece { body: 2, start: END - 1, span: 1, coefficients: vec![4.0; 6] };

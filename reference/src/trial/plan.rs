@@ -7,18 +7,79 @@ use super::chance::Chance;
 use super::stored::STORED;
 use super::strips::{journey, strip, strip144, Strip};
 use super::terms::TERMS;
-use super::trip::Trip;
+use super::trip::{RunCase, Trip};
 use super::world::{Case, World};
-use super::{damage, earth, journeys, leaves, lookups, moving, runs, spheres, states, terms, unreadable};
+use super::{almanac, damage, earth, journeys, lookups, moving, runs, spheres, states, terms, unreadable};
 
-/// All kinds of call, with their share of 200; a journey is lines of fly and move, `earth` is old lines beside new ones, `terms`
-/// is lines of fly, pull, inject and move with J, A and K, and `stored` is lines of fly whose acceleration is the rule's or not.
-pub const KINDS: [(&str, usize); 23] = [
-    ("root", 9), ("sincos", 6), ("hour", 6), ("sidereal", 7), ("date", 4), ("day", 5), ("fixed", 5),
-    ("turn", 5), ("sphere", 6), ("conic", 7), ("unreadable", 5), ("body", 8), ("accel", 9), ("run", 18),
-    ("pull", 8), ("move", 10), ("fly", 9), ("journey", 7), ("orbit", 2), ("earth", 4), ("terms", 30),
-    ("inject", 10), ("stored", 20),
+use self::Source::{Centred, Garbled, Lines, Orbits, Trips};
+
+/// The source of the lines of a kind.
+pub enum Source {
+    /// Lines, case by case.
+    Lines(&'static [Case]),
+    /// Lines of a conic with a centre inserted.
+    Orbits(&'static [Case]),
+    /// Trips, case by case.
+    Trips(&'static [RunCase], TripLine),
+    /// Trips with a centre added, followed by cases about a centre.
+    Centred(&'static [RunCase], TripLine),
+    /// Lines of the other kinds made unreadable.
+    Garbled,
+}
+
+/// How a trip becomes a line.
+pub type TripLine = fn(&mut Chance, &World, &Trip) -> String;
+
+/// A kind of call: its share of 200, whether it needs a book, and its cases.
+pub struct Kind {
+    pub name: &'static str,
+    pub share: usize,
+    pub book: bool,
+    pub source: Source,
+}
+
+const fn kind(name: &'static str, share: usize, book: bool, source: Source) -> Kind {
+    Kind { name, share, book, source }
+}
+
+/// The cases of `differ`. A journey is lines of fly and move, and `earth` is old lines with their new ones. `terms` is lines of
+/// fly, pull, inject and move with J, A and K. `stored` is lines of fly whose acceleration is the rule's or not.
+pub const KINDS: [Kind; 23] = [
+    kind("root", 9, false, Lines(almanac::ROOT)),
+    kind("sincos", 6, false, Lines(almanac::SINCOS)),
+    kind("hour", 6, false, Lines(almanac::HOUR)),
+    kind("sidereal", 7, false, Lines(almanac::SIDEREAL)),
+    kind("date", 4, false, Lines(almanac::DATE)),
+    kind("day", 5, false, Lines(almanac::DAY_OF)),
+    kind("fixed", 5, false, Lines(states::FIXED)),
+    kind("turn", 5, false, Lines(states::TURN)),
+    kind("sphere", 6, false, Lines(spheres::SPHERE)),
+    kind("conic", 7, false, Lines(states::CONIC)),
+    kind("unreadable", 5, false, Garbled),
+    kind("body", 8, true, Lines(lookups::BODY)),
+    kind("accel", 9, true, Trips(lookups::ACCEL, |_, _, t| t.accel_line())),
+    kind("run", 18, true, Trips(runs::RUN, |_, _, t| t.run_line())),
+    kind("pull", 8, true, Centred(lookups::ACCEL, |_, _, t| t.pull_line())),
+    kind("move", 10, true, Lines(moving::MOVE)),
+    kind("fly", 9, true, Centred(runs::RUN, |_, w, t| t.kept(w.bytes()).fly_line())),
+    kind("journey", 7, true, Lines(journeys::JOURNEY)),
+    kind("orbit", 2, false, Orbits(states::CONIC)),
+    kind("earth", 4, true, Lines(earth::EARTH)),
+    kind("terms", 30, true, Trips(TERMS, terms::line)),
+    kind("inject", 10, true, Centred(runs::RUN, |_, _, t| t.inject_line())),
+    kind("stored", 20, true, Trips(STORED, |_, _, t| t.fly_line())),
 ];
+
+/// The kind of that name; the names are those of the table.
+fn named(name: &str) -> &'static Kind {
+    static TABLE: [Kind; 23] = KINDS;
+    TABLE.iter().find(|kind| kind.name == name).unwrap_or(&TABLE[0])
+}
+
+/// The names of all kinds.
+pub fn names() -> Vec<&'static str> {
+    KINDS.iter().map(|kind| kind.name).collect()
+}
 
 #[derive(Clone, Debug)]
 pub struct Call {
@@ -36,84 +97,52 @@ pub struct Group {
     pub last_feed: bool,
 }
 
-pub fn cases(kind: &str) -> &'static [Case] {
-    match kind {
-        "root" => leaves::ROOT,
-        "sincos" => leaves::SINCOS,
-        "hour" => leaves::HOUR,
-        "sidereal" => leaves::SIDEREAL,
-        "date" => leaves::DATE,
-        "day" => leaves::DAY_OF,
-        "fixed" => states::FIXED,
-        "sphere" => spheres::SPHERE,
-        "turn" => states::TURN,
-        "conic" | "orbit" => states::CONIC,
-        "move" => moving::MOVE,
-        "journey" => journeys::JOURNEY,
-        "earth" => earth::EARTH,
-        _ => lookups::BODY,
-    }
-}
-
-/// Trips of the i-th sort for a kind that is made of them, with the sort's name; those of a new line have a centre.
-pub fn trips(c: &mut Chance, w: &World, kind: &str, i: usize) -> Option<(&'static str, Vec<(String, Trip)>)> {
-    let (old, new) = match kind {
-        "run" => (runs::RUN, false),
-        "fly" => (runs::RUN, true),
-        "accel" => (lookups::ACCEL, false),
-        "inject" => (runs::RUN, true),
-        "pull" => (lookups::ACCEL, true),
-        "terms" | "stored" => {
-            let list = if kind == "terms" { TERMS } else { STORED };
-            let (name, make) = list[i % list.len()];
-            return Some((name, make(c, w)));
-        }
-        _ => return None,
-    };
-    let i = i % (old.len() + if new { ABOUT.len() } else { 0 });
-    let Some((name, make)) = old.get(i) else {
-        let (name, make) = ABOUT[i - old.len()];
-        return Some((name, make(c, w)));
-    };
-    let mut list = make(c, w);
-    if new {
-        list = list.into_iter().map(|(note, t)| (note, centred(c, t))).collect();
-    }
-    Some((name, list))
-}
-
-pub fn trip_line(c: &mut Chance, w: &World, kind: &str, t: &Trip) -> String {
-    match kind {
-        "run" => t.run_line(),
-        "fly" => t.kept(w.bytes()).fly_line(),
-        "stored" => t.fly_line(),
-        "inject" => t.inject_line(),
-        "accel" => t.accel_line(),
-        "terms" => terms::line(c, w, t),
-        _ => t.pull_line(),
-    }
+/// The i-th case of a list.
+fn pick<T: Copy>(list: &[T], i: usize) -> T {
+    list[i % list.len()]
 }
 
 /// Calls of one kind by its i-th case; at least one.
-pub fn made(c: &mut Chance, w: &World, kind: &'static str, i: usize) -> Vec<Call> {
-    if let Some((name, list)) = trips(c, w, kind, i) {
-        let mut made = |(note, t): &(String, Trip)| call(kind, &format!("{name} {note}"), trip_line(c, w, kind, t));
-        return list.iter().map(&mut made).collect();
-    }
-    let list = cases(kind);
-    let (name, make) = list[i % list.len()];
-    let mut lines = make(c, w);
-    if kind == "orbit" {
-        lines = lines.iter().map(|line| states::orbit_of(c, line)).collect();
-    }
-    lines.into_iter().map(|line| call(kind, name, line)).collect()
+pub fn made(c: &mut Chance, w: &World, name: &'static str, i: usize) -> Vec<Call> {
+    let (case, lines) = match &named(name).source {
+        Lines(list) => {
+            let (case, make) = pick(list, i);
+            (case, make(c, w))
+        }
+        Orbits(list) => {
+            let (case, make) = pick(list, i);
+            let lines = make(c, w);
+            (case, lines.iter().map(|line| states::orbit_of(c, line)).collect())
+        }
+        Trips(list, line) => {
+            let (case, make) = pick(list, i);
+            let trips = make(c, w);
+            return told(c, w, name, case, trips, *line);
+        }
+        Centred(list, line) => {
+            let i = i % (list.len() + ABOUT.len());
+            let (case, make) = if i < list.len() { list[i] } else { ABOUT[i - list.len()] };
+            let mut trips = make(c, w);
+            if i < list.len() {
+                trips = trips.into_iter().map(|(note, t)| (note, centred(c, t))).collect();
+            }
+            return told(c, w, name, case, trips, *line);
+        }
+        Garbled => return vec![garbled(c, &["root"], i)],
+    };
+    lines.into_iter().map(|line| call(name, case, line)).collect()
+}
+
+/// The lines of trips.
+fn told(c: &mut Chance, w: &World, name: &'static str, case: &str, trips: Vec<(String, Trip)>, line: TripLine) -> Vec<Call> {
+    trips.iter().map(|(note, t)| call(name, &format!("{case} {note}"), line(c, w, t))).collect()
 }
 
 pub fn call(kind: &'static str, case: &str, line: String) -> Call {
     Call { kind, case: case.trim_end().to_string(), line: line.into_bytes() }
 }
 
-/// A line that is no call, from a call of one of the kinds asked for.
+/// A line that is not a call, made from a call of one of the chosen kinds.
 pub fn garbled(c: &mut Chance, kinds: &[&'static str], i: usize) -> Call {
     let kind = c.pick(kinds);
     let any = c.below(1000) as usize;
@@ -124,18 +153,14 @@ pub fn garbled(c: &mut Chance, kinds: &[&'static str], i: usize) -> Call {
 
 /// How many calls each kind gets: shares of the whole, the rest to the first.
 pub fn counts(calls: usize, kinds: &[&'static str]) -> Vec<(&'static str, usize)> {
-    let asked: Vec<_> = KINDS.iter().filter(|(k, _)| kinds.contains(k)).collect();
-    let whole: usize = asked.iter().map(|(_, share)| share).sum();
-    let mut list: Vec<_> = asked.iter().map(|(k, share)| (*k, calls * share / whole.max(1))).collect();
+    let asked: Vec<_> = KINDS.iter().filter(|kind| kinds.contains(&kind.name)).collect();
+    let whole: usize = asked.iter().map(|kind| kind.share).sum();
+    let mut list: Vec<_> = asked.iter().map(|kind| (kind.name, calls * kind.share / whole.max(1))).collect();
     let given: usize = list.iter().map(|(_, n)| n).sum();
     if let Some(first) = list.first_mut() {
         first.1 += calls - given;
     }
     list
-}
-
-pub fn needs_book(kind: &str) -> bool {
-    matches!(kind, "body" | "accel" | "run" | "pull" | "move" | "inject" | "fly" | "journey" | "earth" | "terms" | "stored")
 }
 
 /// Books: none, the real ones, special ones, random ones and damaged ones.
@@ -156,7 +181,7 @@ pub fn worlds(c: &mut Chance, real: &[(String, Vec<u8>)]) -> Vec<World> {
     list
 }
 
-/// The j-th world's part of a number, by weight; the parts add up to it.
+/// The share of the j-th world in a number, by weight; the shares add up to it.
 pub fn part(n: usize, worlds: &[World], j: usize) -> usize {
     let before: usize = worlds[..j].iter().map(|w| w.weight).sum();
     let whole: usize = worlds.iter().map(|w| w.weight).sum();
@@ -173,7 +198,7 @@ pub fn group(c: &mut Chance, world: World, mut calls: Vec<Call>) -> Group {
 pub fn plain_groups(c: &mut Chance, counts: &[(&'static str, usize)]) -> Vec<Group> {
     let kinds: Vec<_> = counts.iter().map(|(k, _)| *k).filter(|k| *k != "unreadable").collect();
     let mut calls = Vec::new();
-    for &(kind, n) in counts.iter().filter(|(k, _)| !needs_book(k)) {
+    for &(kind, n) in counts.iter().filter(|(k, _)| !named(k).book) {
         for i in 0..n {
             if kind == "unreadable" {
                 let from = if kinds.is_empty() { &["root"][..] } else { &kinds };
@@ -192,7 +217,7 @@ pub fn book_groups(c: &mut Chance, counts: &[(&'static str, usize)], worlds: &[W
     let mut groups = Vec::new();
     for (j, world) in worlds.iter().enumerate() {
         let mut calls = Vec::new();
-        for &(kind, n) in counts.iter().filter(|(k, _)| needs_book(k)) {
+        for &(kind, n) in counts.iter().filter(|(k, _)| named(k).book) {
             let (wish, mut own) = (part(n, worlds, j), Vec::new());
             let mut i = c.below(100) as usize;
             while own.len() < wish {
@@ -209,7 +234,7 @@ pub fn book_groups(c: &mut Chance, counts: &[(&'static str, usize)], worlds: &[W
     groups
 }
 
-/// All groups for so many calls of these kinds.
+/// All groups for that many calls of these kinds.
 pub fn groups(
     c: &mut Chance, calls: usize, kinds: &[&'static str], real: &[(String, Vec<u8>)],
 ) -> Vec<Group> {
