@@ -1,10 +1,11 @@
-//! JPL's check case 1 without the oblate Earth and with it, beside the positions that document 000 prints, as docs/FLIGHT.md tells it.
+//! JPL's check case 1 without the oblate Earth and with it, compared with the positions that document 000 prints, as docs/FLIGHT.md
+//! describes.
 
 use reference::fixed::{precession, product, turned};
 use reference::motion::{of_an_order, run};
 use reference::rule::State;
 use reference::strip::{read_either, Order};
-use reference::trial::moonward::{flight, Said};
+use reference::trial::moon::{flight, Said};
 use reference::vector::{n, sub, Vector};
 
 fn files(order: &str) -> (Order, Vec<u8>) {
@@ -12,7 +13,8 @@ fn files(order: &str) -> (Order, Vec<u8>) {
     (read_either(&order).unwrap(), std::fs::read("../data/books/book31all.bin").unwrap())
 }
 
-/// The greatest terms of the IAU 1980 nutation: multiples of D, M, M', F and the node, then of longitude and obliquity in 0.0001".
+/// The greatest terms of the IAU 1980 nutation: multiples of D, M, M', F and the node, then those of longitude and obliquity in
+/// 0.0001".
 const TERMS: [([f64; 5], f64, f64); 9] = [
     ([0.0, 0.0, 0.0, 0.0, 1.0], -171_996.0, 92_025.0),
     ([-2.0, 0.0, 0.0, 2.0, 2.0], -13_187.0, 5_736.0),
@@ -45,13 +47,13 @@ fn nutation(moment: u64) -> [Vector; 3] {
     product(tilt(-(mean + obliquity * unit)), product([[c, s, 0.0], [-s, c, 0.0], [0.0, 0.0, 1.0]], tilt(mean)))
 }
 
-/// How far a 1950.0 position lies from one on the true equator of date, and by how much it is farther out.
+/// The distance of a 1950.0 position from one on the true equator of date, and how much farther out it is.
 fn apart(s: &State, printed: Vector) -> (f64, f64) {
     let p = turned(product(nutation(s.moment), precession(s.moment)), s.position);
     (n(sub(p, printed)).sqrt(), n(s.position).sqrt() - n(printed).sqrt())
 }
 
-/// JPL's X, Y, Z after so many hours; then distance and range of each order.
+/// JPL's X, Y, Z after a number of hours; then distance and range of each order.
 const PRINTED: [(u64, Vector, [(f64, f64); 2]); 10] = [
     (1, [-17_560.347, 12_524.493, -9_615.54], [(28.63, 15.32), (0.06, 0.03)]),
     (6, [-84_114.4, 6_505.9352, -15_548.877], [(221.79, 139.97), (0.46, 0.28)]),
@@ -81,7 +83,7 @@ fn from_the_earth() {
     }
 }
 
-/// Where JPL changes the centre, four hours on, and where its craft strikes the Moon.
+/// Where JPL changes the centre, four hours after that, and where its craft hits the Moon.
 #[test]
 fn from_the_moon() {
     let printed = [[33_320.198, -17_050.552, -14_108.259], [16_618.444, -8_994.4889, -7_269.0611], [1_056.0991, -1_165.0243, -740.4929]];

@@ -1,4 +1,4 @@
-//! Pairs of books, of which the second is fuller, and the comparing of what is asked under both.
+//! Pairs of books, of which the second is fuller, and the comparison of the answers under both.
 
 use std::collections::BTreeSet;
 
@@ -6,11 +6,11 @@ use reference::trial::books::{build, pieces};
 use reference::trial::chance::Chance;
 use reference::trial::fuller::{added, fuller, holds_all, pairs, taken_apart, thinner, Added, Pair, ADDED};
 use reference::trial::lines::{most_steps, start_of, with_budget, with_guesses};
-use reference::trial::nights::{nights, Night};
+use reference::trial::fuller_nights::{nights, Night};
 use reference::trial::unchanged::{asked, Check, Program, Verdict};
 use reference::{ask, book, strip};
 
-/// The reference itself, under a book as another makes it.
+/// The reference itself, under a book that a function may change.
 struct Own(fn(&[u8]) -> Vec<u8>);
 
 impl Program for Own {
@@ -117,7 +117,7 @@ fn every_spoiled_answer_is_seen() {
     assert!(compared.iter().all(|check| check.spoiled().verdict().wrong().is_some()));
 }
 
-/// Wrong programs, by the book that they answer from: one that is not the book given where it has more than a few entries.
+/// Wrong programs, given by the book that they use: if the given book has more than a few entries, they use another.
 #[test]
 fn a_figure_that_changes_is_seen() {
     let spoiled: fn(&[u8]) -> Vec<u8> = |book| {

@@ -1,11 +1,11 @@
-//! The flight to the Moon as docs/FLIGHT.md tells it.
+//! The flight to the Moon as docs/FLIGHT.md describes it.
 
 use reference::ask::answer;
 use reference::motion::run;
 use reference::rule::State;
 use reference::moves::moved;
 use reference::strip::{read_order, Order};
-use reference::trial::moonward::{flight, Said};
+use reference::trial::moon::{flight, Said};
 use reference::vector::n;
 
 fn files() -> (Order, Vec<u8>) {
@@ -13,7 +13,7 @@ fn files() -> (Order, Vec<u8>) {
     (read_order(&order).unwrap(), std::fs::read("../data/books/book31all.bin").unwrap())
 }
 
-/// Range and speed from the Moon where the flight is moved, four hours on, and at its end.
+/// Range and speed from the Moon at the change of centre, four hours after it, and at the end.
 #[test]
 fn figures_from_the_moon() {
     let (order, book) = files();
@@ -26,7 +26,7 @@ fn figures_from_the_moon() {
         let (r, v) = (n(states[i].position).sqrt(), n(states[i].velocity).sqrt());
         assert!((r - range).abs() < 0.06 && (v - speed).abs() < 0.000006, "{r} {v}");
     }
-    // Flown about the Earth all the way it comes to the same place, within 15 cm.
+    // Flown about the Earth all the way it reaches the same place, within 15 cm.
     let (here, there) = (states[2], states[4]);
     let ran = run(&book, &order.setting, &here, 60_000, there.moment, u32::MAX, [0; 5]);
     let other = moved(&book, &order.setting, &ran.state, 2).unwrap();
@@ -40,7 +40,7 @@ fn changed(answer: &str, field: usize, bit: u32) -> String {
     fields.join(" ")
 }
 
-/// The flight with one bit of one answer changed: of the float at a place behind the moment.
+/// The flight with one bit of one answer changed: in the float at a place after the moment.
 fn astray(order: &Order, book: &[u8], wrong: usize, place: usize, bit: u32) -> Result<Vec<Said>, String> {
     let mut asked = 0;
     flight(order, |line| {
@@ -51,8 +51,8 @@ fn astray(order: &Order, book: &[u8], wrong: usize, place: usize, bit: u32) -> R
     })
 }
 
-/// A bit of the velocity in any answer shows at the end, a bit of the acceleration is refused at the next line but by a move,
-/// and a refusal ends the flight.
+/// A bit of the velocity in any answer shows at the end. A bit of the acceleration is refused at the next line, except for a move.
+/// A refusal ends the flight.
 #[test]
 fn a_wrong_answer_is_seen() {
     let (order, book) = files();

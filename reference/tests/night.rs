@@ -4,7 +4,7 @@ use reference::motion::run;
 use reference::pane::{figure, Pane};
 use reference::strip::{read_either, Order};
 use reference::trial::books::entries;
-use reference::trial::outage::{cut, fly, watched, wrong, Night, ENDS, FIRST, GOOD, LAST, MINUTE};
+use reference::trial::night::{cut, fly, watched, wrong, Night, ENDS, FIRST, GOOD, LAST, MINUTE};
 use reference::{ask, book};
 
 fn files() -> (Order, Vec<u8>) {
@@ -38,7 +38,7 @@ fn refused_by_6_with_the_last_good_state_for_thirty_one_minutes() {
     assert_eq!(wrong(&own), None);
     assert_eq!(own.minutes.iter().filter(|m| m.step.answer.starts_with("REFUSED 6 0 ")).count() as u64, (LAST - ENDS) / MINUTE + 1);
     assert!(own.minutes.iter().filter(|m| m.moment >= ENDS).all(|m| m.whole.answer.starts_with("REFUSED 6 9 ")));
-    // With the record whole, each call arrives.
+    // With the whole record, each call arrives.
     assert!(wrong(&night(&order, &whole)).unwrap().starts_with("ARRIVED 1 "));
 }
 
@@ -57,7 +57,7 @@ fn on_the_pane_every_frame_is_late_by_the_time_gone() {
     assert!(list.iter().filter(|(_, answer)| answer.starts_with("CURRENT")).count() > 9 * 60);
 }
 
-/// Between two minutes the figure is what half a step flies to, within a millimetre.
+/// Between two minutes the figure is the result of half a step, within a millimetre.
 #[test]
 fn the_figure_is_the_flight() {
     let (order, whole) = files();

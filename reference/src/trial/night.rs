@@ -1,12 +1,12 @@
-//! A night on which the Moon's record ends at 02:10 and none follows: a journey flown minute by minute by question lines, each made from
-//! the answer before it, and the pane's lines with what has to be told.
+//! A night on which the Moon's record ends at 02:10 and none follows: a journey flown minute by minute with question lines, each
+//! made from the answer before it. Also the lines for the pane with the expected answers.
 
 use std::f64::consts::PI;
 
 use super::books::{build, Piece};
 use super::floats::hexes;
 use super::fuller::taken_apart;
-use super::moonward::{Place, Said};
+use super::moon::{Place, Said};
 use crate::extras::Extras;
 use crate::fields::STATE;
 use crate::hour::DAY;
@@ -16,7 +16,7 @@ use crate::strip::Order;
 use crate::vector::finite;
 
 pub const MINUTE: u64 = 60_000;
-/// 1963 January 14 at 02:00, where the pane gets its first state; the record's end; the last minute flown.
+/// 1963 January 14 at 02:00, when the pane gets its first state; the end of the record; the last minute flown.
 pub const FIRST: u64 = 4761 * DAY + 120 * MINUTE;
 pub const ENDS: u64 = FIRST + 10 * MINUTE;
 pub const LAST: u64 = FIRST + 41 * MINUTE;
@@ -47,7 +47,7 @@ fn front(p: &Piece, span: u64) -> Piece {
     Piece { span, coefficients, ..p.clone() }
 }
 
-/// A book whose record of the Moon ends at a moment, with none behind it; other bodies have theirs.
+/// A book whose record of the Moon ends at a moment, with none after it; other bodies keep theirs.
 pub fn cut(book: &[u8], end: u64) -> Vec<u8> {
     let mut list = taken_apart(book);
     list.retain(|p| p.body != MOON || p.start < end);
@@ -87,8 +87,8 @@ fn fly_line(setting: &str, place: &Place, target: u64) -> String {
     format!("fly {setting} {} {MINUTE} {target} {BUDGET} {}", place.state.join(" "), place.guesses.join(" "))
 }
 
-/// The journey of an order, injected on the whole minute before its own moment, by whatever answers a line. After a refused call the
-/// next one starts where that one did.
+/// The journey of an order, injected on the whole minute before its own moment, with any function that answers a line. After a
+/// refused call the next one starts from the same state.
 pub fn fly(order: &Order, mut say: impl FnMut(&str) -> Result<String, String>) -> Result<Night, String> {
     let mut asked = |line: String| say(&line).map(|answer| Said { line, answer });
     let (setting, s) = (setting_fields(order), &order.state);
@@ -111,7 +111,7 @@ pub fn fly(order: &Order, mut say: impl FnMut(&str) -> Result<String, String>) -
     Ok(Night { before, minutes })
 }
 
-/// How both answers of a minute begin, the state of 02:09 given.
+/// How both answers of a minute begin, if this is the state of 02:09.
 fn begin(m: &Minute, good: &str) -> [String; 2] {
     let (steps, most) = ((m.moment - FIRST) / MINUTE, (GOOD - FIRST) / MINUTE);
     if m.moment < ENDS {
@@ -121,7 +121,7 @@ fn begin(m: &Minute, good: &str) -> [String; 2] {
     }
 }
 
-/// The first answer of a night that is wrong: up to 02:09 each call arrives; from 02:10 on each is refused by 6, with the state of 02:09
+/// The first wrong answer of a night. Up to 02:09 each call arrives. From 02:10 on each is refused with 6, with the state of 02:09
 /// and the steps to it.
 pub fn wrong(night: &Night) -> Option<String> {
     let last = night.minutes.iter().find(|m| m.moment == GOOD)?;
@@ -130,10 +130,10 @@ pub fn wrong(night: &Night) -> Option<String> {
     night.minutes.iter().flat_map(both).find(|(answer, begins)| !answer.starts_with(begins)).map(|(answer, _)| answer)
 }
 
-/// A line for the pane, and what it has to answer.
+/// A line for the pane, and its expected answer.
 pub type Told = (String, String);
 
-/// Every second of a minute, its front included, and a millisecond past it and before its end.
+/// Every second of a minute, its start included, and a millisecond after it and before its end.
 fn moments(end: u64) -> Vec<u64> {
     let start = end - MINUTE;
     let mut list: Vec<u64> = (start..=end).step_by(1000).chain([start + 1, end - 1]).collect();
@@ -141,7 +141,7 @@ fn moments(end: u64) -> Vec<u64> {
     list
 }
 
-/// A frame of a minute, from the states at its ends: none behind it, it is late by the time that has gone since the last.
+/// A frame of a minute, from the states at its ends. Without a state at its end it is late by the time since the last.
 fn frame(older: &State, newer: Option<&State>, t: u64) -> String {
     frame_shown(match newer {
         Some(newer) => Some(figure(older, newer, t)).filter(|&p| finite(p)).map(Frame::Current).ok_or(7),
@@ -149,7 +149,7 @@ fn frame(older: &State, newer: Option<&State>, t: u64) -> String {
     })
 }
 
-/// The night on the pane: each answer fed as it stands, and frames through every minute.
+/// The night on the pane: feeds each answer unchanged, and asks frames through every minute.
 pub fn watched(night: &Night) -> Result<Vec<Told>, String> {
     let line = |line: String, answer: &str| (line, answer.to_string());
     let way = night.before.last().ok_or("no way to the night")?;

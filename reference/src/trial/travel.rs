@@ -1,13 +1,13 @@
-//! A journey that is flown by lines made from the answers: an injection, and legs in portions with a move behind each.
+//! A journey flown with lines made from the answers: an injection, and legs in portions with a move after each.
 
 use super::centres::{other_centre, used_centre};
 use super::chance::Chance;
 use super::extras::some_extras;
-use super::moonward::Place;
+use super::moon::Place;
 use super::trip::Trip;
 use crate::fields::SETTING;
 
-/// So many steps of h milliseconds in portions of these budgets, then a move.
+/// That many steps of h milliseconds in portions of these budgets, then a move.
 #[derive(Clone, Debug)]
 pub struct Leg {
     pub h: u32,
@@ -46,7 +46,7 @@ enum Next {
     Nothing,
 }
 
-/// A journey on its way, each line made from the answer before it.
+/// A journey in progress, each line made from the answer before it.
 #[derive(Clone, Debug)]
 pub struct Traveller<'a> {
     journey: &'a Journey,
@@ -60,7 +60,7 @@ impl Traveller<'_> {
         Traveller { journey, place, next: Next::Inject }
     }
 
-    /// The line to be asked, where there is one.
+    /// The next line, if there is one.
     pub fn line(&self) -> Option<String> {
         let setting = self.journey.injection.split(' ').skip(1).take(SETTING).collect::<Vec<_>>().join(" ");
         let state = self.place.state.join(" ");
@@ -75,14 +75,14 @@ impl Traveller<'_> {
         }
     }
 
-    /// A leg from here, or nothing behind the last one.
+    /// The next leg; nothing after the last one.
     fn depart(&self, leg: usize) -> Next {
         let target = |l: &Leg| Some(self.place.moment().ok()? + u64::from(l.h) * l.steps);
         let target = self.journey.legs.get(leg).and_then(target);
         target.map_or(Next::Nothing, |target| Next::Fly { leg, portion: 0, target })
     }
 
-    /// On with an answer; a refusal ends the journey.
+    /// Takes an answer and goes on; a refusal ends the journey.
     pub fn take(&mut self, answer: &str) {
         self.next = match (self.place.take(answer), self.next) {
             (Ok(_), Next::Inject) => self.depart(0),

@@ -1,10 +1,10 @@
-//! That a fuller book changes no figure: the same asked under a book and under a fuller one. What the first answers and does not refuse
-//! by 6 is the same under the second, apart from guesses; a run that it refuses by 6 goes at least as far under the second, by the
-//! same states.
+//! Checks that a fuller book changes no figure: the same questions under a book and under a fuller one. If the first does not
+//! refuse with 6, the second gives the same answer, except for guesses. A run that the first refuses with 6 goes at least as far
+//! under the second, through the same states.
 
 use super::compare::short;
 use super::lines::{is_run, with_budget};
-use super::nights::Night;
+use super::fuller_nights::Night;
 use super::travel::Traveller;
 use crate::fields::STATE;
 
@@ -14,7 +14,7 @@ pub trait Program {
     fn strip(&self, book: &[u8], order: &[u8]) -> Result<String, String>;
 }
 
-/// What a run answered, without its guesses.
+/// The answer of a run without its guesses.
 #[derive(Clone, Debug, PartialEq, Eq)]
 struct Ran {
     /// ARRIVED, GOING or REFUSED N.
@@ -44,7 +44,7 @@ impl Ran {
     }
 }
 
-/// Whether an answer that is no run's has the form of its line's.
+/// Whether an answer that is not a run's has the form for its line.
 fn has_form(line: &str, answer: &str) -> bool {
     let list: Vec<&str> = answer.split(' ').collect();
     let fields = match line.split(' ').next() {
@@ -55,7 +55,7 @@ fn has_form(line: &str, answer: &str) -> bool {
     list.len() == fields || (list.len() == 2 && list[0] == "REFUSED" && list[1].parse::<u64>().is_ok())
 }
 
-/// What is known of a comparison: nothing is promised, it is as it should be (with its sort), or what is wrong.
+/// The result of a comparison: nothing is promised, it is right (with its sort), or what is wrong.
 #[derive(Clone, Debug, PartialEq, Eq)]
 pub enum Verdict {
     Free,
@@ -89,8 +89,8 @@ fn good(good: bool, sort: &'static str, otherwise: &'static str) -> Verdict {
     }
 }
 
-/// One line or one order, and what came of it under the two books; `cut` is the second's answer to a run with the first's steps as its
-/// budget, where the first refused it by 6. An order's line is empty.
+/// One line or one order, and its answers under the two books. `cut` is the second's answer to a run with the first's steps as its
+/// budget, if the first refused it with 6. For an order the line is empty.
 #[derive(Clone, Debug)]
 pub struct Check {
     pub name: String,
@@ -107,7 +107,7 @@ fn lines(listing: &str) -> Vec<&str> {
     listing.split_inclusive('\n').collect()
 }
 
-/// The outcome's line of a listing that has one, and the lines before it.
+/// The outcome line of a listing that has one, and the lines before it.
 fn ended<'a>(listing: &'a [&'a str]) -> Option<(&'a str, &'a [&'a str])> {
     let (outcome, states) = listing.split_last()?;
     let ends = outcome.ends_with('\n') && (outcome.starts_with("ARRIVED ") || outcome.starts_with("REFUSED "));
@@ -157,7 +157,7 @@ impl Check {
         Some(good(second.steps >= first.steps && same, sort, "the run does not go as far, or by other states"))
     }
 
-    /// Line by line the first's listing begins the second's, up to its outcome; all of it where that is no 6.
+    /// The first's listing is the beginning of the second's, line by line, up to its outcome; all of it if the outcome is not a 6.
     fn listing(&self) -> Verdict {
         let (first, second) = (lines(&self.first), lines(&self.second));
         let (Some((outcome, states)), Some(_)) = (ended(&first), ended(&second)) else {
@@ -175,7 +175,7 @@ impl Check {
         good(second.len() >= first.len() && second.starts_with(states), sort, "the listing begins otherwise")
     }
 
-    /// The same with one digit of the answer under the second book changed: of a state's last float, where there is one.
+    /// The same with one digit of the answer under the second book changed: in the last float of a state, if there is one.
     pub fn spoiled(&self) -> Check {
         let mut spoiled = self.clone();
         let answer = spoiled.cut.as_mut().unwrap_or(&mut spoiled.second);
@@ -185,7 +185,7 @@ impl Check {
         spoiled
     }
 
-    /// Where the last digit stands that is no guess's.
+    /// The place of the last digit that does not belong to a guess.
     fn last_digit(&self, answer: &str) -> usize {
         let behind: usize = if is_run(&self.line) { answer.rsplit(' ').take(GUESSES).map(|g| g.len() + 1).sum() } else { 0 };
         answer.len() - behind - 1
@@ -199,14 +199,15 @@ impl Check {
     }
 }
 
-/// The steps of a run that the first book refuses by 6.
+/// The steps of a run that the first book refuses with 6.
 fn refused_at(line: &str, answer: &str) -> Option<u64> {
     let ran = Ran::read(line, answer).filter(|ran| is_run(line) && ran.outcome == GAP)?;
     Some(ran.steps)
 }
 
-/// Everything of a night asked under both books. It goes by rounds, each a start of the program under either book: all lines and every
-/// journey's next call, and behind a run refused by 6 the same one cut to its steps, and cut to half of them under both.
+/// All questions of a night under both books. It works in rounds, each a start of the program under either book: all lines and the
+/// next call of every journey. After a run refused with 6 the same run follows, cut to its steps, and cut to half of them under
+/// both.
 pub fn asked(program: &impl Program, night: &Night) -> Result<Vec<Check>, String> {
     let (first, second) = (night.pair.first.bytes(), night.pair.second.bytes());
     let name = &night.pair.name;

@@ -1,14 +1,14 @@
 //! Compares the program compare with the reference: what it prints for two listings, byte by byte, with nothing on standard error.
 //!
-//! pairing --seed N --pairs N --folder FOLDER --compare "WORDS" [--spoil N]
+//! trial compare --seed N --count N --folder FOLDER --compare "WORDS" [--spoil N]
 
 use std::path::Path;
-use std::process::{Command, ExitCode, Stdio};
+use std::process::{Command, Stdio};
 
 use reference::parting::report;
 use reference::trial::chance::Chance;
-use reference::trial::drive::{count, end, sorts, Options};
-use reference::trial::pairs::{edges, long, made, Pair};
+use reference::trial::drive::{count, sorts, Options};
+use reference::trial::listing_pairs::{edges, long, made, Pair};
 
 /// What differs, in words.
 fn differs(command: &[String], folder: &Path, p: &Pair, spoiled: bool) -> Result<Option<&'static str>, String> {
@@ -38,20 +38,16 @@ fn sort(p: &Pair) -> String {
     words[..if words[0] == "REFUSED" { 3 } else { 1 }].join(" ")
 }
 
-fn compare() -> Result<bool, String> {
-    let options = Options::read(&["seed", "pairs", "folder", "compare", "spoil"], std::env::args().skip(1))?;
+pub fn compare(words: impl Iterator<Item = String>) -> Result<bool, String> {
+    let options = Options::read(&["seed", "count", "folder", "compare", "spoil"], words)?;
     let (folder, command, spoil) = (Path::new(options.text("folder")), options.words("compare"), options.number("spoil", 0)?);
     let mut c = Chance::new(options.number("seed", 1)?);
     let mut list = edges(&mut c);
     list.extend(long(&mut c));
-    list.extend(made(&mut c, options.number("pairs", 2000)? as usize));
+    list.extend(made(&mut c, options.number("count", 2000)? as usize));
     println!("{}", sorts(&list, sort));
     count(list, spoil, |thread, p, spoiled| {
         let what = differs(&command, &folder.join(thread.to_string()), p, spoiled)?;
         Ok(what.map(|what| format!("{}: {what}", p.case)))
     })
-}
-
-fn main() -> ExitCode {
-    end("pairing", compare())
 }

@@ -1,27 +1,26 @@
-//! Asks a program the same under a book and under a fuller one, and compares: request R-12, a fuller book never changes a figure. With
-//! --spoil N the Nth answer under the fuller book is spoiled, and none behind it is looked at.
+//! Asks a program the same under a book and under a fuller one, and compares: request R-12, a fuller book never changes a figure.
+//! With --spoil N the Nth answer under the fuller book is spoiled, and no later one is compared.
 //!
-//! fuller --seed N --pairs N --real BOOK --order ORDER --ask "WORDS" --strip "WORDS" --strip144 "WORDS" [--spoil N]
+//! trial fuller --seed N --count N --real BOOK --order ORDER --ask "WORDS" --strip "WORDS" --strip144 "WORDS" [--spoil N]
 
 use std::collections::BTreeSet;
 use std::path::PathBuf;
-use std::process::ExitCode;
 use std::sync::atomic::{AtomicUsize, Ordering};
 use std::time::Duration;
 
 use reference::strip::ORDER_144;
 use reference::trial::chance::Chance;
 use reference::trial::child::talk;
-use reference::trial::drive::{end, on_threads, sorts, told, Options};
+use reference::trial::drive::{on_threads, sorts, told, Options};
 use reference::trial::fuller::{Added, Pair};
-use reference::trial::nights::nights;
+use reference::trial::fuller_nights::nights;
 use reference::trial::unchanged::{asked, Check, Program, Verdict};
 
-/// The most of a listing, and seconds for a start.
+/// The greatest length of a listing, and the seconds for one start.
 const MOST: u64 = 10_000_000;
 const LIMIT: Duration = Duration::from_secs(300);
 
-/// How the programs are started, and where a book lies while it is asked.
+/// How the programs are started, and the place of the book.
 struct Programs {
     ask: Vec<String>,
     strip: Vec<String>,
@@ -70,15 +69,15 @@ fn read(file: &str) -> Result<Vec<u8>, String> {
     std::fs::read(file).map_err(|error| format!("{file}: {error}"))
 }
 
-fn compare(options: &Options, programs: &Programs) -> Result<bool, String> {
+fn under_both(options: &Options, programs: &Programs) -> Result<bool, String> {
     let (real, order) = (options.text("real"), options.text("order"));
     let real = if real.is_empty() { Vec::new() } else { vec![("the real book".to_string(), read(real)?)] };
     let order = if order.is_empty() { Vec::new() } else { read(order)? };
     let mut c = Chance::new(options.number("seed", 1)?);
-    let mut list = nights(&mut c, options.number("pairs", 26)? as usize, &real, &order);
+    let mut list = nights(&mut c, options.number("count", 26)? as usize, &real, &order);
     let spoil = options.number("spoil", 0)? as usize;
     if spoil > 0 {
-        // A pair has more comparisons than this many.
+        // A pair has more than this many comparisons.
         list.truncate(1 + spoil / 20);
     }
     let added: Vec<Added> = list.iter().flat_map(|night| night.pair.added.clone()).collect();
@@ -110,18 +109,14 @@ fn compare(options: &Options, programs: &Programs) -> Result<bool, String> {
     Ok(told(&said))
 }
 
-fn with_folder() -> Result<bool, String> {
-    let options = Options::read(&["seed", "pairs", "real", "order", "ask", "strip", "strip144", "spoil"], std::env::args().skip(1))?;
+pub fn compare(words: impl Iterator<Item = String>) -> Result<bool, String> {
+    let options = Options::read(&["seed", "count", "real", "order", "ask", "strip", "strip144", "spoil"], words)?;
     let folder = std::env::temp_dir().join(format!("fuller-{}", std::process::id()));
     std::fs::create_dir_all(&folder).map_err(|error| format!("{}: {error}", folder.display()))?;
     let [ask, strip, strip144] = ["ask", "strip", "strip144"].map(|name| options.words(name));
     let programs = Programs { ask, strip, strip144, folder, starts: AtomicUsize::new(0) };
-    let alike = compare(&options, &programs);
-    // Books that are kept keep their folder.
+    let alike = under_both(&options, &programs);
+    // The folder stays if books are kept.
     let _ = std::fs::remove_dir(&programs.folder);
     alike
-}
-
-fn main() -> ExitCode {
-    end("fuller", with_folder())
 }

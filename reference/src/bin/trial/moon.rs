@@ -1,50 +1,26 @@
-//! Flies JPL's check case 1 to the Moon by the lines `inject`, `fly` and `move`, and shows it from the Moon at the moments that JPL prints.
-//! With --ask the program given is asked each line, made from its own answers, and every answer is compared with the reference's.
-//! With --spoil N the Nth expected answer is spoiled.
+//! Flies JPL's check case 1 to the Moon by the lines `inject`, `fly` and `move`, and shows it from the Moon at the moments that JPL
+//! prints. With --ask each line goes to the given program. Lines are made from its own answers, and every answer is compared with
+//! the reference's. With --spoil N the Nth expected answer is spoiled.
 //!
-//! moonward --order FILE [--order FILE..] --book FILE [--ask "WORDS"] [--spoil N]
+//! trial moon --order "FILE.." --book FILE [--ask "WORDS"] [--spoil N]
 //!
 //! An order is one of 120 bytes or one of 144, with J, A and K.
 
-use std::path::{Path, PathBuf};
-use std::process::ExitCode;
+use std::path::Path;
 use std::time::Duration;
 
 use reference::ask;
-use reference::fields::decimal;
 use reference::fixed::{precession, turned};
 use reference::rule::State;
 use reference::strip::{read_either, Order};
 use reference::trial::child::talk;
 use reference::trial::compare::short;
-use reference::trial::moonward::{flight, Said};
+use reference::trial::drive::Options;
+use reference::trial::moon::{flight, Said};
 use reference::vector::n;
 
-#[derive(Default)]
-struct Wish {
-    orders: Vec<PathBuf>,
-    book: PathBuf,
-    ask: Vec<String>,
-    spoil: usize,
-}
-
-fn read_wish(mut args: impl Iterator<Item = String>) -> Result<Wish, String> {
-    let mut w = Wish::default();
-    while let Some(name) = args.next() {
-        let value = args.next().ok_or(format!("{name}: nothing behind it"))?;
-        match name.as_str() {
-            "--order" => w.orders.push(value.into()),
-            "--book" => w.book = value.into(),
-            "--ask" => w.ask = value.split_whitespace().map(str::to_string).collect(),
-            "--spoil" => w.spoil = decimal(value.as_bytes()).ok_or(format!("{value}: not a number"))? as usize,
-            _ => return Err(format!("{name}: not known")),
-        }
-    }
-    Ok(w)
-}
-
-fn read(file: &Path) -> Result<Vec<u8>, String> {
-    std::fs::read(file).map_err(|error| format!("{}: {error}", file.display()))
+fn read(file: &str) -> Result<Vec<u8>, String> {
+    std::fs::read(file).map_err(|error| format!("{file}: {error}"))
 }
 
 /// A state about the Moon: range and speed, and position and velocity in axes of the mean equator of date.
@@ -58,8 +34,8 @@ fn show(order: &Order, s: &State) {
     println!("  X {x:.3} Y {y:.3} Z {z:.3} DX {vx:.7} DY {vy:.7} DZ {vz:.7}");
 }
 
-/// Answer by answer; whether there are as many and all are the same.
-fn compare(expected: &[Said], got: &[Said], spoil: usize) -> bool {
+/// Compares answer by answer; whether there are as many and all are the same.
+fn alike(expected: &[Said], got: &[Said], spoil: usize) -> bool {
     let mut differ = expected.len().abs_diff(got.len());
     for (i, (e, g)) in expected.iter().zip(got).enumerate() {
         let wanted = if i + 1 == spoil { format!("{}x", e.answer) } else { e.answer.clone() };
@@ -80,35 +56,25 @@ fn own_flight(order: &Order, book: &[u8]) -> Result<Vec<Said>, String> {
     Ok(own)
 }
 
-/// One line asked of the program.
-fn asked(w: &Wish, line: &str) -> Result<String, String> {
-    let said = talk(&w.ask, Some(&w.book), line.as_bytes(), 10_000, Duration::from_secs(300))?;
+/// Sends one line to the program.
+fn asked(options: &Options, line: &str) -> Result<String, String> {
+    let book = Path::new(options.text("book"));
+    let said = talk(&options.words("ask"), Some(book), line.as_bytes(), 10_000, Duration::from_secs(300))?;
     let answer = String::from_utf8_lossy(&said.output).into_owned();
     answer.strip_suffix('\n').map(str::to_string).ok_or(format!("{answer}: no whole line"))
 }
 
-fn moonward() -> Result<bool, String> {
-    let w = read_wish(std::env::args().skip(1))?;
-    let book = read(&w.book)?;
+pub fn compare(words: impl Iterator<Item = String>) -> Result<bool, String> {
+    let options = Options::read(&["order", "book", "ask", "spoil"], words)?;
+    let book = read(options.text("book"))?;
     let (mut own, mut got) = (Vec::new(), Vec::new());
-    for file in &w.orders {
-        println!("{}:", file.display());
+    for file in &options.words("order") {
+        println!("{file}:");
         let order = read_either(&read(file)?).ok_or("the order is neither of 120 bytes nor of 144")?;
         own.extend(own_flight(&order, &book)?);
-        if !w.ask.is_empty() {
-            got.extend(flight(&order, |line| asked(&w, line))?);
+        if !options.words("ask").is_empty() {
+            got.extend(flight(&order, |line| asked(&options, line))?);
         }
     }
-    Ok(w.ask.is_empty() || compare(&own, &got, w.spoil))
-}
-
-fn main() -> ExitCode {
-    match moonward() {
-        Ok(true) => ExitCode::SUCCESS,
-        Ok(false) => ExitCode::from(1),
-        Err(error) => {
-            eprintln!("moonward: {error}");
-            ExitCode::from(2)
-        }
-    }
+    Ok(options.words("ask").is_empty() || alike(&own, &got, options.number("spoil", 0)? as usize))
 }

@@ -1,23 +1,22 @@
-//! Compares the program pane with the reference: every line of sessions made from a seed, byte by byte. With --spoil N the Nth expected
-//! answer is spoiled, and no session behind its own is looked at.
+//! Compares the program pane with the reference: every line of sessions made from a seed, byte by byte. With --spoil N the Nth
+//! expected answer is spoiled, and no later session is compared.
 //!
-//! panes --seed N --sessions N --real BOOK --pane "WORDS" [--spoil N]
+//! trial pane --seed N --count N --real BOOK --pane "WORDS" [--spoil N]
 
-use std::process::ExitCode;
 use std::time::Duration;
 
 use reference::trial::chance::Chance;
 use reference::trial::child::{by_line, talk};
 use reference::trial::compare::short;
-use reference::trial::drive::{end, on_threads, sorts, told, Options};
+use reference::trial::drive::{on_threads, sorts, told, Options};
 use reference::trial::panes::{sessions, Session};
 
 const LIMIT: Duration = Duration::from_secs(300);
 
-/// A session with the answers that are expected.
+/// A session with the expected answers.
 type Asked = (Session, Vec<Vec<u8>>);
 
-/// What the program answers to each line where it differs, in words; and how it ended.
+/// The answers of the program that differ, in words; and how it ended.
 fn differing(command: &[String], (session, expected): &Asked) -> Result<(Vec<Option<String>>, String), String> {
     let most = 1000 * expected.len() as u64 + 100_000;
     let said = talk(command, None, &session.input(), most, LIMIT)?;
@@ -30,7 +29,7 @@ fn differing(command: &[String], (session, expected): &Asked) -> Result<(Vec<Opt
     Ok((expected.iter().enumerate().map(one).collect(), said.ended))
 }
 
-/// The Nth answer spoiled, and the sessions behind it left out.
+/// Spoils the Nth answer, and leaves out the sessions after it.
 fn spoil(list: &mut Vec<Asked>, mut n: usize) {
     for i in 0..list.len() {
         let answers = &mut list[i].1;
@@ -50,13 +49,13 @@ fn sort(answer: &Vec<u8>) -> String {
     words[..if words[0] == "REFUSED" { 2 } else { 1 }].join(" ")
 }
 
-fn compare() -> Result<bool, String> {
-    let options = Options::read(&["seed", "sessions", "real", "pane", "spoil"], std::env::args().skip(1))?;
+pub fn compare(words: impl Iterator<Item = String>) -> Result<bool, String> {
+    let options = Options::read(&["seed", "count", "real", "pane", "spoil"], words)?;
     let (file, command) = (options.text("real"), options.words("pane"));
     let book = if file.is_empty() { Vec::new() } else { std::fs::read(file).map_err(|error| format!("{file}: {error}"))? };
     let real = if file.is_empty() { Vec::new() } else { vec![("the real book".to_string(), book)] };
     let mut c = Chance::new(options.number("seed", 1)?);
-    let made = sessions(&mut c, options.number("sessions", 400)? as usize, &real);
+    let made = sessions(&mut c, options.number("count", 400)? as usize, &real);
     let mut list: Vec<Asked> = made.into_iter().map(|s| (s.clone(), s.answers())).collect();
     println!("{}", sorts(&list.iter().flat_map(|(_, answers)| answers.clone()).collect::<Vec<_>>(), sort));
     match options.number("spoil", 0)? as usize {
@@ -66,8 +65,4 @@ fn compare() -> Result<bool, String> {
     let said = on_threads(&list, |_, _, asked| differing(&command, asked))?;
     println!("{} sessions: {}", said.len(), sorts(&said, |(_, ended)| ended.clone()));
     Ok(told(&said.into_iter().flat_map(|(lines, _)| lines).collect::<Vec<_>>()))
-}
-
-fn main() -> ExitCode {
-    end("panes", compare())
 }

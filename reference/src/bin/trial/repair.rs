@@ -1,20 +1,19 @@
 //! Compares the program repair with the reference: the book on standard output and the report on standard error, byte by byte.
-//! Every book that was written is handed to strip, which must take it; one that it has taken is not handed to it again. With
-//! --spoil N the Nth answer is spoiled, and none behind it is looked at.
+//! Every book that was written goes to strip, which must accept it; the same book goes there once. With --spoil N the Nth answer is
+//! spoiled, and no later one is compared.
 //!
-//! mending --seed N --books N --real FILE --repair "WORDS" --strip "WORDS" [--spoil N]
+//! trial repair --seed N --count N --real FILE --repair "WORDS" --strip "WORDS" [--spoil N]
 
 use std::collections::BTreeSet;
-use std::process::ExitCode;
 use std::sync::Mutex;
 
 use reference::repair;
 use reference::trial::chance::Chance;
 use reference::trial::child::talk_both;
-use reference::trial::drive::{count, end, Options};
+use reference::trial::drive::{count, Options};
 use reference::trial::mends::{made, real, Damaged};
 
-/// An order that takes no step: strip prints its header where the book passes, and `REFUSED 1` where it does not.
+/// An order that takes no step: strip prints its header if the book passes, else `REFUSED 1`.
 fn order() -> Vec<u8> {
     let mut order = 8f64.to_le_bytes().to_vec();
     order.extend([0; 48]);
@@ -26,7 +25,7 @@ fn order() -> Vec<u8> {
     order
 }
 
-/// How both programs are started, and the books that strip has taken.
+/// How both programs are started, and the books that strip has accepted.
 struct Programs {
     repair: Vec<String>,
     strip: Vec<String>,
@@ -34,7 +33,7 @@ struct Programs {
 }
 
 impl Programs {
-    /// Whether strip takes a book.
+    /// Whether strip accepts a book.
     fn takes(&self, book: Vec<u8>) -> Result<bool, String> {
         let taken = || self.taken.lock().map_err(|error| error.to_string());
         if self.strip.is_empty() || taken()?.contains(&book) {
@@ -67,8 +66,8 @@ fn differs(programs: &Programs, d: &Damaged, spoiled: bool) -> Result<Option<&'s
     Ok((answer.is_ok() && !programs.takes(output)?).then_some("strip does not take the book"))
 }
 
-fn compare() -> Result<bool, String> {
-    let options = Options::read(&["seed", "books", "real", "repair", "strip", "spoil"], std::env::args().skip(1))?;
+pub fn compare(words: impl Iterator<Item = String>) -> Result<bool, String> {
+    let options = Options::read(&["seed", "count", "real", "repair", "strip", "spoil"], words)?;
     let real_book = options.text("real");
     let programs = Programs { repair: options.words("repair"), strip: options.words("strip"), taken: Mutex::default() };
     let mut list = if real_book.is_empty() {
@@ -76,13 +75,9 @@ fn compare() -> Result<bool, String> {
     } else {
         real(&std::fs::read(real_book).map_err(|error| format!("{real_book}: {error}"))?)
     };
-    list.extend(made(&mut Chance::new(options.number("seed", 1)?), options.number("books", 2000)? as usize));
+    list.extend(made(&mut Chance::new(options.number("seed", 1)?), options.number("count", 2000)? as usize));
     count(list, options.number("spoil", 0)?, |_, d, spoiled| {
         let what = differs(&programs, d, spoiled)?;
         Ok(what.map(|what| format!("{}, room {:?}: {what}", d.case, d.room)))
     })
-}
-
-fn main() -> ExitCode {
-    end("mending", compare())
 }

@@ -1,14 +1,13 @@
 //! Compares the program table with the reference: the rows on standard output and the refusal on standard error, byte by byte. With
-//! --spoil N the Nth answer is spoiled, the odd ones in their rows, the even ones in their refusal, and none behind it is looked at.
+//! --spoil N the Nth answer is spoiled, and no later one is compared. An odd N spoils the rows, an even N the refusal.
 //!
-//! tabulating --seed N --tables N --table "WORDS" [--spoil N]
+//! trial table --seed N --count N --table "WORDS" [--spoil N]
 
-use std::process::ExitCode;
 
 use reference::table::table;
 use reference::trial::chance::Chance;
 use reference::trial::child::talk_both;
-use reference::trial::drive::{count, end, sorts, Options};
+use reference::trial::drive::{count, sorts, Options};
 use reference::trial::tables::{edges, long, made, Made};
 
 /// What differs, in words.
@@ -35,20 +34,16 @@ fn sort(m: &Made) -> String {
     }
 }
 
-fn compare() -> Result<bool, String> {
-    let options = Options::read(&["seed", "tables", "table", "spoil"], std::env::args().skip(1))?;
+pub fn compare(words: impl Iterator<Item = String>) -> Result<bool, String> {
+    let options = Options::read(&["seed", "count", "table", "spoil"], words)?;
     let (command, spoil) = (options.words("table"), options.number("spoil", 0)?);
     let mut c = Chance::new(options.number("seed", 1)?);
     let mut list = edges(&mut c);
     list.extend(long(&mut c));
-    list.extend(made(&mut c, options.number("tables", 2000)? as usize));
+    list.extend(made(&mut c, options.number("count", 2000)? as usize));
     println!("{}", sorts(&list, sort));
     count(list, spoil, |_, m, spoiled| {
         let what = differs(&command, m, spoiled.then_some(spoil))?;
         Ok(what.map(|what| format!("{}: {what}", m.case)))
     })
-}
-
-fn main() -> ExitCode {
-    end("tabulating", compare())
 }
