@@ -3,12 +3,13 @@ import struct
 
 BODIES = ('earth', 'moon', 'sun', 'venus', 'mars', 'jupiter')
 TERMS = ('J', 'A', 'K')
+SPOKEN = ('radius', 'latitude', 'longitude', 'speed', 'path', 'azimuth')  # document 02, R-4
 NOMINAL = {  # document 01, "Setting, state, acceleration"; J and A: document 02, R-7
     'earth': '398603.20', 'moon': '4900.7589', 'sun': '132715440000', 'venus': '324769.50', 'mars': '42977.799',
     'jupiter': '126710600', 'J': '0.001623450', 'A': '6378.1650',
 }
 PLAIN = struct.Struct('<6QQ3Q3QIIQ')  # coefficients, moment, position, velocity, h, DUT, target
-WHOLE = struct.Struct('<3Q')          # J, A, K behind them
+WHOLE = struct.Struct('<3Q')          # J, A, K after them
 
 
 def bits(number):
@@ -20,7 +21,7 @@ def number(pattern):
 
 
 def pack(order):
-    """120 bytes, or 144 where the order has J, A and K."""
+    """120 bytes, or 144 if the order has J, A and K."""
     coefficients = [order[body][0] for body in BODIES]
     data = PLAIN.pack(*coefficients, order['start'], *order['position'], *order['velocity'], order['step'], order['dut'],
                       order['target'])
@@ -28,7 +29,7 @@ def pack(order):
 
 
 def unpack(data):
-    """The order that 120 or 144 bytes are."""
+    """The order in 120 or 144 bytes."""
     fields = PLAIN.unpack_from(data)
     order = {body: [c] for body, c in zip(BODIES, fields)}
     order['start'], order['position'], order['velocity'] = fields[6], list(fields[7:10]), list(fields[10:13])

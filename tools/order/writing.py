@@ -1,4 +1,4 @@
-"""An order as text that `reading` takes back to the same bytes."""
+"""An order as a text that `reading` turns back into the same bytes."""
 import math
 
 from form import BODIES, TERMS, number
@@ -8,7 +8,7 @@ UNITS = {'position': 'km', 'velocity': 'km/s', 'A': 'km', 'K': 'km3/s2', **{body
 
 
 def float_text(pattern):
-    """The shortest decimal that reads back as this float; what is not finite, by its bits."""
+    """The shortest decimal that reads back as this float; by its bits if it is not finite."""
     value = number(pattern)
     return repr(value) if math.isfinite(value) else f'0x{pattern:016x}'
 
@@ -22,7 +22,7 @@ def length_text(length):
 
 
 def text_of(order):
-    """A line for each field, in the order in which a person thinks of them."""
+    """A line for each field, in an order that is easy to read."""
     said = {'start': moment_text(order['start']), 'target': moment_text(order['target'])}
     said.update((key, length_text(order[key])) for key in ('step', 'dut'))
     for key, unit in [(key, UNITS.get(key, '')) for key in ('position', 'velocity', *BODIES, *TERMS) if key in order]:
