@@ -1,8 +1,8 @@
-"""JPL's ephemeris DE405 as Debian's package casacore-data-jpl-de405 brings it: where a body is from the Earth, on DE405's own axes.
+"""JPL's ephemeris DE405 from Debian's package casacore-data-jpl-de405: the position of a body from the Earth, on DE405's own axes.
 
-The package has it as a casacore table: in table.f0i one array of 1018 floats for every 32 days, all of one length and one behind the
-other; in table.f0 the day on which each begins; in table.dat the place of each body in an array and the constants. What stands here as
-a number is looked for there, and a table of another form is told."""
+The package has it as a casacore table. table.f0i has one array of 1018 floats for every 32 days, all of one length, one after the
+other. table.f0 has the day on which each begins. table.dat has the place of each body in an array, and the constants. The numbers below
+are compared with the table, and a table of another form is an error."""
 import pathlib
 import struct
 
@@ -12,11 +12,11 @@ START = (36912 - 33282) * DAY  # the first record begins on MJD 36912; moment 0 
 RECORD = 32 * DAY
 HEAD, ARRAY, EVERY = 16, 12, 8160  # bytes before the first array, before an array's floats, from array to array
 FLOATS = 1018
-EARTH_BY_MOON = 81.30056  # EMRAT, the Earth's mass by the Moon's
-PLACES = (3, 171, 231, 309, 342, 366, 387, 405, 423, 441, 753, 819, 899)  # counted from 1, behind two floats that the table left out
+EARTH_BY_MOON = 81.30056  # EMRAT, the Earth's mass divided by the Moon's
+PLACES = (3, 171, 231, 309, 342, 366, 387, 405, 423, 441, 753, 819, 899)  # counted from 1, after two floats that the table leaves out
 COUNTS = (14, 10, 13, 11, 8, 7, 6, 6, 6, 13, 11, 10, 10)
 PARTS = (4, 2, 2, 1, 1, 1, 1, 1, 1, 8, 2, 4, 4)
-NUMBERS = {'venus': 1, 'barycentre': 2, 'mars': 3, 'jupiter': 4, 'moon': 9, 'sun': 10}  # the Earth's and the Moon's barycentre
+NUMBERS = {'venus': 1, 'barycentre': 2, 'mars': 3, 'jupiter': 4, 'moon': 9, 'sun': 10}  # the barycentre of Earth and Moon
 
 
 class Unreadable(Exception):
@@ -48,7 +48,7 @@ class Ephemeris:
         self.end = START + RECORD * count
 
     def own(self, name, moment, later):
-        """A body as the ephemeris has it, the Moon from the Earth, all else from the solar system's barycentre: km and km/s."""
+        """A body as in the ephemeris: the Moon from the Earth, all others from the barycentre of the solar system, in km and km/s."""
         place, count, parts = (column[NUMBERS[name]] for column in (PLACES, COUNTS, PARTS))
         record, offset = divmod(moment - START, RECORD)
         span = RECORD // parts
@@ -60,7 +60,7 @@ class Ephemeris:
         return [value for value, _ in pairs], [slope * 2000 / span for _, slope in pairs]
 
     def motion(self, name, moment, later=0.0):
-        """Position (km) and velocity (km/s) from the Earth, at a whole moment and so many milliseconds later."""
+        """Position (km) and velocity (km/s) from the Earth, at a whole moment plus some milliseconds."""
         moon = self.own('moon', moment, later)
         if name == 'moon':
             return moon

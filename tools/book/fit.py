@@ -1,10 +1,10 @@
-"""An entry of a book: the Chebyshev series of a body over a span, and how far it lies from the ephemeris."""
+"""An entry of a book: the Chebyshev series of a body over a span, and its difference from the ephemeris."""
 import math
 
 from axes import to_1950
 from de405 import series
 
-BETWEEN = 60  # moments of an entry at which it is compared, evenly, the first and the last included
+BETWEEN = 60  # the number of moments at which an entry is compared, evenly spaced, with the first and the last
 
 
 def sight(ephemeris, name, moment, later=0.0):

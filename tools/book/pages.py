@@ -6,7 +6,7 @@ NUMBERS = {'moon': 2, 'sun': 3, 'venus': 4, 'mars': 5, 'jupiter': 6}
 
 
 def size(counts):
-    """The length of a book whose entries have so many coefficients a component."""
+    """The length of a book whose entries have these numbers of coefficients for each component."""
     return 8 + sum(24 + 24 * count for count in counts)
 
 
