@@ -8,7 +8,7 @@ class Frame:
         self.x, self.y = x, y
 
     def at(self, x, y):
-        """Where a point of the plane stands; y goes up."""
+        """The place of a point of the plane; y goes up."""
         across = (x - self.x[0]) / (self.x[1] - self.x[0])
         up = (y - self.y[0]) / (self.y[1] - self.y[0])
         return self.left + across * self.width, self.top + (1 - up) * self.height
@@ -19,7 +19,7 @@ def box(frame):
 
 
 def line(places, style):
-    """A line through places of the picture, without those that lie less than a pixel from the last one drawn."""
+    """A line through places of the picture, without those less than a pixel from the last one drawn."""
     kept = [places[0]]
     for x, y in places[1:-1]:
         if abs(x - kept[-1][0]) + abs(y - kept[-1][1]) >= 1:
@@ -36,7 +36,7 @@ def text(place, words, style='', anchor='start'):
     return f'<text x="{place[0]:.1f}" y="{place[1]:.1f}" text-anchor="{anchor}" class="{style}">{words}</text>'
 
 
-def axes(frame, xs, ys, y_label):
+def axes(frame, xs, ys, y_label, x_label='hours after injection'):
     """Grid lines with their figures: `xs` along the bottom, `ys` on the left."""
     parts = [box(frame)]
     for x in xs:
@@ -46,5 +46,5 @@ def axes(frame, xs, ys, y_label):
         place = frame.at(frame.x[0], y)
         parts += [line([place, frame.at(frame.x[1], y)], 'grid'), text((place[0] - 6, place[1] + 4), f'{y:,}', 'figure', 'end')]
     middle = frame.left + frame.width / 2
-    parts.append(text((middle, frame.top + frame.height + 34), 'hours after injection', 'figure', 'middle'))
+    parts.append(text((middle, frame.top + frame.height + 34), x_label, 'figure', 'middle'))
     return parts + [text((frame.left, frame.top - 8), y_label, 'title')]
