@@ -1,5 +1,6 @@
-//! The best Rust shape of the walk that was found: the book is read once, an entry is looked for where the last one was, and what was
-//! looked up for a moment is kept with its pulls on the centre. Same checks, same bits and same guesses as `reference::motion::run`.
+//! The fastest form of the walk in Rust that we found. It reads the book once, and looks for an entry first where the last one was.
+//! It keeps the bodies looked up for a moment with their pulls on the centre. Same checks, same bits and same guesses as
+//! `reference::motion::run`.
 
 use reference::extras::with_both;
 use reference::motion::{start_checks, step_by, walk_by, Outcome, Ran};
@@ -9,7 +10,7 @@ use reference::vector::{add, finite, sub, Vector};
 
 use crate::decoded::Decoded;
 
-/// The bodies at one moment as seen from the centre, and the pull of each on it.
+/// The bodies at one moment, seen from the centre, and the pull of each on it.
 struct Sky {
     moment: u64,
     seen: [Vector; 7],
@@ -27,7 +28,7 @@ pub struct Best<'a> {
 }
 
 impl<'a> Best<'a> {
-    /// For a book that passes, a setting that is allowed and a centre. None if the book is not calm.
+    /// Requires a book that passes, an allowed setting and a used centre. None if the book is not calm.
     pub fn new(book: &[u8], setting: &'a Setting, centre: u64) -> Option<Best<'a>> {
         let centre = centre as usize;
         Some(Best {
@@ -41,7 +42,7 @@ impl<'a> Best<'a> {
         })
     }
 
-    /// Looks up what a new moment needs. If it is refused nothing is kept.
+    /// Looks up what a new moment needs. After a refusal nothing is kept.
     fn look(&mut self, t: u64) -> Result<(), u64> {
         let mut places = [[0.0; 3]; 7];
         self.sky.moment = u64::MAX;
@@ -75,7 +76,7 @@ impl<'a> Best<'a> {
         step_by(|t, p| self.slope(t, p), s, h)
     }
 
-    /// The guesses with each body's entry at a moment.
+    /// The guesses with the entry of each body at a moment.
     fn told(&mut self, t: u64, given: [u64; 5]) -> [u64; 5] {
         let mut guesses = given;
         for &body in &self.bodies {
@@ -88,7 +89,7 @@ impl<'a> Best<'a> {
     }
 }
 
-/// The run call, in this shape, for a calm book.
+/// The run call in this form, for a calm book.
 pub fn run(
     book: &[u8], setting: &Setting, state: &State, h: u32, target: u64, budget: u32, guesses: [u64; 5],
 ) -> Option<Ran> {

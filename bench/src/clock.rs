@@ -1,22 +1,58 @@
-//! Times taken in turn.
+//! Processor time. On a machine that does other work it is steadier than time by the clock.
 
 use std::hint::black_box;
-use std::time::Instant;
 
-/// Nanoseconds of each, the least of so many times; one after the other in turn.
+#[repr(C)]
+struct Time {
+    seconds: i64,
+    parts: i64,
+}
+
+/// The result of getrusage on 64-bit Linux: user time, system time, and fourteen numbers that are not used here.
+#[repr(C)]
+struct Used {
+    user: Time,
+    system: Time,
+    rest: [i64; 14],
+}
+
+const THREAD: i32 = 3;
+const CHILDREN: i32 = -1;
+
+extern "C" {
+    fn clock_gettime(clock: i32, time: &mut Time) -> i32;
+    fn getrusage(who: i32, used: &mut Used) -> i32;
+}
+
+/// Processor time of this thread so far, in nanoseconds.
+fn thread() -> f64 {
+    let mut time = Time { seconds: 0, parts: 0 };
+    assert_eq!(unsafe { clock_gettime(THREAD, &mut time) }, 0);
+    time.seconds as f64 * 1e9 + time.parts as f64
+}
+
+/// Processor time of all ended programs that this one started, in milliseconds.
+pub fn children() -> f64 {
+    let none = || Time { seconds: 0, parts: 0 };
+    let mut used = Used { user: none(), system: none(), rest: [0; 14] };
+    assert_eq!(unsafe { getrusage(CHILDREN, &mut used) }, 0);
+    [used.user, used.system].iter().map(|time| time.seconds as f64 * 1e3 + time.parts as f64 / 1e3).sum()
+}
+
+/// The least nanoseconds of each over a number of rounds; they run in turn.
 pub fn least<const N: usize>(times: u32, mut turns: [&mut dyn FnMut(); N]) -> [f64; N] {
     let mut best = [f64::INFINITY; N];
     for _ in 0..times {
         for (best, turn) in best.iter_mut().zip(&mut turns) {
-            let start = Instant::now();
+            let start = thread();
             turn();
-            *best = best.min(start.elapsed().as_nanos() as f64);
+            *best = best.min(thread() - start);
         }
     }
     best
 }
 
-/// Takes a value, so that it is worked out.
+/// Uses a value, so that the compiler keeps its computation.
 pub fn took<T>(value: T) {
     let _ = black_box(value);
 }

@@ -3,7 +3,7 @@
 use reference::book::{count, entry, float_at, Entry};
 use reference::vector::Vector;
 
-/// Below this no position and no velocity overflows: 16 coefficients at the most and a span of a millisecond at the least.
+/// Below this no position and no velocity overflows, with at most 16 coefficients and a span of at least a millisecond.
 const CALM: f64 = 1e250;
 
 pub struct Piece {
@@ -14,7 +14,7 @@ pub struct Piece {
 
 pub struct Decoded {
     bodies: [Vec<Piece>; 7],
-    /// The number that a body's first entry has in the contents.
+    /// The number of a body's first entry in the contents.
     first: [usize; 7],
 }
 
@@ -45,7 +45,7 @@ impl Piece {
 }
 
 impl Decoded {
-    /// Of a book that passes; none if it has a coefficient that is not calm.
+    /// Requires a book that passes; None if it has a coefficient that is not calm.
     pub fn new(book: &[u8]) -> Option<Decoded> {
         let mut decoded = Decoded { bodies: Default::default(), first: [0; 7] };
         for i in 0..count(book) as usize {
@@ -59,7 +59,7 @@ impl Decoded {
         Some(decoded)
     }
 
-    /// A body's entry at a moment: the guess, then the next, then by halves. The guess becomes what is found.
+    /// The entry of a body at a moment: the guess, then the next, then by halving. The guess becomes the entry found.
     pub fn find(&self, body: usize, t: u64, guess: &mut usize) -> Option<&Piece> {
         let pieces = &self.bodies[body];
         let near = [*guess, *guess + 1].into_iter().find(|&i| pieces.get(i).is_some_and(|p| p.covers(t)));

@@ -5,14 +5,15 @@ use reference::extras::Extras;
 use reference::rule::{Setting, State};
 use reference::strip::{read_order, Order};
 
+use crate::asked::{by_machine, Asked};
 use crate::books::preceded;
 use crate::flight::{Flight, DAY, H, THIRTY_DAYS};
 
 const MOON: u64 = 2;
-/// What the full book covers: 106 entries of the Moon and 53 of the Sun.
+/// The time that the full book covers, with 106 entries of the Moon and 53 of the Sun.
 const FULL: u64 = 424 * DAY as u64 * H as u64;
 
-/// The two real books, the full one made of the first, and the order.
+/// The two real books, the full one made from the first, and the order.
 pub struct Given {
     pub moon_and_sun: Vec<u8>,
     all_five: Vec<u8>,
@@ -34,7 +35,7 @@ impl Given {
         self.order.state.moment
     }
 
-    /// The order's setting with the Earth, the Moon and the Sun alone.
+    /// The order's setting with only the Earth, the Moon and the Sun.
     fn three(&self) -> Setting {
         let [earth, moon, sun, ..] = self.order.setting.coefficients;
         Setting { coefficients: [earth, moon, sun, 0.0, 0.0, 0.0], ..self.order.setting }
@@ -67,32 +68,33 @@ impl Given {
     }
 }
 
-/// The head of the table of flights, of which every row has milliseconds.
-const HEAD: &str = "| Thirty days at one-minute steps, ms | Proved | Rust, document 01's walk | Ratio | Rust, with R-5's velocity | Ratio \
-| Rust, best shape | Ratio |\n|---|---|---|---|---|---|---|---|";
+/// The head of the table of flights; every row has milliseconds.
+const HEAD: &str = "| Thirty days at one-minute steps, ms | Proved | Rust, document 01's walk | Ratio | Asked | Rust, with R-5's velocity \
+| Ratio | Rust, best shape | Ratio |\n|---|---|---|---|---|---|---|---|---|";
 
-/// The proved figure, and each other with the ratio.
-pub fn row(name: &str, [proved, others @ ..]: [f64; 4]) -> String {
+/// The proved figure, and each other with its ratio; the limit is for the first ratio.
+pub fn row(name: &str, [proved, plain, others @ ..]: [f64; 4], most: Option<f64>, asked: &mut Asked) -> String {
     let cells: String = others.iter().map(|other| format!(" {other:.1} | {:.2} |", proved / other)).collect();
-    format!("| {name} | {proved:.1} |{cells}")
+    format!("| {name} | {proved:.1} | {plain:.1} |{}{cells}", asked.cells(proved / plain, most))
 }
 
-pub fn table(given: &Given, times: u32) -> Result<(), String> {
+pub fn table(given: &Given, times: u32) -> Result<Asked, String> {
     let back = format!("the same at the back of a full book ({} entries, {} bytes)", count(&given.full), given.full.len());
     let flights = [
-        ("with Moon and Sun", given.evening()),
-        (back.as_str(), given.at_the_back()),
-        ("with all five bodies", given.with_all_five()),
-        ("with Moon and Sun, J, A and K", given.with_terms()),
-        ("about the Moon, with Earth and Sun", given.about_the_moon()),
+        ("with Moon and Sun", given.evening(), 1.06),
+        (back.as_str(), given.at_the_back(), 0.32),
+        ("with all five bodies", given.with_all_five(), by_machine(1.45, 1.07)),
+        ("with Moon and Sun, J, A and K", given.with_terms(), 1.10),
+        ("about the Moon, with Earth and Sun", given.about_the_moon(), 1.10),
     ];
     if !given.at_the_back().ends_as(&given.evening()) {
         return Err("a fuller book changes the flight".to_string());
     }
+    let mut asked = Asked::default();
     println!("{HEAD}");
-    for (name, flight) in flights {
+    for (name, flight, most) in flights {
         let times = flight.timed(times).map_err(|error| format!("{name}: {error}"))?;
-        println!("{}", row(name, times.map(|t| t / 1e6)));
+        println!("{}", row(name, times.map(|t| t / 1e6), Some(most), &mut asked));
     }
-    Ok(())
+    Ok(asked)
 }

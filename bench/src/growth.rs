@@ -1,4 +1,4 @@
-//! What a step costs over books of more and more entries and journeys of more and more days, each ending where its book ends.
+//! The cost of a step for books of more and more entries and journeys of more and more days, each ending with its book.
 
 use reference::book::LIMIT;
 use reference::extras::Extras;
@@ -15,16 +15,16 @@ const SETTING: Setting = Setting {
     rule: 0,
 };
 const COVER_DAYS: u32 = 400;
-/// Journeys by days, and the part of the times that each is walked.
+/// Journeys by days, each with a divisor of the number of rounds.
 const JOURNEYS: [(u32, u32); 3] = [(1, 1), (30, 1), (365, 5)];
-/// Books by entries and coefficients: two are all that 850 entries have room for.
+/// Books by entries and coefficients: with 850 entries there is only room for two coefficients.
 const BOOKS: [(usize, usize); 5] = [(12, 2), (160, 2), (850, 2), (12, 13), (160, 13)];
 
 fn milliseconds(days: u32) -> u64 {
     u64::from(days) * u64::from(DAY) * u64::from(H)
 }
 
-/// An orbit about the Earth at 42,164 km for so many days up to a minute before the end of the cover.
+/// An orbit about the Earth at 42,164 km for a number of days, up to a minute before the end of the cover.
 fn journey(book: &[u8], days: u32) -> Flight<'_> {
     let r = 42_164.0;
     let moment = milliseconds(COVER_DAYS) - milliseconds(days) - u64::from(H);
@@ -32,14 +32,14 @@ fn journey(book: &[u8], days: u32) -> Flight<'_> {
     Flight::by_run(book, SETTING, &state, days * DAY)
 }
 
-/// Nanoseconds a step of the proved walk, document 01's in Rust and the best Rust shape.
+/// Nanoseconds per step of the proved walk, document 01's in Rust and the fastest Rust form.
 fn a_step(book: &[u8], (days, part): (u32, u32), times: u32) -> Result<[f64; 3], String> {
     let times = (times / part).max(3);
     let [proved, plain, _, best] = journey(book, days).timed(times)?;
     Ok([proved, plain, best].map(|t| t / f64::from(days * DAY)))
 }
 
-/// The figures as cells, those of one walk behind one another.
+/// The figures as cells, those of one walk next to each other.
 fn cells(walks: &[[f64; 3]]) -> String {
     let all = (0..3).flat_map(|walk| walks.iter().map(move |figures| figures[walk]));
     all.map(|figure| format!(" {figure:.0} |")).collect()

@@ -1,5 +1,6 @@
-//! What the programs of the yardstick share.
+//! Shared by the programs of the bench.
 
+pub mod asked;
 pub mod best;
 pub mod books;
 pub mod clock;

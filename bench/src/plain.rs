@@ -1,5 +1,5 @@
-//! Document 01's walk as it stands there: at every stage each body is looked up from the front of the contents, for its position alone.
-//! The reference beside it has request R-5's velocity in every lookup, and refuses one that is not finite.
+//! Document 01's walk, literally: at every stage each body is looked up from the front of the contents, for its position only. The
+//! reference also has request R-5's velocity in every lookup, and refuses one that is not finite.
 
 use reference::book::{entry, find, float_at};
 use reference::motion::{start_checks, step_by, walk_by, Outcome, Ran};
@@ -39,7 +39,7 @@ pub fn step(book: &[u8], setting: &Setting, s: &State, h: u32) -> Result<State, 
     step_by(|t, p| slope_under(&lookups(book, setting, t)?, setting, s.centre, p), s, h)
 }
 
-/// The run call without guesses, which this walk neither uses nor gives back.
+/// The run call without guesses, which this walk neither uses nor returns.
 pub fn run(book: &[u8], setting: &Setting, state: &State, h: u32, target: u64, budget: u32) -> Ran {
     let guesses = [0; 5];
     if let Err(number) = start_checks(book, setting, state, h, target) {

@@ -1,20 +1,22 @@
-//! `listing BOOK ORDER TIMES PROGRAM [WORDS]`: the program `strip`, started by PROGRAM and WORDS, beside Rust walks that
-//! print the same listing: document 01's, the reference's and the best shape (this program with `plain`, `walk` or `best`). The flight is the
-//! order's state with the Earth, the Moon and the Sun for thirty days at one-minute steps. What they print is compared first; then
-//! each is started TIMES times, one after the other in turn, and the least time of each is printed as a row of `bench/table`.
+//! `listing BOOK ORDER TIMES PROGRAM [WORDS]`: compares the program `strip`, started by PROGRAM and WORDS, with Rust walks that
+//! print the same listing. These are document 01's, the reference's and the fastest form (this program with `plain`, `walk` or
+//! `best`). The flight is the order's state with the Earth, the Moon and the Sun for thirty days at one-minute steps. The outputs
+//! are compared first. Then each program is started TIMES times, in turn, and the least time of each is printed as a row of
+//! `bench/table`.
 
 use std::io::{self, Read, Write};
 use std::process::ExitCode;
 
+use bench::asked::Asked;
 use bench::best::Best;
 use bench::flights::row;
 use bench::plain;
-use bench::race::{race, thirty_days};
+use bench::race::{race, racers, thirty_days, Laid};
 use reference::motion::{of_an_order, start_checks, step};
 use reference::rule::State;
 use reference::strip::{read_order, Order, ORDER};
 
-/// Lines of a listing, gathered in a buffer as large as a pipe.
+/// Lines of a listing, collected in a buffer as large as a pipe.
 struct Lines {
     out: io::StdoutLock<'static>,
     text: Vec<u8>,
@@ -46,7 +48,7 @@ impl Lines {
     }
 }
 
-/// The listing of a walk from a state that passed the checks, by a step.
+/// The listing of a walk by a step function, from a state that passed the checks.
 fn walked(
     lines: &mut Lines, order: &Order, from: State, mut step: impl FnMut(&State) -> Result<State, u64>,
 ) -> io::Result<()> {
@@ -64,7 +66,7 @@ fn walked(
     writeln!(lines.text, "ARRIVED {steps}")
 }
 
-/// The walk of an order and a book on standard input, with its listing, in the shape that a word names.
+/// The walk of an order and a book from standard input, with its listing, in the form that a word names.
 fn walk(shape: &str) -> io::Result<()> {
     let mut input = Vec::new();
     io::stdin().lock().read_to_end(&mut input)?;
@@ -84,28 +86,30 @@ fn walk(shape: &str) -> io::Result<()> {
     lines.flush()
 }
 
-fn bench(words: &[String]) -> io::Result<bool> {
-    let [book, order, times, program @ ..] = words else { return Ok(false) };
+fn bench(words: &[String]) -> io::Result<Option<ExitCode>> {
+    let [book, order, times, program @ ..] = words else { return Ok(None) };
     let (Some(input), Ok(times), false) =
         (thirty_days(&std::fs::read(order)?, &std::fs::read(book)?), times.parse::<u32>(), program.is_empty())
     else {
-        return Ok(false);
+        return Ok(None);
     };
-    let (listing, least) = race(program, &["plain", "walk", "best"], &input, times)?;
+    let input = Laid::new("order", &input)?;
+    let (listing, least) = race(&racers(program, &["plain", "walk", "best"], &[])?, input.path(), times)?;
     let name = format!("`strip` with its listing ({} bytes), the whole program", listing.len());
-    println!("{}", row(&name, [least[0], least[1], least[2], least[3]]));
-    Ok(true)
+    let mut asked = Asked::default();
+    println!("{}", row(&name, [least[0], least[1], least[2], least[3]], Some(1.03), &mut asked));
+    Ok(Some(asked.code()))
 }
 
 fn main() -> ExitCode {
     let words: Vec<String> = std::env::args().skip(1).collect();
     let done = match words.first().map(String::as_str) {
-        Some(shape @ ("plain" | "walk" | "best")) => walk(shape).map(|()| true),
+        Some(shape @ ("plain" | "walk" | "best")) => walk(shape).map(|()| Some(ExitCode::SUCCESS)),
         _ => bench(&words),
     };
     match done {
-        Ok(true) => ExitCode::SUCCESS,
-        Ok(false) => {
+        Ok(Some(code)) => code,
+        Ok(None) => {
             eprintln!("listing BOOK ORDER TIMES PROGRAM [WORDS] | listing plain | listing walk | listing best");
             ExitCode::from(2)
         }
