@@ -1,4 +1,4 @@
-"""What the checks of examples/ share: one line for each, and how a program of examples/ is started."""
+"""Shared by the checks of tools/: TAP lines, and how a program of tools/ is started."""
 import pathlib
 import subprocess
 import sys
@@ -6,18 +6,18 @@ import sys
 ROOT = pathlib.Path(__file__).resolve().parent.parent
 WORK = ROOT / 'target' / 'own'
 sys.dont_write_bytecode = True
-sys.path.extend(str(ROOT / 'examples' / folder) for folder in ('', 'order', 'book'))
+sys.path.extend(str(ROOT / 'tools' / folder) for folder in ('', 'order', 'book'))
 failed = 0
 
 
 def check(name, good, seen=''):
-    """One line; what was seen is told where it failed."""
+    """One line; if the check failed, the actual values follow."""
     global failed
     if good:
-        print(f'ok {name}', flush=True)
+        print(f'ok - {name}', flush=True)
     else:
         failed = 1
-        print(f'FAILED {name}: {seen}', flush=True)
+        print(f'not ok - {name}\n# {seen}', flush=True)
 
 
 def ran(*words, given=b''):
