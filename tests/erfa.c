@@ -1,10 +1,10 @@
-/* Greenwich mean sidereal time by ERFA (eraGmst82, in doubles) beside the answers of `ask` (in whole parts, rounded down).
+/* Greenwich mean sidereal time by ERFA (eraGmst82, in doubles) and the answers of `ask` (in whole parts, rounded down).
 
      erfa lines RULE      one line of ask for each epoch: every day from 1950 to 2049 at 0h UT and at a time of that day
-     erfa compare         reads the answers; says how many there were and how far the farthest is off, and ends with 1 if one is too far
+     erfa compare         reads the answers; prints their number and the greatest difference; the exit status is 1 if one is too great
 
-   ERFA adds up seconds of up to 4.4 million, a last place of which is 10^-9 s or 0.04 parts; an answer, rounded down, lies up to one
-   part below the value. So it lies between 0 and 1 part below ERFA's, give or take 0.2. */
+   ERFA adds up seconds of up to 4.4 million, whose last place is 10^-9 s or 0.04 parts. An answer is rounded down, so it is up to one part
+   below the value. It is therefore between 0 and 1 part below ERFA's, with a tolerance of 0.2. */
 #include <erfa.h>
 #include <inttypes.h>
 #include <math.h>
@@ -17,7 +17,7 @@
 #define CIRCLE 3600000000000.0
 #define TURN 6.283185307179586476925287
 
-/* The i-th epoch: 0h of a day, or a time of it that goes round the clock. */
+/* The i-th epoch: 0h of a day, or a time of day that varies from day to day. */
 static uint64_t epoch(uint64_t i) { return i / 2 * DAY + (i % 2 ? i / 2 * UINT64_C(55555553) % DAY : 0); }
 
 /* How far an answer lies below ERFA's value, in parts. */

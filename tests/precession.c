@@ -1,6 +1,6 @@
 /* Reads lines of a day since 1950 January 1 and the nine elements of a precession table from 1950.0, and compares each with the table by
-   ERFA's angles of 1976 (eraPrec76). Newcomb's constants and those of 1976 draw 5.2e-8 apart each year. Prints how many tables were
-   compared; ends with 1 if one is off. */
+   ERFA's angles of 1976 (eraPrec76). Newcomb's constants and those of 1976 differ by 5.2e-8 more each year. Prints how many tables were
+   compared; the exit status is 1 if one is wrong. */
 #include <erfa.h>
 #include <math.h>
 #include <stdio.h>
