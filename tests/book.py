@@ -1,6 +1,6 @@
 #!/usr/bin/env python3
-"""book.py START..: books of examples/book, asked by ask and flown by strip, started behind START.., beside the ephemeris at moments
-between and beside data/books. One line for each check; ends with 1 if one failed."""
+"""book.py START..: checks books of tools/book against the ephemeris between their nodes and against data/books. ask and strip, started by
+START.., read them. One line for each check; the exit status is 1 if one failed."""
 import math
 import pathlib
 import random
@@ -16,35 +16,35 @@ from moments import moment_of
 from pages import NUMBERS
 
 START = sys.argv[1:]
-BOOK = 'examples/book/book'
+BOOK = 'tools/book/book'
 BODIES = list(NUMBERS)
-NEAR, SLOW = 5e-6, 1e-8  # km and km/s: the bounds beside the ephemeris
-KIN = 5e-5, 1e-8  # beside data/books, whose own errors are up to 10 mm
+NEAR, SLOW = 5e-6, 1e-8  # km and km/s: the greatest differences from the ephemeris
+KIN = 5e-5, 1e-8  # the same for data/books, whose own errors are up to 10 mm
 
 
 def made(name, *words):
-    """A book in a file; what was told of it."""
+    """A book in a file, and the messages about it."""
     status, out, told = ran(BOOK, *words)
     (WORK / name).write_bytes(out)
     return status, told
 
 
 def asked(name, questions):
-    """Answers of ask under a book: position and velocity, or the refusal as it stands."""
+    """Answers of ask under a book: position and velocity, or the text of the refusal."""
     lines = ''.join(f'body {NUMBERS[body]} {moment}\n' for body, moment in questions).encode()
     answers = ran(*START, 'target/bin/ask', name, given=lines)[1].decode().splitlines()
     return [answer if answer.startswith('REFUSED') else struct.unpack('>6d', bytes.fromhex(answer)) for answer in answers]
 
 
 def apart(answers, expected):
-    """The greatest distance and difference of velocity; infinite where an answer is missing or a refusal."""
+    """The greatest distance and difference of velocity; infinite if an answer is missing or a refusal."""
     if len(answers) != len(expected) or any(isinstance(answer, str) for answer in answers):
         return math.inf, math.inf
     return tuple(max(math.dist(a[i:i + 3], b[i:i + 3]) for a, b in zip(answers, expected)) for i in (0, 3))
 
 
 def between(ephemeris):
-    """Nine days of 1969: at their ends and at random moments between; and a wrong ephemeris is seen."""
+    """Nine days of 1969: at their ends and at random moments between; a wrong ephemeris must be detected."""
     first, end = moment_of('1969-07-16T13:32'), moment_of('1969-07-25')
     status, told = made('week', '1969-07-16T13:32', '1969-07-25', 'jupiter', 'moon', 'mars', 'sun', 'venus')
     check('a book of nine days, a line a body', status == 0 and [line.split(':')[0] for line in told] == BODIES, told)
@@ -61,7 +61,7 @@ def between(ephemeris):
 
 
 def kin():
-    """The span of data/books/book31all.bin, which was made by other means."""
+    """The span of data/books/book31all.bin, which was made in another way."""
     made('month', '1963-01-13', '1963-02-14', *BODIES)
     random.seed(2)
     first, end = moment_of('1963-01-13'), moment_of('1963-02-14')
@@ -102,7 +102,7 @@ def limits():
 
 
 def other_tables(ephemeris):
-    """A table that is missing, cut short or of another form is told, not read."""
+    """A table that is missing, cut short or of another form is an error."""
     for name, change in (('cut short', lambda data: data[:-8]), ('with another array', lambda data: data[:8176] + b'\2' + data[8177:])):
         with tempfile.TemporaryDirectory() as folder:
             for end in ('f0', 'dat'):

@@ -1,7 +1,8 @@
 #!/usr/bin/env python3
-"""order.py START..: examples/order both ways, its wrong texts, and what strip and strip144, started behind START.., make of its orders.
-One line for each check; ends with 1 if one failed."""
+"""order.py START..: checks tools/order both ways, its wrong texts, injections as launch crews speak them and times in UT. strip, strip144
+and ask, started by START.., read its orders. A line of TAP for each check; the exit status is 1 if one failed."""
 import random
+import struct
 import sys
 from fractions import Fraction
 
@@ -10,25 +11,27 @@ from checks import ROOT, WORK, check, ran
 import form
 import reading
 import writing
+from spoken import question as spoken_question
 from values import float_bits
 
 START = sys.argv[1:]
-ORDER = 'examples/order/order'
-TEXT = (ROOT / 'examples/order/moonshot.txt').read_text()
+ORDER = 'tools/order/order'
+TEXT = (ROOT / 'tools/order/moonshot.txt').read_text()
+LAUNCH = (ROOT / 'tools/order/launch.txt').read_text()
 BOOK = (ROOT / 'data/books/book31all.bin').read_bytes()
 EDGES = [0, 1 << 63, 1, 0x7ff0000000000000, 0xfff0000000000000, 0x7ff8000000000000, 0x7ff0000000000001, 0xffffffffffffffff,
          0x7fefffffffffffff, 0x0010000000000000, 0x000fffffffffffff, 0x4340000000000000]
 
 
 def written(text, *options):
-    """What the program makes of a text."""
+    """The output of the program for a text."""
     (WORK / 'text').write_bytes(text if isinstance(text, bytes) else text.encode())
     return ran(ORDER, *options, WORK / 'text')
 
 
-def instead(key, line):
-    """The example's text with another line for a key, and the number of that line."""
-    lines = TEXT.splitlines()
+def instead(key, line, text=TEXT):
+    """An example's text with another line for a key, and the number of that line."""
+    lines = text.splitlines()
     place = next(i for i, old in enumerate(lines) if old.split()[:1] == [key])
     lines[place] = line
     return '\n'.join(lines) + '\n', place + 1
@@ -47,7 +50,7 @@ def any_bytes():
 
 
 def allowed_bytes():
-    """An order that the engine takes, as far as a text can tell."""
+    """An order that the engine accepts, as far as a text can show."""
     positive = [form.bits(random.uniform(0, 10 ** random.randrange(-3, 12))) for _ in range(9)]
     step, count = 2 * random.randrange(1, 43200001), random.randrange(0, 100)
     start = random.randrange(0, 3155760000000 - step * count)
@@ -75,7 +78,7 @@ def both_ways():
 
 
 def nearest():
-    """Decimals beside exact fractions: no float lies nearer."""
+    """Decimals against exact fractions: no float is nearer."""
     random.seed(7)
     worse = []
     for _ in range(3000):
@@ -102,7 +105,7 @@ def stored():
         check(f"{strip} flies it as ./flight's listing has it", flown == listing and len(listing) > 400000, len(flown))
 
 
-WRONG = [  # a key, the line in its place, a part of what is told
+WRONG = [  # a key, the line in its place, a part of the message
     ('start', 'start 1963-13-13T18:42:36.297', 'month'), ('start', 'start 1963-02-29', 'day'),
     ('start', 'start 1949-12-31', 'within 1950'), ('start', 'start 2050-01-01', 'within 1950'),
     ('start', 'start 1963-01-13T24:00', 'hour'), ('start', 'start 1963-01-13T18:42:60', 'second'),
@@ -133,8 +136,85 @@ REFUSED = [  # the same, with the number by which the engine refuses such an ord
 ]
 
 
+WRONG_LAUNCH = [  # for the launch's text: a key, the line in its place, a part of the message
+    ('latitude', 'latitude 28.309', 'wanted: one number and deg'), ('latitude', 'latitude 28,309 deg', 'wanted'),
+    ('latitude', 'latitude 1e1 deg', 'wanted'), ('latitude', 'latitude 28.30900000001 deg', 'more than ten decimals'),
+    ('azimuth', 'azimuth 90 deg deg', 'wanted'), ('path', 'path nan deg', 'wanted'), ('radius', 'radius 6570', 'wanted: one number and km'),
+    ('speed', 'speed 10.9 km', 'wanted'), ('rule', 'rule 2', 'wanted: 0'), ('path', 'position 1 2 3 km', 'give one of the two'),
+    ('latitude', 'latitude 90.0000000001 deg', 'refused by 12'), ('path', 'path -90.0000000001 deg', 'refused by 12'),
+    ('longitude', 'longitude 360 deg', 'refused by 12'), ('azimuth', 'azimuth -0.0000000001 deg', 'refused by 12'),
+    ('radius', 'radius 0x7ff0000000000000 km', 'refused by 7'), ('speed', 'speed 0x7ff8000000000000 km/s', 'refused by 7'),
+    ('radius', 'radius 0 km', 'refused by 7'), ('radius', 'radius -6570 km', 'refused by 7'),
+    ('start', 'start 34999 ms', 'refused by 3'),
+    ('start', 'start 1963-01-13T00:00:00 UTC', 'no time'), ('start', 'start 2049-12-31T23:59:59.999 UT', 'refused by 3'),
+    ('target', 'target +3 h UT', 'no length'), ('dut', 'dut 35', 'no length'),
+]
+
+
+def launch_text(key=None, line=None):
+    """The launch's text, which has a line for the rule too, with another line for a key."""
+    text = LAUNCH + 'rule 0\n'
+    return instead(key, line, text) if key else (text, 0)
+
+
+def spoken():
+    """The launch by the program, against the answer of ask itself; the same with its times in ephemeris time."""
+    status, out, told = written(LAUNCH)
+    check('a launch in UT is an order', (status, len(out), told) == (0, 120, []), told)
+    order = form.unpack(out)
+    start = 4760 * 86400000 + 35000
+    check('UT is earlier than the moment by DUT', (order['start'], order['target']) == (start, start + 3 * 3600000), order)
+    question = f'sphere 0 35000 {start} {form.bits(6570.0):016x} 283090000000 2794570000000 {form.bits(10.9):016x} 0 900000000000'
+    answer = ran(*START, 'target/bin/ask', given=f'{question}\n'.encode())[1].decode().split()
+    made = [f'{pattern:016x}' for pattern in (*order['position'], *order['velocity'])]
+    check("position and velocity are ask's own", answer == [str(start), *made], f'{answer} {made}')
+    in_et = LAUNCH.replace('T00:00:00 UT', 'T00:00:35').replace('T03:00:00 UT', 'T03:00:35 ET')
+    check('the same times in ephemeris time give the same order', written(in_et) == (0, out, []))
+    other = written(LAUNCH + 'rule 1\n')
+    check('the rule of 1982 gives another position', other[0] == 0 and other[1] != out and other[1][:56] == out[:56], other[2])
+    flown = ran(*START, 'target/bin/strip', given=out + BOOK)[1]
+    check('strip flies the launch for 180 steps', flown.endswith(b'\nARRIVED 180\n'), flown[-40:])
+    for key, line, words in WRONG_LAUNCH:
+        text, place = launch_text(key, line)
+        answer = written(text)
+        check(f"told by line: '{line}'", told_at(place, words, answer), answer)
+    # on the equator, along an axis and with the turning Earth: the largest speed and the Earth's own are above all floats
+    parts = -int(ran(*START, 'target/bin/ask', given=f'hour {start} 35000\n'.encode())[1]) % 3600000000000
+    text = LAUNCH.replace('6570 km', '1.7976931348623157e308 km').replace('10.9 km/s', '1.7976931348623157e308 km/s')
+    text = text.replace('28.309 deg', '0 deg').replace('279.457 deg', f'{parts // 10 ** 10}.{parts % 10 ** 10:010} deg')
+    place = 1 + next(i for i, line in enumerate(text.splitlines()) if line.startswith('radius'))
+    answer = written(text)
+    check('what the proved call alone refuses is told', told_at(place, 'refuses this injection: refused by 7', answer), answer)
+    lines = [line for line in LAUNCH.splitlines() if not line.startswith(('azimuth', 'speed'))]
+    status, out, told = written('\n'.join(lines) + '\n')
+    missing = sorted(one.rsplit(': ')[-1] for one in told)
+    check('what is missing of a launch', (status, out, missing) == (1, b'', ['azimuth is missing', 'speed is missing']), told)
+
+
+def many_spoken():
+    """Angles, sizes and times from a seed reach the proved call as they are written."""
+    random.seed(35)
+    wrong, questions, seen = [], [], []
+    for _ in range(500):
+        parts = [random.randrange(-900000000000, 900000000001), random.randrange(3600000000000), random.randrange(-900000000000, 900000000001),
+                 random.randrange(3600000000000)]
+        radius, speed = random.uniform(6378, 9000), random.uniform(0, 12)
+        dut, ut = random.randrange(100001), random.randrange(3155760000000 - 100001)
+        degrees = [f'{"-" if part < 0 else ""}{abs(part) // 10 ** 10}.{abs(part) % 10 ** 10:010} deg' for part in parts]
+        text = (f'start {writing.moment_text(ut)} UT\ndut {dut} ms\nradius {radius!r} km\nspeed {speed!r} km/s\nlatitude {degrees[0]}\n'
+                f'longitude {degrees[1]}\npath {degrees[2]}\nazimuth {degrees[3]}\nstep 60 s\ntarget +0 s\nearth nominal\n')
+        _, told = reading.read(text.encode(), False, lambda order: (questions.append(spoken_question(order)), ([0] * 3, [0] * 3))[1])
+        wrong += told
+        seen.append(f'sphere 0 {dut} {ut + dut} {form.bits(radius):016x} {parts[0]} {parts[1]} {form.bits(speed):016x} {parts[2]} {parts[3]}')
+    check('500 injections reach the proved call as they are written', questions == seen and not wrong, wrong[:2])
+    answers = ran(*START, 'target/bin/ask', given='\n'.join([*questions, '']).encode())[1].decode().splitlines()
+    floats = [struct.unpack('>6d', bytes.fromhex(''.join(answer.split()[1:]))) for answer in answers if len(answer.split()) == 7]
+    far = [six for six in floats if not 6377 < sum(x * x for x in six[:3]) ** 0.5 < 9001]
+    check('and each has its radius in the answer', len(floats) == 500 and not far, answers[:1])
+
+
 def told_at(place, words, answer):
-    """Whether these words are told of this line, and nothing is written."""
+    """Whether this message is printed for this line, and no order is written."""
     status, out, told = answer
     return (status, out) == (1, b'') and any(one.startswith(f'{WORK / "text"}:{place}: ') and words in one for one in told)
 
@@ -153,7 +233,7 @@ def wrong_texts():
 
 
 def many_lines():
-    """Each wrong line is told, in order; what is missing, behind the last line."""
+    """Each wrong line is reported, in order; a missing key is reported after the last line."""
     text = TEXT.replace('step ', 'stop ').replace('earth ', 'earth x').encode() + b'\xff\nmoon nominal\n'
     status, out, told = written(text)
     places = [int(one.split(':')[1]) for one in told]
@@ -169,15 +249,17 @@ def many_lines():
 
 
 def use():
+    status, out, told = ran(ORDER, '--help')
+    check('help names every key', (status, told) == (0, []) and all(key.encode() in out for key in reading.READERS), told)
     for words in ([], ['--back'], ['one', 'two'], ['--none', 'x'], ['-']):
         status, out, told = ran(ORDER, *words)
         check(f'use told: {words}', (status, out) == (2, b'') and told[0].startswith('use: order'), told)
     for words, start in ((['target/own/nothing'], 'order: cannot read target/own/nothing: No such file'),
                          (['target'], 'order: cannot read target: Is a directory'),
-                         (['--back', 'examples/order/moonshot.txt'], 'examples/order/moonshot.txt: ')):
+                         (['--back', 'tools/order/moonshot.txt'], 'tools/order/moonshot.txt: ')):
         status, out, told = ran(ORDER, *words)
         check(f'told: {words}', (status, out, len(told)) == (1, b'', 1) and told[0].startswith(start), told)
-    status, _, told = ran('sh', '-c', f'{ORDER} examples/order/moonshot.txt >/dev/full')
+    status, _, told = ran('sh', '-c', f'{ORDER} tools/order/moonshot.txt >/dev/full')
     check('a full disk told', status == 1 and told == ['order: cannot write: No space left on device'], told)
 
 
@@ -185,6 +267,8 @@ WORK.mkdir(parents=True, exist_ok=True)
 stored()
 both_ways()
 nearest()
+spoken()
+many_spoken()
 wrong_texts()
 many_lines()
 use()

@@ -1,6 +1,6 @@
 #!/usr/bin/env python3
-"""places.py: that every definition which docs/ARCHITECTURE.md names stands in the file that it names, every crate of the way in
-crates.txt, and what ./flight printed (target/flight.printed) in the README. One line for each check; ends with 1 if one failed."""
+"""places.py: checks that every definition named in docs/ARCHITECTURE.md is in the named file, and every named crate in crates.txt. The
+README must have the output of ./flight (target/flight.printed). One line for each check; the exit status is 1 if one failed."""
 import re
 import sys
 
@@ -26,7 +26,7 @@ def lost(page):
 page = (ROOT / 'docs/ARCHITECTURE.md').read_text()
 missing, count = lost(page)
 check(f'{count} definitions stand where docs/ARCHITECTURE.md says', count > 100 and not missing, missing)
-check('a definition that is not there is seen', len(lost(page.replace('`covers`', '`coves`').replace('series/Series', 'series/Row'))[0]) > 4)
+check('a definition that is not there is seen', len(lost(page.replace('`covers`', '`coves`').replace('book_series/Series', 'series/Row'))[0]) > 4)
 crates = [line.split(':')[0] for line in (ROOT / 'crates.txt').read_text().splitlines()]
 way = re.findall(r'^\d+\. `(\w+)`', page, re.M)
 check(f'the {len(way)} crates of the way stand in crates.txt', len(way) == 13 and set(way) <= set(crates), set(way) - set(crates))
