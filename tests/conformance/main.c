@@ -1,10 +1,10 @@
-/* c-link BOOK: document 01's figures by the calls of belfrywool.h, and a flight to the Moon of the book. Numbers that are no whole
-   ones are printed as their bits. */
+/* c-link BOOK: document 01's figures by the calls of belfrywool_calls.h, and a flight to the Moon of the book. Numbers that are not
+   whole are printed as their bits. */
 #include <inttypes.h>
 #include <stdio.h>
 #include <string.h>
 
-#include "belfrywool.h"
+#include "belfrywool_calls.h"
 
 enum { EARTH = 1, MOON = 2, MARS = 5 };
 
@@ -66,7 +66,7 @@ static uint8_t *put(uint8_t *at, uint64_t number, int bytes) {
 
 enum { BOOK = 104 };
 
-/* A book of one entry: the Moon from 0 to 2000, by three coefficients an axis. */
+/* A book of one entry: the Moon from 0 to 2000, with three coefficients for each axis. */
 static void moon_book(uint8_t book[BOOK], const double coefficients[9]) {
     uint8_t *at = put(put(book, BOOK, 4), 1, 4);
     at = put(put(put(put(put(at, 2, 2), 3, 2), 32, 4), 0, 8), 2000, 8);
@@ -93,7 +93,7 @@ static void positions(void) {
     }
 }
 
-/* What a repair did: entries kept of those looked at, bytes written, what changed, and each entry's fate. */
+/* The report of a repair: entries kept of those looked at, bytes written, what changed, and the fate of each entry. */
 static void repaired(const uint64_t report[7], const uint16_t *fates) {
     printf(" kept %" PRIu64 " of %" PRIu64 ", %" PRIu64 " bytes, changed", report[1], report[0], report[2]);
     for (int i = 3; i < 7; i++) printf(" %" PRIu64, report[i]);
@@ -140,7 +140,30 @@ static void accelerations(void) {
 static const uint8_t empty[8] = {8};
 static const double earth[6] = {8};
 
-/* Where a journey stands: a state, and guesses for the next call. */
+/* Whether the second book holds every entry of the first. */
+static void held_line(const char *what, const uint8_t *first, size_t length, const uint8_t *second, size_t second_length) {
+    uint64_t missing = 99;
+    uint64_t number = belfry_book_holds(first, length, second, second_length, &missing);
+    printf("%s:", what);
+    if (number == BELFRY_HELD) printf(" every entry is held, %" PRIu64 "\n", missing);
+    else if (number == BELFRY_NOT_HELD) printf(" entry %" PRIu64 " is missing\n", missing);
+    else refused(number);
+}
+
+static void two_books(void) {
+    uint8_t book[BOOK], other[BOOK];
+    double series[9] = {1, 2, 3, 1, 2, 3, 1, 2, 0};
+    moon_book(book, series);
+    series[8] = -0.0;
+    moon_book(other, series);
+    held_line("the empty book beside the Moon's", empty, 8, book, BOOK);
+    held_line("the Moon's beside the empty book", book, BOOK, empty, 8);
+    held_line("the Moon's beside itself", book, BOOK, book, BOOK);
+    held_line("the Moon's beside one with -0.0 for 0.0", book, BOOK, other, BOOK);
+    held_line("the Moon's beside itself cut short", book, BOOK, book, BOOK - 1);
+}
+
+/* The state that a journey has reached, and guesses for the next call. */
 struct place {
     uint64_t moment;
     double coordinates[6];
@@ -207,7 +230,7 @@ static void states(void) {
     floats(turned + 2, 1);
 }
 
-/* A launch from the Cape, level and to the east, and an hour's flight under the Earth alone. */
+/* A launch from the Cape, level and to the east, and a flight of an hour with only the Earth. */
 static void launch(void) {
     const double sizes[2] = {6570, 7.8}, mass[6] = {398600.63};
     int64_t angles[4] = {283090000000, 2794570000000, 0, 900000000000};
@@ -239,14 +262,14 @@ static double length(const double v[3]) {
     return value;
 }
 
-/* Where a journey about any centre stands: a whole state, the acceleration behind its six coordinates, and guesses. */
+/* The same for a journey about any centre: a whole state, with the acceleration after its six coordinates, and guesses. */
 struct whole {
     uint64_t moment;
     double coordinates[9];
     uint64_t guesses[5];
 };
 
-/* How far from its centre a state is, in km, and how fast it goes, in km/s. */
+/* The distance of a state from its centre, in km, and its speed, in km/s. */
 static void told_from(const char *what, uint32_t steps, uint64_t centre, const double coordinates[6]) {
     printf("%s, steps %" PRIu32 ": %.3f km from centre %" PRIu64 ", %.6f km/s\n", what, steps, length(coordinates), centre,
            length(coordinates + 3));
@@ -316,6 +339,18 @@ static void frame_line(const uint64_t pane[5], const double places[18], uint64_t
     else refused(number);
 }
 
+/* One line for a frame with velocity. */
+static void motion_line(const uint64_t pane[5], const double places[18], uint64_t moment) {
+    double motion[6];
+    uint64_t late;
+    uint64_t number = belfry_frame_motion(pane, places, moment, motion, &late);
+    printf("motion %" PRIu64 ":", moment);
+    if (number == BELFRY_CURRENT) floats(motion, 6);
+    else if (number == BELFRY_LATE) printf(" late by %" PRIu64 " ms, %d\n", late, motion[5] != motion[5]);
+    else if (number == BELFRY_EMPTY) printf(" empty\n");
+    else refused(number);
+}
+
 /* The first minute of that flight in a pane, and a second one under a book without the Moon. */
 static void live(void) {
     const double injection[6] = {5936.9501, 2718.6042, -728.83219, -4.2284408, 8.5267773, -5.4530145};
@@ -336,6 +371,7 @@ static void live(void) {
         memcpy(lent, empty, lent_length = sizeof empty);
     }
     for (int i = 0; i < 6; i++) frame_line(pane, places, moments[i]);
+    for (int i = 0; i < 5; i++) motion_line(pane, places, moments[i]);
     belfry_clear(pane, places);
     frame_line(pane, places, start);
 }
@@ -351,6 +387,7 @@ int main(int count, char **words) {
     calendar();
     angles();
     positions();
+    two_books();
     repairs();
     accelerations();
     runs();
