@@ -1,4 +1,4 @@
-"""Chromium without a screen, driven over WebDriver by python's own library."""
+"""Chromium without a screen, controlled over WebDriver with Python's standard library."""
 import json
 import socket
 import subprocess
@@ -56,7 +56,7 @@ class Browser:
         told("POST", f"{self.session}/window/rect", {"width": width, "height": height})
 
     def second(self):
-        """Opens a second window, and gives the names of both."""
+        """Opens a second window, and returns the names of both."""
         first = told("GET", f"{self.session}/window")
         return first, told("POST", f"{self.session}/window/new", {"type": "window"})["handle"]
 
@@ -64,7 +64,7 @@ class Browser:
         told("POST", f"{self.session}/window", {"handle": window})
 
     def close(self):
-        """Closes the window that it is turned to."""
+        """Closes the current window."""
         told("DELETE", f"{self.session}/window")
 
     def end(self):
