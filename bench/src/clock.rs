@@ -39,14 +39,20 @@ pub fn children() -> f64 {
     [used.user, used.system].iter().map(|time| time.seconds as f64 * 1e3 + time.parts as f64 / 1e3).sum()
 }
 
-/// The least nanoseconds of each over a number of rounds; they run in turn.
-pub fn least<const N: usize>(times: u32, mut turns: [&mut dyn FnMut(); N]) -> [f64; N] {
-    let mut best = [f64::INFINITY; N];
+/// What is timed.
+pub type Turn<'a> = Box<dyn FnMut() + 'a>;
+
+/// The least nanoseconds of each over a number of rounds. All rows run in every round, each of them in turn: if the machine is slow
+/// for a while, that is a part of every row's rounds and not all rounds of one row.
+pub fn least<const N: usize>(times: u32, rows: &mut [[Turn<'_>; N]]) -> Vec<[f64; N]> {
+    let mut best = vec![[f64::INFINITY; N]; rows.len()];
     for _ in 0..times {
-        for (best, turn) in best.iter_mut().zip(&mut turns) {
-            let start = thread();
-            turn();
-            *best = best.min(thread() - start);
+        for (best, row) in best.iter_mut().zip(rows.iter_mut()) {
+            for (best, turn) in best.iter_mut().zip(row) {
+                let start = thread();
+                turn();
+                *best = best.min(thread() - start);
+            }
         }
     }
     best

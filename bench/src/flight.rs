@@ -8,7 +8,7 @@ use reference::extras::Extras;
 use reference::motion::{of_an_order, run, Outcome, Ran};
 use reference::rule::{Setting, State};
 
-use crate::clock::{least, took};
+use crate::clock::{least, took, Turn};
 use crate::{best, plain};
 
 pub const H: u32 = 60_000;
@@ -109,15 +109,21 @@ impl<'a> Flight<'a> {
         reached.is_some() && others.iter().all(|other| *other == reached)
     }
 
-    /// Nanoseconds of the four walks, after they are compared.
-    pub fn timed(&self, times: u32) -> Result<[f64; 4], String> {
-        if !self.same() {
-            return Err("the walks differ, or do not arrive".to_string());
-        }
-        let mut proved = || took(self.proved());
-        let mut plain = || took(self.plain());
-        let mut reference = || took(self.reference());
-        let mut best = || took(self.best());
-        Ok(least(times, [&mut proved, &mut plain, &mut reference, &mut best]))
+    fn turns(&self) -> [Turn<'_>; 4] {
+        [
+            Box::new(|| took(self.proved())),
+            Box::new(|| took(self.plain())),
+            Box::new(|| took(self.reference())),
+            Box::new(|| took(self.best())),
+        ]
     }
+}
+
+/// Nanoseconds of the four walks of each flight, after they are compared.
+pub fn timed(flights: &[&Flight], times: u32) -> Result<Vec<[f64; 4]>, String> {
+    if let Some(wrong) = flights.iter().position(|flight| !flight.same()) {
+        return Err(format!("flight {}: the walks differ, or do not arrive", wrong + 1));
+    }
+    let mut rows: Vec<[Turn<'_>; 4]> = flights.iter().map(|flight| flight.turns()).collect();
+    Ok(least(times, &mut rows))
 }

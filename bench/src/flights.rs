@@ -7,7 +7,7 @@ use reference::strip::{read_order, Order};
 
 use crate::asked::{by_machine, Asked};
 use crate::books::preceded;
-use crate::flight::{Flight, DAY, H, THIRTY_DAYS};
+use crate::flight::{timed, Flight, DAY, H, THIRTY_DAYS};
 
 const MOON: u64 = 2;
 /// The time that the full book covers, with 106 entries of the Moon and 53 of the Sun.
@@ -92,9 +92,9 @@ pub fn table(given: &Given, times: u32) -> Result<Asked, String> {
     }
     let mut asked = Asked::default();
     println!("{HEAD}");
-    for (name, flight, most) in flights {
-        let times = flight.timed(times).map_err(|error| format!("{name}: {error}"))?;
-        println!("{}", row(name, times.map(|t| t / 1e6), Some(most), &mut asked));
+    let all: Vec<&Flight> = flights.iter().map(|(_, flight, _)| flight).collect();
+    for ((name, _, most), figures) in flights.iter().zip(timed(&all, times)?) {
+        println!("{}", row(name, figures.map(|t| t / 1e6), Some(*most), &mut asked));
     }
     Ok(asked)
 }
