@@ -209,13 +209,11 @@ pub async fn clock(service: &Arc<Service>, request: Request<Body>) -> Answer {
     let Some(to) = asked(&bytes) else {
         return plain(StatusCode::BAD_REQUEST, say::NOT_JSON);
     };
-    if !service.clock.set(to) {
-        return plain(StatusCode::CONFLICT, say::BACKWARDS);
-    }
     let service = Arc::clone(service);
-    let settled = tokio::task::spawn_blocking(move || service.settle()).await;
-    match settled {
-        Ok(()) => json(StatusCode::OK, serde_json::json!({ "moment": to, "et": text(to) }).to_string()),
+    let set = tokio::task::spawn_blocking(move || service.set_clock(to)).await;
+    match set {
+        Ok(false) => plain(StatusCode::CONFLICT, say::BACKWARDS),
+        Ok(true) => json(StatusCode::OK, serde_json::json!({ "moment": to, "et": text(to) }).to_string()),
         Err(_) => plain(StatusCode::INTERNAL_SERVER_ERROR, say::TOO_SLOW),
     }
 }

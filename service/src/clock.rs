@@ -30,6 +30,8 @@ pub struct Reading {
     pub desk: u64,
     /// By UTC: how far the machine's clock is behind the greatest seen.
     pub behind: u64,
+    /// How many times it has been set by hand.
+    pub sets: u64,
 }
 
 struct Seen {
@@ -37,6 +39,7 @@ struct Seen {
     at: Duration,
     greatest: u64,
     hand: u64,
+    sets: u64,
     faults: Vec<Fault>,
 }
 
@@ -58,7 +61,7 @@ impl Clock {
 
     fn at(pace: Pace, wall: u64) -> Clock {
         let hand = if let Pace::Hand { moment } = pace { moment } else { 0 };
-        let seen = Seen { wall, at: Duration::ZERO, greatest: wall, hand, faults: Vec::new() };
+        let seen = Seen { wall, at: Duration::ZERO, greatest: wall, hand, sets: 0, faults: Vec::new() };
         Clock { pace, start: Instant::now(), seen: Mutex::new(seen) }
     }
 
@@ -91,7 +94,7 @@ impl Clock {
         let mut seen = self.seen();
         let forward = moment >= seen.hand;
         if forward {
-            seen.hand = moment;
+            (seen.hand, seen.sets) = (moment, seen.sets + 1);
         }
         forward
     }
@@ -124,7 +127,7 @@ impl Clock {
             Pace::Hand { .. } => seen.hand,
         };
         let behind = if self.is_utc() { seen.greatest - seen.wall } else { 0 };
-        Reading { wall: seen.wall, desk, behind }
+        Reading { wall: seen.wall, desk, behind, sets: seen.sets }
     }
 }
 
@@ -145,11 +148,11 @@ mod tests {
     #[test]
     fn by_utc_it_stands_while_the_machine_is_behind() {
         let clock = Clock::at(Pace::Utc, T);
-        assert_eq!(looked(&clock, T + 1000, ms(1000)), Reading { wall: T + 1000, desk: T + 1000, behind: 0 });
-        assert_eq!(looked(&clock, T - 58_900, ms(1100)), Reading { wall: T - 58_900, desk: T + 1000, behind: 59_900 });
+        assert_eq!(looked(&clock, T + 1000, ms(1000)), Reading { wall: T + 1000, desk: T + 1000, behind: 0, sets: 0 });
+        assert_eq!(looked(&clock, T - 58_900, ms(1100)), Reading { wall: T - 58_900, desk: T + 1000, behind: 59_900, sets: 0 });
         assert_eq!(clock.faults(), [Fault::Back(60_000)]);
         assert_eq!(looked(&clock, T, ms(60_000)).desk, T + 1000);
-        assert_eq!(looked(&clock, T + 1001, ms(61_001)), Reading { wall: T + 1001, desk: T + 1001, behind: 0 });
+        assert_eq!(looked(&clock, T + 1001, ms(61_001)), Reading { wall: T + 1001, desk: T + 1001, behind: 0, sets: 0 });
         assert_eq!(clock.faults(), []);
     }
 
@@ -165,7 +168,7 @@ mod tests {
     #[test]
     fn at_a_speed_it_does_not_follow_the_machine() {
         let clock = Clock::at(Pace::From { moment: 5_000, speed: 60 }, T);
-        assert_eq!(looked(&clock, T - 99_000, ms(1000)), Reading { wall: T - 99_000, desk: 65_000, behind: 0 });
+        assert_eq!(looked(&clock, T - 99_000, ms(1000)), Reading { wall: T - 99_000, desk: 65_000, behind: 0, sets: 0 });
         assert_eq!(clock.faults(), [Fault::Back(100_000)]);
     }
 
@@ -174,6 +177,6 @@ mod tests {
         let clock = Clock::at(Pace::Hand { moment: 5_000 }, T);
         assert_eq!(looked(&clock, T + 9000, ms(9000)).desk, 5_000);
         assert!(clock.set(6_000) && clock.set(6_000) && !clock.set(5_999));
-        assert_eq!(looked(&clock, T + 9000, ms(9001)).desk, 6_000);
+        assert_eq!(looked(&clock, T + 9000, ms(9001)), Reading { wall: T + 9000, desk: 6_000, behind: 0, sets: 2 });
     }
 }

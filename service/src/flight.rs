@@ -76,8 +76,8 @@ pub struct Flight {
     judged: HashMap<String, Option<u64>>,
     unkept: Vec<(Kind, Vec<u8>)>,
     unkept_fault: Option<String>,
-    /// What the last logged frame was: its second and its kind.
-    logged: Option<(u64, (&'static str, u64, Option<String>))>,
+    /// What the last logged frame was: its second, how many times the clock had been set by hand, and its kind.
+    logged: Option<(u64, u64, (&'static str, u64, Option<String>))>,
     jump: Option<(Instant, u64)>,
     /// Notices about the order, the folder, the log's past, and books.
     about_notices: Vec<String>,
@@ -255,7 +255,7 @@ impl Flight {
 
     /// Brings the flight to the clock's moment if time allows, logs what is due, and publishes the frame. Returns whether the
     /// flight is at that moment.
-    pub fn tick(&mut self, reading: &Reading, utc: bool, until: Instant, line: bool) -> (Published, bool) {
+    pub fn tick(&mut self, reading: &Reading, utc: bool, until: Instant) -> (Published, bool) {
         if !self.is_ready() {
             return (self.publish(&Shown::empty(say::NO_ORDER), reading), true);
         }
@@ -268,12 +268,13 @@ impl Flight {
             shown.reason = self.walk.as_ref().map_or(String::new(), |walk| say::waits(walk.at()));
             return (self.publish(&shown, reading), false);
         }
+        // A clock set by hand gets one line each time it is set, whoever ticks first.
         let (second, kind) = (self.moment / SECOND, shown.kind(book));
-        let is_new = self.logged.as_ref().map_or(true, |(last, old)| second > *last || kind != *old);
-        if line || is_new {
+        let is_old = |(last, sets, old): &(u64, u64, _)| second <= *last && reading.sets == *sets && kind == *old;
+        if !self.logged.as_ref().is_some_and(is_old) {
             let entry = shown.entry(book);
             self.write(reading.wall, entry);
-            self.logged = Some((second, kind));
+            self.logged = Some((second, reading.sets, kind));
         }
         (self.publish(&shown, reading), true)
     }

@@ -53,6 +53,8 @@ pub struct Service {
     turn: AtomicUsize,
     /// Orders that are being made.
     making: AtomicUsize,
+    /// Held while the clock is being set by hand.
+    setting: Mutex<()>,
     flights: RwLock<BTreeMap<String, Arc<Handle>>>,
     stopping: AtomicBool,
 }
@@ -67,8 +69,8 @@ impl Handle {
         held(&self.flight)
     }
 
-    fn tick(&self, flight: &mut Flight, service: &Service, until: Instant, line: bool) -> bool {
-        let (published, there) = flight.tick(&service.clock.read(), service.clock.is_utc(), until, line);
+    fn tick(&self, flight: &mut Flight, service: &Service, until: Instant) -> bool {
+        let (published, there) = flight.tick(&service.clock.read(), service.clock.is_utc(), until);
         *held(&self.published) = Arc::new(published);
         *held(&self.flush) = flight.flusher();
         there
@@ -82,7 +84,7 @@ impl Handle {
         }
         // The thread that holds the flight makes a frame.
         if let Ok(mut flight) = self.flight.try_lock() {
-            self.tick(&mut flight, service, Instant::now() + SHARED, false);
+            self.tick(&mut flight, service, Instant::now() + SHARED);
         }
         let last = Arc::clone(&held(&self.published));
         (last.made.elapsed() < STALE).then_some(last)
@@ -100,6 +102,7 @@ impl Service {
             maker,
             turn: AtomicUsize::new(0),
             making: AtomicUsize::new(0),
+            setting: Mutex::new(()),
             flights: RwLock::new(BTreeMap::new()),
             stopping: AtomicBool::new(false),
         }
@@ -130,7 +133,7 @@ impl Service {
         }
         for name in names.into_iter().filter(|name| self.flight(name).is_none()).collect::<Vec<_>>() {
             let mut flight = Flight::new(&name, &self.log_folder);
-            let (published, _) = flight.tick(&self.clock.read(), self.clock.is_utc(), Instant::now(), false);
+            let (published, _) = flight.tick(&self.clock.read(), self.clock.is_utc(), Instant::now());
             let handle = Handle {
                 name: name.clone(),
                 flight: Mutex::new(flight),
@@ -197,7 +200,7 @@ impl Service {
     // ---- threads
 
     /// Ticks every flight; whether all are at the clock's moment.
-    pub fn tick(&self, line: bool) -> bool {
+    pub fn tick(&self) -> bool {
         let (reading, faults) = (self.clock.read(), self.clock.faults());
         let (end, mut there) = (Instant::now() + SLICES, true);
         // Another flight is first each time: one that cannot catch up must not use up the time of the others.
@@ -210,18 +213,30 @@ impl Service {
         for handle in all {
             let mut flight = handle.flight();
             faults.iter().for_each(|fault| flight.tell_clock(*fault, reading.wall));
-            there &= handle.tick(&mut flight, self, end.min(Instant::now() + SLICE), line);
+            there &= handle.tick(&mut flight, self, end.min(Instant::now() + SLICE));
         }
         there
     }
 
-    /// Brings every flight to a clock that was set by hand, and logs a line each.
-    pub fn settle(&self) {
+    /// Sets a clock that is set by hand, and brings every flight to it, one such call at a time. Returns whether this is not
+    /// backwards.
+    pub fn set_clock(&self, moment: u64) -> bool {
+        let _alone = held(&self.setting);
+        if !self.clock.set(moment) {
+            return false;
+        }
         for handle in self.all() {
-            while !handle.tick(&mut handle.flight(), self, Instant::now() + SLICE, true) && !self.is_stopping() {
+            while !handle.tick(&mut handle.flight(), self, Instant::now() + SLICE) && !self.is_stopping() {
                 thread::yield_now();
             }
         }
+        true
+    }
+
+    /// What arrives at a moment: not while the clock is being set, so that each flight has its line for that first.
+    fn arrive(&self, coming: &mut Coming) {
+        let _alone = held(&self.setting);
+        coming.arrive(self.clock.read().desk);
     }
 
     fn flush(&self) {
@@ -258,11 +273,11 @@ impl Service {
             thread::sleep(Duration::from_millis(5));
         }
         self.look(&mut looker, &mut told);
-        while !self.tick(false) && Instant::now() < patience {}
+        while !self.tick() && Instant::now() < patience {}
         self.every("look", LOOK, move |service| service.look(&mut looker, &mut told));
         self.every("tick", TICK, move |service| {
-            coming.iter_mut().for_each(|coming| coming.arrive(service.clock.read().desk));
-            service.tick(false);
+            coming.iter_mut().for_each(|coming| service.arrive(coming));
+            service.tick();
         });
         self.every("flush", FLUSH, |service| service.flush());
     }
