@@ -47,10 +47,22 @@ def say(text):
     print(text, flush=True)
 
 
+def wait_for_proofs(head):
+    """Waits until what the test needs is there, if the proofs are part of this run: they leave a file for each stage that they have passed
+    (tests/proofs), and a record when they end."""
+    if not os.environ.get('TEST_PROOFS') or NAME == 'proofs':
+        return
+    signs = [os.path.join(FOLDER, sign) for sign in (('begun',), ('proved',), ())[head.stage()] + ('proofs.json',)]
+    until = time.monotonic() + headers.read('proofs').limit()
+    while not any(map(os.path.exists, signs)) and time.monotonic() < until:
+        time.sleep(0.2)
+
+
 def main():
     processes.adopt()
     processes.end_with_parent()
     head = headers.read(NAME)
+    wait_for_proofs(head)
     options = head.quick if os.environ.get('TEST_QUICK') else os.environ.get('TEST_OPTIONS', '')
     words = [str(headers.TESTS / NAME)] + (['--spoil', *SPOIL.split('-')[1:]] if SPOIL else options.split())
     begun, counts = time.monotonic(), Counts()

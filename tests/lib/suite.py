@@ -83,28 +83,37 @@ class Run:
         self.good = True
         self.environment = dict(os.environ, TEST_FOLDER=str(folder), NO_INSTALL='1', **options)
 
-    def prove(self, jobs, at_once=1, apart=()):
-        """Runs jobs by prove; from each list of `apart` only one job at a time."""
+    def prove(self, groups, at_once=1):
+        """Runs groups of jobs by prove. The first groups start first; of a group only one job runs at a time."""
+        jobs = [job for group in groups for job in group]
         if not jobs:
             return
         (self.folder / 'jobs').mkdir(exist_ok=True)
         for job in jobs:
             (self.folder / 'jobs' / job).touch()
         command = ['prove', '--norc', '--timer', '--jobs', str(at_once), '--exec', f'{sys.executable} -B {JOB}']
-        command += [f'--rules=seq={{{",".join(names)}}}' for names in apart if len(names) > 1] + ['--rules=par=**']
+        # Rules of one form: prove takes jobs of another form first.
+        command += [f'--rules=seq={{{",".join(group)}}}' for group in groups]
         ran = subprocess.run(command + jobs, cwd=self.folder / 'jobs', env=self.environment, preexec_fn=processes.end_with_parent)
         self.good = self.good and ran.returncode == 0
 
     def all(self, tests, spoil):
-        """First the proofs, then the tests that may run together, then those that may not."""
+        """The proofs, and beside them the tests that may run together, as soon as what they need is proved (job.py waits for it). Then the
+        tests that run alone."""
         first = [test for test in tests if test.name == 'proofs']
-        beside = sorted((test for test in tests if test not in first and test.beside not in ('', 'no')), key=lambda test: -test.seconds())
+        beside = [test for test in tests if test not in first and test.beside not in ('', 'no')]
         alone = [test for test in tests if test not in first and test not in beside]
-        self.prove([job for test in first for job in test.jobs(spoil)])
-        words = sorted({test.beside for test in beside} - {'yes'})
-        apart = [[job for test in beside if test.beside == word for job in test.jobs(spoil)] for word in words]
-        self.prove([job for test in beside for job in test.jobs(spoil)], 2, apart)
-        self.prove([job for test in alone for job in test.jobs(spoil)])
+        self.environment['TEST_PROOFS'] = 'yes' if first else ''
+        groups = {}
+        for test in sorted(beside, key=lambda test: -test.seconds()):
+            for job in test.jobs(spoil):
+                groups.setdefault(job if test.beside == 'yes' else f'beside {test.beside}', []).append((job, test))
+
+        def rank(group):
+            return max(test.stage() for _, test in group), -sum(test.seconds() for job, test in group if job == test.name)
+        others = [[job for job, _ in group] for group in sorted(groups.values(), key=rank)]
+        self.prove([[job] for test in first for job in test.jobs(spoil)] + others, 2)
+        self.prove([[job] for test in alone for job in test.jobs(spoil)])
 
     def records(self):
         return [json.loads(path.read_text()) for path in sorted(self.folder.glob('*.json'))]
