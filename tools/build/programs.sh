@@ -30,6 +30,14 @@ rt_alone() {
     flock 9
 }
 
+# rt starts its jobs in groups and waits for the last of each group. With twice as many jobs as processors, the processors wait less.
+rt_jobs() {
+    [ -z "${RT_JOBS:-}" ] || return 0
+    RT_JOBS=$((2 * $(nproc)))
+    [ "$RT_JOBS" -le 8 ] || RT_JOBS=8
+    export RT_JOBS
+}
+
 # Proves and builds the programs that are not built yet. The output of rt goes to target/built.log; its end is shown if it fails.
 built() { # PROGRAM..
     local name missing=()
@@ -42,7 +50,7 @@ built() { # PROGRAM..
     command -v rt >/dev/null || { echo "${missing[*]}: not built, and the Rattle toolchain's command rt is not on PATH" >&2; return 2; }
     echo "${missing[*]}: not built yet; 'rt check ${missing[*]}' proves and builds, which takes minutes the first time" >&2
     mkdir -p "$house/target"
-    (rt_alone && cd "$house" && rt check "${missing[@]}") >"$house/target/built.log" 2>&1 && return
+    (rt_alone && rt_jobs && cd "$house" && rt check "${missing[@]}") >"$house/target/built.log" 2>&1 && return
     tail -n 20 "$house/target/built.log" >&2
     echo "${missing[*]}: not built (target/built.log)" >&2
     return 1
