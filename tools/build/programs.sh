@@ -30,6 +30,11 @@ rt_alone() {
     flock 9
 }
 
+# Whether a file is there and no source of the crates is newer.
+is_fresh() { # FILE
+    [ -f "$1" ] && [ -z "$(find "$house/crates" "$house/crates.txt" -newer "$1" -print -quit)" ]
+}
+
 # rt starts its jobs in groups and waits for the last of each group. With twice as many jobs as processors, the processors wait less.
 rt_jobs() {
     [ -z "${RT_JOBS:-}" ] || return 0
