@@ -3,8 +3,8 @@
   test    what it tests, in one line
   time    its usual time in seconds, after a build
   beside  `yes`: it may run at the same time as any other; `no`: it runs alone; a word: not with tests of the same word
-  starts  `at once`: it needs nothing that is proved; `when proved` (the default): when every crate is proved and the archives are made, while
-          the must-fail edits are tried; `after proofs`: when nothing of the proofs runs any more
+  starts  `at once`: it needs nothing that is proved; without this line it starts when every crate is proved and the archives are made, while
+          the must-fail edits are tried
   needs   Debian packages, as PACKAGE, PACKAGE=COMMAND or PACKAGE=/FILE
   spoil   `yes`, or the numbers of the answers to spoil: it must fail with each
   quick   its options in a quick run; without this line it is not part of one"""
@@ -16,7 +16,6 @@ import subprocess
 ROOT = pathlib.Path(__file__).resolve().parent.parent.parent
 TESTS = ROOT / 'tests'
 KEYS = ('test', 'time', 'beside', 'starts', 'needs', 'spoil', 'quick')
-STARTS = ('at once', 'when proved', 'after proofs')
 
 
 class Header:
@@ -31,9 +30,8 @@ class Header:
     def seconds(self):
         return float(re.sub(r'[^0-9.]', '', self.time) or 60)
 
-    def stage(self):
-        """Its place in STARTS."""
-        return STARTS.index(self.starts or 'when proved')
+    def is_early(self):
+        return self.starts == 'at once'
 
     def limit(self):
         """The time limit in seconds: six times the usual time, and at least ten minutes."""

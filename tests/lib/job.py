@@ -52,7 +52,7 @@ def wait_for_proofs(head):
     (tests/proofs), and a record when they end."""
     if not os.environ.get('TEST_PROOFS') or NAME == 'proofs':
         return
-    signs = [os.path.join(FOLDER, sign) for sign in (('begun',), ('proved',), ())[head.stage()] + ('proofs.json',)]
+    signs = [os.path.join(FOLDER, sign) for sign in ('begun' if head.is_early() else 'proved', 'proofs.json')]
     until = time.monotonic() + headers.read('proofs').limit()
     while not any(map(os.path.exists, signs)) and time.monotonic() < until:
         time.sleep(0.2)

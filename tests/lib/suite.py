@@ -110,7 +110,7 @@ class Run:
                 groups.setdefault(job if test.beside == 'yes' else f'beside {test.beside}', []).append((job, test))
 
         def rank(group):
-            return max(test.stage() for _, test in group), -sum(test.seconds() for job, test in group if job == test.name)
+            return not all(test.is_early() for _, test in group), -sum(test.seconds() for job, test in group if job == test.name)
         others = [[job for job, _ in group] for group in sorted(groups.values(), key=rank)]
         self.prove([[job] for test in first for job in test.jobs(spoil)] + others, 2)
         self.prove([[job] for test in alone for job in test.jobs(spoil)])
