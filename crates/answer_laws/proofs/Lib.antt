@@ -1,5 +1,6 @@
 pub mod Base
 pub mod CEarth
+pub mod CPane
 pub mod CRun
 pub mod CState
 pub mod CentreShift

@@ -7,7 +7,8 @@ use Rattle.c_answer.specs.Handed.{Handed, handed}
 use Rattle.c_run.specs.Lent.{stateOf}
 use Rattle.pane_live.specs.Pane.{take, feed, clear, frameAt}
 use Rattle.pane_motion.specs.Motion.{motionAt}
-use Rattle.belfry_pane.specs.Lent.{Kept, keptIn, paneOf, paneIn, flownTo, left, FrameMemory, framed, ofFrame, MotionMemory, inMotion, ofMotion}
+use Rattle.c_pane.specs.Lent.{Kept, keptIn, paneOf, paneIn, flownTo, left}
+use Rattle.belfry_pane.specs.Answers.{FrameMemory, framed, ofFrame, MotionMemory, inMotion, ofMotion}
 use Rattle.belfry_pane.proofs.belfry_clear as clear-call
 use Rattle.belfry_pane.proofs.belfry_take as take-call
 use Rattle.belfry_pane.proofs.belfry_feed as feed-call

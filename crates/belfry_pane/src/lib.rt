@@ -2,17 +2,18 @@
 // states, then moment and centre of the older and of the newer. The second has the nine coordinates of each. Memory
 // of zeros is an empty pane.
 
-mod memory;
+mod frames;
 mod moving;
 
-use memory::keep;
-use memory::pane_of;
+use c_pane::keep;
+use c_pane::pane_of;
 ghost use mathlib.Core.Path.{_≡_};
 ghost use Rattle.c_answer.specs.Handed.{handed};
 ghost use Rattle.c_run.specs.Lent.{stateOf};
 ghost use Rattle.pane_live.specs.Pane.{take, feed, clear, frameAt};
 ghost use Rattle.pane_motion.specs.Motion.{motionAt};
-ghost use Rattle.belfry_pane.specs.Lent.{keptIn, paneOf, paneIn, flownTo, left, framed, ofFrame, inMotion, ofMotion};
+ghost use Rattle.c_pane.specs.Lent.{keptIn, paneOf, paneIn, flownTo, left};
+ghost use Rattle.belfry_pane.specs.Answers.{framed, ofFrame, inMotion, ofMotion};
 
 // Always 0.
 #[no_mangle]
@@ -20,8 +21,8 @@ pub extern "C" fn belfry_clear(pane: &mut [u64; 5], places: &mut [f64; 18]) -> u
     ensures { λ r. ⌜ handed r (keptIn (now (pane .exit)) (now (places .exit))) ≡ handed 0 (paneIn clear) ⌝ }
 {
     let blank = pane_live::clear();
-    *pane = memory::numbers_in(blank);
-    *places = memory::places_in(blank);
+    *pane = c_pane::numbers_in(blank);
+    *places = c_pane::places_in(blank);
     0
 }
 
@@ -59,7 +60,7 @@ pub extern "C" fn belfry_feed(
     let before = pane_of(*pane, *places);
     let state = c_run::state_of(moment, centre, *coordinates);
     keep(
-        pane_live::feed(before, memory::flown_to(answer, state)),
+        pane_live::feed(before, c_pane::flown_to(answer, state)),
         pane,
         places,
     )
@@ -78,10 +79,10 @@ pub extern "C" fn belfry_frame(
     ensures { λ r. ⌜ framed r (now (position .exit)) (now (late .exit)) ≡ ofFrame
         (frameAt (paneOf (now (pane .entry)) (now (places .entry))) moment) ⌝ }
 {
-    let shown = memory::shown_at(pane, places, moment);
-    *position = memory::position_in(shown);
-    *late = memory::late_in(shown);
-    memory::returned_by(shown)
+    let shown = c_pane::shown_at(pane, places, moment);
+    *position = frames::position_in(shown);
+    *late = frames::late_in(shown);
+    frames::returned_by(shown)
 }
 
 // As belfry_frame, with the velocity after the position. There are both only with 0.

@@ -1,11 +1,11 @@
 // Writes a frame with velocity to the caller's memory.
 
-use crate::memory::EMPTY;
-use crate::memory::LATE;
-use crate::memory::no_number;
+use crate::frames::EMPTY;
+use crate::frames::LATE;
+use crate::frames::no_number;
 use pane_motion::FrameMotion;
 ghost use mathlib.Core.Path.{_≡_};
-ghost use Rattle.belfry_pane.specs.Lent.{ofMotion};
+ghost use Rattle.belfry_pane.specs.Answers.{ofMotion};
 
 // If a frame is not current, no older figure remains in the place of the six.
 pub fn motion_in(shown: FrameMotion) -> [f64; 6]

@@ -47,7 +47,8 @@ use Rattle.belfry_book.proofs.Told.{returned-0}
 use Rattle.c_answer.specs.Handed.{handed, answered}
 use Rattle.c_run.specs.Lent.{stateOf, guessesOf, wholeIn}
 use Rattle.c_run.specs.Answers.{outcomeNumber, ofMove}
-use Rattle.belfry_pane.specs.Lent.{Kept, paneOf, flownTo, left, late, empty, ofFrame, ofMotion}
+use Rattle.c_pane.specs.Lent.{Kept, paneOf, flownTo, left}
+use Rattle.belfry_pane.specs.Answers.{late, empty, ofFrame, ofMotion}
 use Rattle.c_laws.specs.Table.{tabled, inTable}
 use Rattle.c_laws.specs.Linked.{LinkedCall, asCall}
 use Rattle.c_laws.specs.Desks.{Held, stateIn, HeldIn, flown, movedTo, fedBy, frameIn, motionIn, LinkedLeg, asLeg, settingIn, flight, move}

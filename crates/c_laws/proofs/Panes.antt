@@ -26,7 +26,8 @@ use Rattle.pane_live.specs.declared.TakeAnswer.the-variants as taken
 use Rattle.pane_live.specs.declared.FrameAnswer.{FrameAnswer}
 use Rattle.c_run.specs.Lent.{settingOf, stateOf, guessesOf, wholeIn}
 use Rattle.c_run.specs.Answers.{outcomeNumber}
-use Rattle.belfry_pane.specs.Lent.{Kept, paneOf, numbersIn, placesIn, paneIn, outcomeOf, flownTo, left, ofFrame}
+use Rattle.c_pane.specs.Lent.{Kept, paneOf, numbersIn, placesIn, paneIn, outcomeOf, flownTo, left}
+use Rattle.belfry_pane.specs.Answers.{ofFrame}
 use Rattle.c_laws.specs.Table.{outcomeTold}
 use Rattle.c_laws.specs.Linked.{LinkedCall, asCall, linkedJourney}
 use Rattle.c_laws.specs.Panes.{fedIn, takenOr18, fedOr18, frameTold}

@@ -20,8 +20,9 @@ use Rattle.pane_live.specs.declared.Pane.the-variants.{Blank}
 use Rattle.c_answer.specs.Handed.{Handed, answered}
 use Rattle.c_run.specs.Lent.{settingOf, stateOf, guessesOf, vectorIn}
 use Rattle.c_run.specs.Answers.{RunMemory, ofFlight, ofMove}
-use Rattle.belfry_pane.specs.Lent.{Kept, paneOf, paneIn, flownTo, left, late, empty, nothing, FrameMemory, framed, ofFrame}
-use Rattle.belfry_pane.specs.Lent.{MotionMemory, inMotion, sixIn, noMotion, ofMotion}
+use Rattle.c_pane.specs.Lent.{Kept, paneOf, paneIn, flownTo, left}
+use Rattle.belfry_pane.specs.Answers.{late, empty, nothing, FrameMemory, framed, ofFrame}
+use Rattle.belfry_pane.specs.Answers.{MotionMemory, inMotion, sixIn, noMotion, ofMotion}
 use Rattle.pane_motion.specs.Motion.{motionAt}
 use Rattle.pane_motion.specs.declared.Motion.{Motion}
 use Rattle.pane_laws.specs.OnAir.{OnAir, OnAirMoving}

@@ -6,7 +6,8 @@ use Rattle.base.specs.Choice.{_=?_}
 use Rattle.pane_live.specs.Pane.{feed}
 use Rattle.c_run.specs.Lent.{stateOf}
 use Rattle.c_run.specs.Answers.{RunMemory}
-use Rattle.belfry_pane.specs.Lent.{Kept, paneOf, flownTo, unchanged, left, late, empty}
+use Rattle.c_pane.specs.Lent.{Kept, paneOf, flownTo, unchanged, left}
+use Rattle.belfry_pane.specs.Answers.{late, empty}
 
 -- the memory of the pane after flights about a centre, one after the other: each flight's memory is fed
 abbrev pub fedIn : ℕ → Kept → List RunMemory → Kept

@@ -1,7 +1,7 @@
--- `belfry_pane::memory::flown_to` meets its contract. Assumes nothing.
+-- `c_pane::flown_to` meets its contract. Assumes nothing.
 use borrow.Author.Needs.{needs}
-use Rattle.belfry_pane.proofs.memory.flown_to.Statement.{statement}
-use Rattle.belfry_pane.proofs.memory.flown_to.Tie as tie
+use Rattle.c_pane.proofs.flown_to.Statement.{statement}
+use Rattle.c_pane.proofs.flown_to.Tie as tie
 
 returns : tie.Need-returns
 returns c = rw (c .outcome-of .ensures)

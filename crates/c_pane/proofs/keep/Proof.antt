@@ -1,8 +1,8 @@
--- `belfry_pane::memory::keep` meets its contract. Assumes nothing.
+-- `c_pane::keep` meets its contract. Assumes nothing.
 use mathlib.Core.Path.{refl}
 use borrow.Author.Needs.{needs}
-use Rattle.belfry_pane.proofs.memory.keep.Statement.{statement}
-use Rattle.belfry_pane.proofs.memory.keep.Tie as tie
+use Rattle.c_pane.proofs.keep.Statement.{statement}
+use Rattle.c_pane.proofs.keep.Tie as tie
 
 returns : tie.Need-returns
 returns c = rw (c .before .before .before .answer .given .1, c .places-in .ensures, c .before .numbers-in .ensures) refl

@@ -1,8 +1,8 @@
--- `belfry_pane::memory::position_in` meets its contract. Assumes nothing.
+-- `belfry_pane::frames::position_in` meets its contract. Assumes nothing.
 use mathlib.Core.Path.{refl}
 use borrow.Author.Needs.{needs}
-use Rattle.belfry_pane.proofs.memory.position_in.Statement.{statement}
-use Rattle.belfry_pane.proofs.memory.position_in.Tie as tie
+use Rattle.belfry_pane.proofs.frames.position_in.Statement.{statement}
+use Rattle.belfry_pane.proofs.frames.position_in.Tie as tie
 
 returns : tie.Need-returns
 returns c = rw (c .before .shown .given .1) refl

@@ -1,8 +1,8 @@
--- `belfry_pane::memory::no_number` meets its contract. Assumes nothing.
+-- `belfry_pane::frames::no_number` meets its contract. Assumes nothing.
 use mathlib.Core.Path.{refl}
 use lib.Ieee.{nanBits, ofBits, sub}
-use Rattle.belfry_pane.proofs.memory.no_number.Statement.{statement}
-use Rattle.belfry_pane.proofs.memory.no_number.Tie as tie
+use Rattle.belfry_pane.proofs.frames.no_number.Statement.{statement}
+use Rattle.belfry_pane.proofs.frames.no_number.Tie as tie
 
 float-from-bits-top : tie.Need-float-from-bits-top
 unfolding nanBits

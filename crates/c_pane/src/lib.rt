@@ -1,4 +1,5 @@
-// Converts a pane, the answer of a run and a frame between the caller's memory and the values of the crates below.
+// (02, R-14) The live pane in the caller's memory. Reads a pane there, writes one, and says what it shows at a moment.
+// Also the answer of a run, from the caller's numbers.
 
 use gravity::Guesses;
 use pane_live::FrameAnswer;
@@ -7,19 +8,14 @@ use pane_live::TakeAnswer;
 use run::Outcome;
 use run::RunAnswer;
 use state::State;
-ghost use lib.Ieee.{nan};
 ghost use mathlib.Core.Path.{_≡_};
 ghost use Rattle.c_answer.specs.Handed.{handed};
 ghost use Rattle.pane_live.specs.Pane.{frameAt};
-ghost use Rattle.belfry_pane.specs.Lent.{keptIn, olderOf, newerOf, paneOf, numbersIn, placesIn, outcomeOf, flownTo, left, ofFrame};
+ghost use Rattle.c_pane.specs.Lent.{keptIn, olderOf, newerOf, paneOf, numbersIn, placesIn, outcomeOf, flownTo, left};
 
 const GOING: u64 = 100;
 
 const UNCHANGED: u64 = 101;
-
-pub const LATE: u64 = 102;
-
-pub const EMPTY: u64 = 103;
 
 fn older_of(n: [u64; 5], c: [f64; 18]) -> State
     ensures { λ r. ⌜ r ≡ olderOf n c ⌝ }
@@ -226,46 +222,4 @@ pub fn shown_at(n: &[u64; 5], c: &[f64; 18], moment: u64) -> FrameAnswer
         return pane_live::frame(Pane::Two(older_in(n, c), newer_in(n, c)), moment);
     }
     FrameAnswer::Empty
-}
-
-pub fn no_number() -> f64
-    ensures { λ r. ⌜ r ≡ nan ⌝ }
-{
-    // infinity less infinity is a NaN
-    let top = f64::from_bits(0x7ff0_0000_0000_0000);
-    top - top
-}
-
-// If a frame is not current, no older figure remains in the place of the position.
-pub fn position_in(shown: FrameAnswer) -> [f64; 3]
-    ensures { λ r. ⌜ r ≡ ofFrame shown .position ⌝ }
-{
-    match shown {
-        FrameAnswer::Current(p) => [p.x, p.y, p.z],
-        FrameAnswer::Late(ms) => [no_number(); 3],
-        FrameAnswer::Empty => [no_number(); 3],
-        FrameAnswer::Refused(k) => [no_number(); 3],
-    }
-}
-
-pub fn late_in(shown: FrameAnswer) -> u64
-    ensures { λ r. ⌜ r ≡ ofFrame shown .late ⌝ }
-{
-    match shown {
-        FrameAnswer::Current(p) => 0,
-        FrameAnswer::Late(ms) => ms,
-        FrameAnswer::Empty => 0,
-        FrameAnswer::Refused(k) => 0,
-    }
-}
-
-pub fn returned_by(shown: FrameAnswer) -> u64
-    ensures { λ r. ⌜ r ≡ ofFrame shown .returned ⌝ }
-{
-    match shown {
-        FrameAnswer::Current(p) => 0,
-        FrameAnswer::Late(ms) => LATE,
-        FrameAnswer::Empty => EMPTY,
-        FrameAnswer::Refused(k) => k,
-    }
 }

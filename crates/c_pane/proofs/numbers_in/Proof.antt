@@ -1,7 +1,7 @@
--- `belfry_pane::memory::numbers_in` meets its contract. Assumes nothing.
+-- `c_pane::numbers_in` meets its contract. Assumes nothing.
 use borrow.Author.Needs.{needs}
-use Rattle.belfry_pane.proofs.memory.numbers_in.Statement.{statement}
-use Rattle.belfry_pane.proofs.memory.numbers_in.Tie as tie
+use Rattle.c_pane.proofs.numbers_in.Statement.{statement}
+use Rattle.c_pane.proofs.numbers_in.Tie as tie
 
 returns-2 : tie.Need-returns-2
 returns-2 c = rw (c .before .pane .given .1)

@@ -1,9 +1,9 @@
--- `belfry_pane::memory::pane_of` meets its contract. Assumes nothing.
+-- `c_pane::pane_of` meets its contract. Assumes nothing.
 use mathlib.Core.Path.{refl}
 use borrow.Author.Tests.{eq-eqb, ne-eqb}
 use borrow.Author.Needs.{needs}
-use Rattle.belfry_pane.proofs.memory.pane_of.Statement.{statement}
-use Rattle.belfry_pane.proofs.memory.pane_of.Tie as tie
+use Rattle.c_pane.proofs.pane_of.Statement.{statement}
+use Rattle.c_pane.proofs.pane_of.Tie as tie
 
 returns : tie.Need-returns
 returns c = rw (eq-eqb _ _ (c .before .before .if1 .taken), c .before .older-of .ensures, c .newer-of .ensures) refl

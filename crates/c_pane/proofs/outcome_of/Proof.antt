@@ -1,7 +1,7 @@
--- `belfry_pane::memory::outcome_of` meets its contract. Assumes nothing.
+-- `c_pane::outcome_of` meets its contract. Assumes nothing.
 use borrow.Author.Tests.{eq-eqb, ne-eqb}
-use Rattle.belfry_pane.proofs.memory.outcome_of.Statement.{statement}
-use Rattle.belfry_pane.proofs.memory.outcome_of.Tie as tie
+use Rattle.c_pane.proofs.outcome_of.Statement.{statement}
+use Rattle.c_pane.proofs.outcome_of.Tie as tie
 
 returns : tie.Need-returns
 returns c = rw (eq-eqb _ _ (c .if1 .taken))

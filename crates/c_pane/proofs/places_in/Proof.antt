@@ -1,7 +1,7 @@
--- `belfry_pane::memory::places_in` meets its contract. Assumes nothing.
+-- `c_pane::places_in` meets its contract. Assumes nothing.
 use borrow.Author.Needs.{needs}
-use Rattle.belfry_pane.proofs.memory.places_in.Statement.{statement}
-use Rattle.belfry_pane.proofs.memory.places_in.Tie as tie
+use Rattle.c_pane.proofs.places_in.Statement.{statement}
+use Rattle.c_pane.proofs.places_in.Tie as tie
 
 returns : tie.Need-returns
 returns c = rw (c .enum-told .given .1)

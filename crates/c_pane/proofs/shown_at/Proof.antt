@@ -1,4 +1,4 @@
--- `belfry_pane::memory::shown_at` meets its contract. Assumes nothing.
+-- `c_pane::shown_at` meets its contract. Assumes nothing.
 use Prim.Native.Nat.{ℕ}
 use mathlib.Core.Bool.{Bool, true, false}
 use mathlib.Core.Path.{_≡_, refl, sym}
@@ -13,9 +13,9 @@ use Rattle.pane_live.specs.declared.Pane.{Pane}
 use Rattle.pane_live.specs.declared.Pane.the-variants.{Blank, One}
 use Rattle.pane_live.specs.declared.FrameAnswer.the-variants as frame
 use Rattle.pane_live.specs.Pane.{frameAt}
-use Rattle.belfry_pane.specs.Lent.{olderOf}
-use Rattle.belfry_pane.proofs.memory.shown_at.Statement.{statement}
-use Rattle.belfry_pane.proofs.memory.shown_at.Tie as tie
+use Rattle.c_pane.specs.Lent.{olderOf}
+use Rattle.c_pane.proofs.shown_at.Statement.{statement}
+use Rattle.c_pane.proofs.shown_at.Tie as tie
 
 -- one state or none shows nothing
 nothing-shown : (b : Bool) (a : State) (t : ℕ) → frame.Empty ≡ frameAt (if b then One a else Blank) t
