@@ -3,10 +3,10 @@ use Prim.Native.Nat.{ℕ}
 use mathlib.Core.Bool.{true, false}
 use mathlib.Core.List.{List}
 use mathlib.Core.Path.{_≡_, sym, ap, _∙_}
-use Rattle.book.specs.Lookup.{lookup}
+use Rattle.book_search.specs.Lookup.{lookup}
 use Rattle.book_series.specs.Series.{Content, placeIn, velocityIn, contentOf, place, velocity}
 use Rattle.book.specs.Position.{bodyAt, finitePlace, finiteVelocity, finiteOr7}
-use Rattle.book.specs.declared.Lookup.the-variants.{Entry, Nothing}
+use Rattle.book_search.specs.declared.Lookup.the-variants.{Entry, Nothing}
 use Rattle.book.specs.declared.PositionAnswer.the-variants.{At, Refused}
 
 module _ (b : List ℕ) (body t : ℕ) where

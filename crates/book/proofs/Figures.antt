@@ -6,7 +6,7 @@ use mathlib.Core.Path.{_≡_}
 use native.Mathlib.Omega.{arith}
 use borrow.Author.Tests.{le-leb, lt-ltb, le-ltb}
 use Rattle.book_check.specs.Contents.{startOf, spanOf, endOf}
-use Rattle.book.specs.Lookup.{covers}
+use Rattle.book_search.specs.Lookup.{covers}
 use Rattle.base.proofs.Bools.{both}
 
 -- "Cover: at s + L - 1 yes, at s + L no"

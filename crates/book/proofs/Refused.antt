@@ -8,11 +8,11 @@ use Rattle.base.specs.Checks as base
 use Rattle.base.specs.Limits.{isMoment}
 use Rattle.base.proofs.Cases.{by-if}
 use Rattle.book_check.specs.Passes.{passes}
-use Rattle.book.specs.Lookup.{lookup}
+use Rattle.book_search.specs.Lookup.{lookup}
 use Rattle.book_series.specs.Series.{place, velocity}
 use Rattle.book.specs.Position.{finitePlace, finiteVelocity, placeOr6, bodyAt, positionAnswer}
-use Rattle.book.specs.declared.Lookup.{Lookup}
-use Rattle.book.specs.declared.Lookup.the-variants.{Entry, Nothing}
+use Rattle.book_search.specs.declared.Lookup.{Lookup}
+use Rattle.book_search.specs.declared.Lookup.the-variants.{Entry, Nothing}
 use Rattle.book.specs.declared.Motion.{Motion}
 use Rattle.book.specs.declared.PositionAnswer.{PositionAnswer}
 use Rattle.book.specs.declared.PositionAnswer.the-variants.{At, Refused}

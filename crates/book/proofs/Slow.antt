@@ -19,13 +19,13 @@ use Rattle.book_check.specs.Contents.{entryCount, offsetOf, sizeOf, startOf, sp
 use Rattle.book_check.specs.Passes.{allBelow, passes}
 use Rattle.book_check.specs.Check.{bitsBelow, floatsBelow}
 use Rattle.book.specs.Calm.{calmLimit, calm, Ready}
-use Rattle.book.specs.Lookup.{covers}
+use Rattle.book_search.specs.Lookup.{covers}
 use Rattle.book_series.specs.Series.{Pair, twice, turn, clenshaw, slopeTurn, slopes, lastSlope, slope, speed, listed, InSpan, argument, velocity}
 use Rattle.book.specs.Position.{finiteVelocity}
 use Rattle.base.proofs.Bools.{both}
 use Rattle.book_check.proofs.Below.{every}
 use Rattle.book_check.proofs.Passing.{passing}
-use Rattle.book.proofs.Found.{covering}
+use Rattle.book_search.proofs.Found.{covering}
 use Rattle.book_series.proofs.Numerator.{size, span-size}
 
 -- x is at most 2^k in size

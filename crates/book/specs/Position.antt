@@ -7,12 +7,12 @@ use lib.Ieee.Scale.{finite}
 use Rattle.base.specs.Choice.{if_then_else_}
 use Rattle.base.specs.Limits.{isMoment}
 use Rattle.book_check.specs.Passes.{passes}
-use Rattle.book.specs.Lookup.{lookup}
+use Rattle.book_search.specs.Lookup.{lookup}
 use Rattle.book_series.specs.Series.{place, velocity}
 use Rattle.book_series.specs.declared.Place.{Place}
 use Rattle.book_series.specs.declared.Velocity.{Velocity}
-use Rattle.book.specs.declared.Lookup.{Lookup}
-use Rattle.book.specs.declared.Lookup.the-variants.{Entry, Nothing}
+use Rattle.book_search.specs.declared.Lookup.{Lookup}
+use Rattle.book_search.specs.declared.Lookup.the-variants.{Entry, Nothing}
 use Rattle.book.specs.declared.PositionAnswer.{PositionAnswer}
 use Rattle.book.specs.declared.PositionAnswer.the-variants.{At, Refused}
 

@@ -5,9 +5,6 @@ use crate::Lookup;
 use crate::Motion;
 use crate::PositionAnswer;
 pub use crate::calm::book_calm;
-use crate::search::Stand;
-use crate::search::search;
-use crate::search::stand_at;
 use base::is_finite;
 use base_bytes::inner::u16_at;
 use base_bytes::inner::u32_at;
@@ -16,6 +13,7 @@ pub use book_check::inner::fields_allowed;
 pub use book_check::inner::floats_finite;
 pub use book_check::inner::offset_of;
 pub use book_check::inner::size_of;
+pub use book_search::inner::lookup_guessed;
 use book_series::Place;
 use book_series::Velocity;
 use book_series::inner::argument_at;
@@ -27,34 +25,11 @@ ghost use Prim.Native.Nat.{_<_};
 ghost use lib.Ieee.Scale.{finite};
 ghost use Rattle.book_check.specs.Contents.{entryCount};
 ghost use Rattle.book_check.specs.Passes.{passes};
-ghost use Rattle.book.specs.Lookup.{covers, lookup};
+ghost use Rattle.book_search.specs.Lookup.{covers};
 ghost use Rattle.book_series.specs.Series.{place, velocity};
 ghost use Rattle.book.specs.Position.{finitePlace, finiteVelocity, bodyAt};
 ghost use Rattle.book.specs.Reading.{Reads};
 ghost use Rattle.book.specs.Calm.{Ready};
-
-// The guess only says where to look first. It may be an entry of another body, or beyond the contents.
-pub fn lookup_guessed(book: &[u8], body: u64, moment: u64, guess: usize) -> Lookup
-    requires { ⌜ passes (now book) ≡ true ⌝ }
-    ensures { λ r. ⌜ r ≡ lookup (now (book .entry)) body moment ⌝ }
-{
-    let count = u32_at(book, 4) as usize;
-    if count <= guess {
-        return search(book, body, moment, 0, count, count / 2);
-    }
-    let stand = stand_at(book, guess, body, moment);
-    match stand {
-        Stand::Covered => Lookup::Entry(guess),
-        Stand::Past => search(book, body, moment, guess + 1, count, guess + 1),
-        Stand::Before => {
-            if guess == 0 {
-                Lookup::Nothing
-            } else {
-                search(book, body, moment, 0, guess, guess - 1)
-            }
-        }
-    }
-}
 
 // What is read from an entry for a moment: the place of its block, the number of floats for an axis, w and L.
 pub struct Reading {

@@ -2,11 +2,11 @@
 
 mod calm;
 pub mod inner;
-mod search;
 
 use base::END_OF_TIME;
 use base_bytes::inner::u32_at;
 use book_check::inner::entries_pass;
+pub use book_search::Lookup;
 pub use book_series::Place;
 pub use book_series::Velocity;
 ghost use mathlib.Core.Path.{_≡_};
@@ -19,12 +19,6 @@ pub const LONGEST_BOOK: usize = 61_440;
 pub struct Motion {
     pub place: Place,
     pub velocity: Velocity,
-}
-
-// The entry that covers a moment, counted from 0.
-pub enum Lookup {
-    Entry(usize),
-    Nothing,
 }
 
 pub enum PositionAnswer {

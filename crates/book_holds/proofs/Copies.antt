@@ -11,7 +11,7 @@ use borrow.Author.Tests.{eqb-true, eq-eqb}
 use Rattle.base.proofs.Bools.{both, left, right, or-right, is-false, clash}
 use Rattle.base_bytes.specs.Bytes.{u64At}
 use Rattle.book.specs.Contents.{entryCount, bodyOf, sizeOf, offsetOf, startOf, spanOf}
-use Rattle.book.specs.declared.Lookup.the-variants.{Entry, Nothing}
+use Rattle.book_search.specs.declared.Lookup.the-variants.{Entry, Nothing}
 use Rattle.book.proofs.Below.{every, every-back}
 use Rattle.book.proofs.Found.{first-none, first-only, first-at}
 use Rattle.book_holds.proofs.First.{none-meets, none-before}

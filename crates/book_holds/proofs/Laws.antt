@@ -7,8 +7,8 @@ use mathlib.Core.Path.{_≡_, refl, sym, ap}
 use native.Mathlib.Omega.{arith}
 use Rattle.base.specs.Choice.{if_then_else_}
 use Rattle.book.specs.Passes.{passes}
-use Rattle.book.specs.declared.Lookup.{Lookup}
-use Rattle.book.specs.declared.Lookup.the-variants.{Entry, Nothing}
+use Rattle.book_search.specs.declared.Lookup.{Lookup}
+use Rattle.book_search.specs.declared.Lookup.the-variants.{Entry, Nothing}
 use Rattle.book_holds.specs.Answer.{firstMissing, answerOf, holdsAnswer}
 use Rattle.book_holds.specs.Laws.{BothPass, Fuller, MissingFirst}
 use Rattle.book_holds.specs.declared.HoldsAnswer.{HoldsAnswer}

@@ -8,8 +8,8 @@ use Rattle.base_bytes.specs.Bytes.{u64At}
 use Rattle.book.specs.Contents.{entryCount, bodyOf, sizeOf, offsetOf, startOf, spanOf}
 use Rattle.book.specs.Passes.{allBelow, passes}
 use Rattle.book.specs.Lookup.{firstBelow}
-use Rattle.book.specs.declared.Lookup.{Lookup}
-use Rattle.book.specs.declared.Lookup.the-variants.{Entry, Nothing}
+use Rattle.book_search.specs.declared.Lookup.{Lookup}
+use Rattle.book_search.specs.declared.Lookup.the-variants.{Entry, Nothing}
 use Rattle.book_holds.specs.declared.HoldsAnswer.{HoldsAnswer}
 use Rattle.book_holds.specs.declared.HoldsAnswer.the-variants.{Held, Missing, Refused}
 

@@ -11,8 +11,8 @@ use Rattle.base.specs.Limits.{isMoment}
 use Rattle.book.specs.Contents.{sizeOf, coefficient}
 use Rattle.book.specs.Passes.{passes}
 use Rattle.book.specs.Lookup.{lookup}
-use Rattle.book.specs.declared.Lookup.{Lookup}
-use Rattle.book.specs.declared.Lookup.the-variants.{Entry, Nothing}
+use Rattle.book_search.specs.declared.Lookup.{Lookup}
+use Rattle.book_search.specs.declared.Lookup.the-variants.{Entry, Nothing}
 use Rattle.book.specs.Position.{bodyAt, positionAnswer}
 use Rattle.book.specs.declared.PositionAnswer.the-variants.{Refused}
 use Rattle.book.proofs.Passing.{passing}

@@ -16,8 +16,8 @@ use Rattle.state_checks.specs.Common.{commonRefusal}
 use Rattle.state_checks.proofs.Passed as common
 use Rattle.book.specs.Passes.{passes}
 use Rattle.book.specs.Lookup.{lookup}
-use Rattle.book.specs.declared.Lookup.{Lookup}
-use Rattle.book.specs.declared.Lookup.the-variants.{Entry, Nothing}
+use Rattle.book_search.specs.declared.Lookup.{Lookup}
+use Rattle.book_search.specs.declared.Lookup.the-variants.{Entry, Nothing}
 use Rattle.book_series.specs.Series.{Content, placeIn, velocityIn}
 use Rattle.book_series.specs.Series.{place as entry-place, velocity as entry-velocity}
 use Rattle.gravity.specs.Acceleration.{atRest, accelerationAt, accelerationAnswer}

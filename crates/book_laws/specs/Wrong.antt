@@ -9,8 +9,8 @@ use Rattle.book.specs.Contents.{entryCount}
 use Rattle.book.specs.Passes.{passes}
 use Rattle.book.specs.Lookup.{lookup, covers}
 use Rattle.book.specs.Position.{placeOr6}
-use Rattle.book.specs.declared.Lookup.{Lookup}
-use Rattle.book.specs.declared.Lookup.the-variants.{Entry, Nothing}
+use Rattle.book_search.specs.declared.Lookup.{Lookup}
+use Rattle.book_search.specs.declared.Lookup.the-variants.{Entry, Nothing}
 use Rattle.book.specs.declared.PositionAnswer.{PositionAnswer}
 use Rattle.book.specs.declared.PositionAnswer.the-variants.{At, Refused}
 use Rattle.book_laws.specs.Fuller.{HoldsAll, Unless}

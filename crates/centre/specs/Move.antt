@@ -11,8 +11,8 @@ use Rattle.state.specs.declared.Setting.{Setting}
 use Rattle.state_checks.specs.Common.{commonRefusal}
 use Rattle.book.specs.Lookup.{lookup}
 use Rattle.book.specs.Series as series
-use Rattle.book.specs.declared.Lookup.{Lookup}
-use Rattle.book.specs.declared.Lookup.the-variants.{Entry, Nothing}
+use Rattle.book_search.specs.declared.Lookup.{Lookup}
+use Rattle.book_search.specs.declared.Lookup.the-variants.{Entry, Nothing}
 use Rattle.gravity.specs.Acceleration.{atRest}
 use Rattle.gravity_stored.specs.Injection.{kept}
 unfoldable pub use Rattle.centre_shift.specs.Shift.{shifted}

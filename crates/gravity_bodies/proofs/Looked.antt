@@ -13,8 +13,8 @@ use Rattle.book.specs.Series.{place, velocity}
 use Rattle.book.specs.Position.{finiteVelocity, bodyAt}
 use Rattle.book.proofs.BodyAt.{no-cover, not-finite, too-fast, at-place}
 use Rattle.book.specs.declared.Motion.{Motion}
-use Rattle.book.specs.declared.Lookup.{Lookup}
-use Rattle.book.specs.declared.Lookup.the-variants.{Entry, Nothing}
+use Rattle.book_search.specs.declared.Lookup.{Lookup}
+use Rattle.book_search.specs.declared.Lookup.the-variants.{Entry, Nothing}
 use Rattle.book.specs.declared.PositionAnswer.{PositionAnswer}
 use Rattle.book.specs.declared.PositionAnswer.the-variants as position
 use Rattle.gravity_bodies.specs.Sky.{Listed, standing, atRest, stands, placeOf}

@@ -12,8 +12,8 @@ use Rattle.book.specs.Lookup.{lookup}
 use Rattle.book.specs.Series.{place, velocity}
 use Rattle.book.specs.Position.{finiteVelocity}
 use Rattle.book_series.specs.declared.Place.{Place}
-use Rattle.book.specs.declared.Lookup.{Lookup}
-use Rattle.book.specs.declared.Lookup.the-variants.{Entry, Nothing}
+use Rattle.book_search.specs.declared.Lookup.{Lookup}
+use Rattle.book_search.specs.declared.Lookup.the-variants.{Entry, Nothing}
 use Rattle.gravity_bodies.specs.Sky.{standing, nowhere}
 use Rattle.gravity_bodies.specs.declared.Sight.{Sight}
 use Rattle.gravity_bodies.specs.declared.Found.{Found}

@@ -10,8 +10,8 @@ use Rattle.state.specs.State.{used, lookedUp}
 use Rattle.state.specs.declared.State.{State}
 use Rattle.state.specs.declared.Setting.{Setting}
 use Rattle.book.specs.Lookup.{lookup}
-use Rattle.book.specs.declared.Lookup.{Lookup}
-use Rattle.book.specs.declared.Lookup.the-variants.{Entry, Nothing}
+use Rattle.book_search.specs.declared.Lookup.{Lookup}
+use Rattle.book_search.specs.declared.Lookup.the-variants.{Entry, Nothing}
 use Rattle.gravity.specs.Sight.{foundOf, foundIn, refusalIn, sights}
 use Rattle.gravity.specs.declared.Guesses.{Guesses}
 use Rattle.gravity.proofs.Under.{allClear}

@@ -8,7 +8,7 @@ use lib.Ieee.{Float}
 use Rattle.state.specs.State.{used, lookedUp}
 use Rattle.state.specs.declared.Setting.{Setting}
 use Rattle.book.specs.Lookup.{lookup}
-use Rattle.book.specs.declared.Lookup.the-variants.{Entry}
+use Rattle.book_search.specs.declared.Lookup.the-variants.{Entry}
 use Rattle.gravity.specs.declared.Guesses.{Guesses}
 
 -- one body, by its number, its coefficient m and whether it is lit: document 02, R-7, with K above 0 the Sun counts as used

@@ -20,8 +20,8 @@ use Rattle.book.specs.Passes.{passes}
 use Rattle.book.specs.Series.{series, place}
 use Rattle.book.specs.Lookup.{lookup}
 use Rattle.book.specs.Position.{bodyAt, placeOr6, finitePlace, finiteVelocity}
-use Rattle.book.specs.declared.Lookup.{Lookup}
-use Rattle.book.specs.declared.Lookup.the-variants.{Entry, Nothing}
+use Rattle.book_search.specs.declared.Lookup.{Lookup}
+use Rattle.book_search.specs.declared.Lookup.the-variants.{Entry, Nothing}
 use Rattle.book_series.specs.declared.Place.{Place}
 use Rattle.book.specs.declared.Motion.{Motion}
 use Rattle.book.specs.declared.PositionAnswer.{PositionAnswer}

@@ -1,7 +1,7 @@
 -- `book::inner::body_at` meets its contract: the entry that the lookup gives covers the moment. Assumes nothing.
 use borrow.Author.Needs.{needs}
 use mathlib.Core.Path.{sym, _∙_}
-use Rattle.book.proofs.Found.{covered}
+use Rattle.book_search.proofs.Found.{covered}
 use Rattle.book.proofs.BodyAt.{no-cover, not-finite, too-fast, at-place}
 use Rattle.book.proofs.inner.body_at.Statement.{statement}
 use Rattle.book.proofs.inner.body_at.Tie as tie

@@ -8,7 +8,7 @@ use lib.Dec.{le→leb}
 use lib.Ieee.{inFloat}
 use Rattle.book_check.specs.Contents.{entryAt}
 use Rattle.book_check.proofs.Passing.{passing, contents-inside, block-inside}
-use Rattle.book.proofs.Found.{covering}
+use Rattle.book_search.proofs.Found.{covering}
 use Rattle.book.proofs.inner.reading_at.Statement.{statement}
 use Rattle.book.proofs.inner.reading_at.Tie as tie
 

@@ -5,9 +5,9 @@ use mathlib.Core.Bool.{false}
 use mathlib.Core.List.{List}
 use mathlib.Core.Path.{_≡_}
 use Rattle.book_check.specs.Contents.{entryCount, bodyOf, startOf, endOf}
-use Rattle.book.specs.Lookup.{serves}
-use Rattle.book.specs.declared.search.Stand.{Stand}
-use Rattle.book.specs.declared.search.Stand.the-variants.{Past, Covered, Before}
+use Rattle.book_search.specs.Lookup.{serves}
+use Rattle.book_search.specs.declared.search.Stand.{Stand}
+use Rattle.book_search.specs.declared.search.Stand.the-variants.{Past, Covered, Before}
 
 abbrev pub Stands : List ℕ → ℕ → ℕ → ℕ → Stand → Type 0
 Stands b i body t Past = (bodyOf b i ≤ body) × (bodyOf b i ≡ body → endOf b i ≤ t)

@@ -11,11 +11,11 @@ use native.Mathlib.Nat.{eq-or-lt-of-le, le-of-suc-le-suc, not-suc-le-zero}
 use native.Mathlib.Omega.{arith}
 use Rattle.base.specs.Choice.{if_then_else_}
 use Rattle.book_check.specs.Contents.{entryCount, bodyOf, startOf, endOf}
-use Rattle.book.specs.Lookup.{covers, serves, orElse, firstBelow, lookup}
-use Rattle.book.specs.Stands.{Stands, Narrowed}
-use Rattle.book.specs.declared.Lookup.{Lookup}
-use Rattle.book.specs.declared.Lookup.the-variants.{Entry, Nothing}
-use Rattle.book.specs.declared.search.Stand.the-variants.{Past, Before}
+use Rattle.book_search.specs.Lookup.{covers, serves, orElse, firstBelow, lookup}
+use Rattle.book_search.specs.Stands.{Stands, Narrowed}
+use Rattle.book_search.specs.declared.Lookup.{Lookup}
+use Rattle.book_search.specs.declared.Lookup.the-variants.{Entry, Nothing}
+use Rattle.book_search.specs.declared.search.Stand.the-variants.{Past, Before}
 use Rattle.base.proofs.Bools.{both, left, right, is-false}
 use Rattle.book_check.proofs.Passing.{Passing}
 

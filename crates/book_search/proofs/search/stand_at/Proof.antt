@@ -1,8 +1,8 @@
--- `book::search::stand_at` meets its contract: the bodies decide first, then the moment. Assumes nothing.
+-- `book_search::search::stand_at` meets its contract: the bodies decide first, then the moment. Assumes nothing.
 use native.Mathlib.Omega.{arith}
 use borrow.Author.Needs.{needs}
-use Rattle.book.proofs.search.stand_at.Statement.{statement}
-use Rattle.book.proofs.search.stand_at.Tie as tie
+use Rattle.book_search.proofs.search.stand_at.Statement.{statement}
+use Rattle.book_search.proofs.search.stand_at.Tie as tie
 
 returns : tie.Need-returns
 returns c = (omega arith, λ own. omega arith)

@@ -10,8 +10,8 @@ ghost use Prim.Native.Nat.{_+_, _≤_, _<_};
 ghost use lib.ListN.{length};
 ghost use Rattle.book_check.specs.Contents.{entryAt};
 ghost use Rattle.book_check.specs.Passes.{passes};
-ghost use Rattle.book.specs.Lookup.{lookup};
-ghost use Rattle.book.specs.Stands.{Stands, Narrowed};
+ghost use Rattle.book_search.specs.Lookup.{lookup};
+ghost use Rattle.book_search.specs.Stands.{Stands, Narrowed};
 
 // Where a body and a moment are relative to an entry, in the order of the contents.
 pub enum Stand {

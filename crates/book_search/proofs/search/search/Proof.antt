@@ -1,4 +1,4 @@
--- `book::search::search` meets its contract. The invariant: only entries from low to high can serve. Assumes nothing.
+-- `book_search::search::search` meets its contract. The invariant: only entries from low to high can serve. Assumes nothing.
 use native.Mathlib.Omega.{arith}
 use borrow.Author.Needs.{needs}
 use Prim.Native.Nat.{ℕ, _+_, _-_, _≤_, _<_}
@@ -7,11 +7,11 @@ use mathlib.Core.Logic.{⊎-elim}
 use mathlib.Core.Path.{sym}
 use lib.ListN.{length}
 use Rattle.book_check.specs.Contents.{entryCount, entryAt}
-use Rattle.book.specs.Stands.{Narrowed}
+use Rattle.book_search.specs.Stands.{Narrowed}
 use Rattle.book_check.proofs.Passing.{passing, contents-inside}
-use Rattle.book.proofs.Found.{found, narrow-past, narrow-before, nothing-left}
-use Rattle.book.proofs.search.search.Statement.{statement}
-use Rattle.book.proofs.search.search.Tie as tie
+use Rattle.book_search.proofs.Found.{found, narrow-past, narrow-before, nothing-left}
+use Rattle.book_search.proofs.search.search.Statement.{statement}
+use Rattle.book_search.proofs.search.search.Tie as tie
 
 abbrev Inv-loop : tie.InvT-loop
 Inv-loop book body moment low high first low₀ high₀ probe₀ low' high' probe = Narrowed book body moment low' high' probe

@@ -1,4 +1,4 @@
--- `book::inner::lookup_guessed` meets its contract: the guessed entry narrows the search. Assumes nothing.
+-- `book_search::inner::lookup_guessed` meets its contract: the guessed entry narrows the search. Assumes nothing.
 use native.Mathlib.Omega.{arith}
 use borrow.Author.Needs.{needs}
 use Prim.Native.Nat.{ℕ, _+_, _<_, _≤_}
@@ -6,12 +6,12 @@ use denote.Ref.{now}
 use mathlib.Core.Path.{_≡_, sym}
 use lib.ListN.{length}
 use Rattle.book_check.specs.Contents.{entryCount, entryAt}
-use Rattle.book.specs.Stands.{Narrowed}
-use Rattle.book.specs.declared.search.Stand.the-variants.{Past, Before}
+use Rattle.book_search.specs.Stands.{Narrowed}
+use Rattle.book_search.specs.declared.search.Stand.the-variants.{Past, Before}
 use Rattle.book_check.proofs.Passing.{passing, contents-inside}
-use Rattle.book.proofs.Found.{found, unsearched, narrow-past, narrow-before, nothing-left}
-use Rattle.book.proofs.inner.lookup_guessed.Statement.{statement}
-use Rattle.book.proofs.inner.lookup_guessed.Tie as tie
+use Rattle.book_search.proofs.Found.{found, unsearched, narrow-past, narrow-before, nothing-left}
+use Rattle.book_search.proofs.inner.lookup_guessed.Statement.{statement}
+use Rattle.book_search.proofs.inner.lookup_guessed.Tie as tie
 
 inside : (c : tie.Start) → entryAt (entryCount (now (c .args .book))) ≤ length (now (c .args .book))
 inside c = contents-inside _ (passing _ (c .pre))

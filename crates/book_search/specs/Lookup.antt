@@ -4,8 +4,8 @@ use mathlib.Core.Bool.{Bool, _&&_}
 use mathlib.Core.List.{List}
 use Rattle.base.specs.Choice.{if_then_else_, _<?_, _≤?_, _=?_}
 use Rattle.book_check.specs.Contents.{entryCount, bodyOf, startOf, endOf}
-use Rattle.book.specs.declared.Lookup.{Lookup}
-use Rattle.book.specs.declared.Lookup.the-variants.{Entry, Nothing}
+use Rattle.book_search.specs.declared.Lookup.{Lookup}
+use Rattle.book_search.specs.declared.Lookup.the-variants.{Entry, Nothing}
 
 -- "An entry covers t when s <= t < s + L"
 abbrev pub covers : List ℕ → ℕ → ℕ → Bool
