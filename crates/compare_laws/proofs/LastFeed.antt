@@ -12,7 +12,7 @@ use Rattle.listing_read.specs.declared.Line.{Line}
 use Rattle.listing_read.specs.declared.Line.the-variants as line
 use Rattle.listing_read.specs.declared.Place.{Place}
 use Rattle.listing_read.specs.declared.Place.the-variants.{Top, First, After, Done, Off}
-use Rattle.listing_read.specs.Line.{kindOf}
+use Rattle.listing_read.specs.Reading.{kindOf}
 use Rattle.listing_read.specs.Form.{inFirst, linesOf, kindsOf, placed, isOff, refusedFrom, formRefusal}
 use Rattle.compare_laws.specs.Same.{SameBytes, LinesAreBytes}
 use Rattle.compare_laws.proofs.Texts.{some-line}

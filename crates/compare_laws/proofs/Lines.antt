@@ -23,7 +23,7 @@ use Rattle.listing_write.specs.Lines.{spaced, vectorText}
 use Rattle.listing_read.specs.declared.Row.{Row}
 use Rattle.listing_read.specs.declared.Line.{Line}
 use Rattle.listing_read.specs.declared.Line.the-variants as line
-use Rattle.listing_read.specs.Line.{hexValue, nothing, word, number, digits, headerLine, arrivedLine, refusedLine, finiteBits, component, pushed, components, blank, momentFrom, kindOf}
+use Rattle.listing_read.specs.Reading.{hexValue, nothing, word, number, digits, headerLine, arrivedLine, refusedLine, finiteBits, component, pushed, components, blank, momentFrom, kindOf}
 use Rattle.compare_laws.proofs.Texts.{Plain, plain-none, plain-on, plain-append}
 use Rattle.compare_laws.proofs.Numbers.{number-read, moment-kind, decimal-plain}
 

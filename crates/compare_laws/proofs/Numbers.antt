@@ -10,7 +10,7 @@ use Rattle.base.specs.Limits.{endOfTime}
 use Rattle.text_write.specs.Numerals.{glyph, decimalOf}
 use Rattle.text_write.proofs.Decimal.{by-size, decimal-short, decimal-long}
 use Rattle.listing_read.specs.declared.Line.{Line}
-use Rattle.listing_read.specs.Line.{isDecimal, number, digits, momentFrom, stateLine, kindOf}
+use Rattle.listing_read.specs.Reading.{isDecimal, number, digits, momentFrom, stateLine, kindOf}
 use Rattle.compare_laws.proofs.Texts.{Plain, plain-none, plain-on}
 
 pub glyph-small : (d : ℕ) → d < 10 → glyph d ≡ 48 + d

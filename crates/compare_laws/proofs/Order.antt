@@ -12,7 +12,8 @@ use lib.Ieee.Fits.{down-pos}
 use lib.Ieee.Exact.{HasValue, odd-sign}
 use borrow.Author.Tests.{lt-ltb, le-ltb, le-leb, lt-leb, ltb-true, ltb-false, ne-eqb}
 use Rattle.compare_steps.specs.Steps.{place, steps}
-use Rattle.compare_laws.specs.Order.{FiniteBits, floatOf, FollowsOrder, Neighbours, Next}
+use Rattle.listing_read.specs.Line.{FiniteBits}
+use Rattle.compare_laws.specs.Order.{floatOf, FollowsOrder, Neighbours, Next}
 use Rattle.compare_laws.proofs.Counting.{by-sign, place-clear, place-set}
 
 -- ---- the size of a finite float in units of the smallest, by the field of its exponent and its digits

@@ -43,7 +43,7 @@ use Rattle.text_write.specs.Numerals.{decimalOf}
 use Rattle.listing_read.specs.declared.Line.{Line}
 use Rattle.listing_read.specs.declared.Line.the-variants as line
 use Rattle.listing_read.specs.declared.Place.the-variants.{Top, First, After, Off}
-use Rattle.listing_read.specs.Line.{kindOf}
+use Rattle.listing_read.specs.Reading.{kindOf}
 use Rattle.listing_read.specs.Form.{linesOf, kindsOf, refusedFrom, formRefusal}
 use Rattle.compare_laws.proofs.Texts.{Plain, plain-append, feed-lines}
 use Rattle.compare_laws.proofs.Numbers.{decimal-plain}

@@ -20,12 +20,12 @@ use Rattle.listing_read.specs.declared.Row.{Row}
 use Rattle.listing_read.specs.declared.Line.{Line}
 use Rattle.listing_read.specs.declared.Line.the-variants as line
 use Rattle.listing_read.specs.declared.Place.the-variants.{Top, First, After, Done}
-use Rattle.listing_read.specs.Line.{isDecimal, hexValue, appended, nothing, word, number, digits, headerLine, arrivedLine, refusedLine}
-use Rattle.listing_read.specs.Line.{finiteBits, component, pushed, components, blank, momentFrom, stateLine, kindOf}
+use Rattle.listing_read.specs.Line.{FiniteBits, behindSpaces, sixOf, rowText, AllFinite, LineOf}
+use Rattle.listing_read.specs.Reading.{isDecimal, hexValue, appended, nothing, word, number, digits, headerLine, arrivedLine, refusedLine}
+use Rattle.listing_read.specs.Reading.{finiteBits, component, pushed, components, blank, momentFrom, stateLine, kindOf}
 use Rattle.listing_read.specs.Form.{linesOf, kindsOf, foundRows, rowOf, refusedFrom, formRefusal, rowsOf, rowsIn}
 use Rattle.compare_report.specs.Report.{firstOf, lastOf, headerOf, outcomeOf}
-use Rattle.compare_laws.specs.Order.{FiniteBits}
-use Rattle.compare_laws.specs.Same.{behindSpaces, sixOf, rowText, AllFinite, LineOf, StateOnlyIf, listingLines}
+use Rattle.compare_laws.specs.Same.{StateOnlyIf, listingLines}
 use Rattle.compare_laws.proofs.Numbers.{glyph-small, moment-kind}
 use Rattle.compare_laws.proofs.Lines.{component-read, no-more, FineState, rowFor, stateText, state-line-kind}
 

@@ -16,7 +16,7 @@ use Rattle.listing_read.specs.declared.Scan.{Scan}
 use Rattle.listing_read.specs.declared.Scan.the-variants.{Start, Letters, Digits, Moment, Component, Behind, Bad}
 use Rattle.listing_read.specs.Form.{linesOf, rowOf, foundRows, rowsOf, rowsIn, formRefusal}
 use Rattle.listing_read.specs.Bytes.{told, kindsFrom}
-use Rattle.listing_read.specs.Line.{kindOf}
+use Rattle.listing_read.specs.Reading.{kindOf}
 use Rattle.listing_read.proofs.Lines.{kinds-start}
 use Rattle.compare_report.specs.declared.Part.the-variants.{Header, States, Outcome, End}
 use Rattle.compare_report.specs.Turns.{takes, sideOf}

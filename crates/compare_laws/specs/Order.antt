@@ -1,15 +1,12 @@
 -- Document 02, R-1: "the count of float steps from one to the other (the two zeros are one step apart; counting runs through them)". Float
 -- steps follow the order of floats.
-use Prim.Native.Nat.{ℕ, _+_, _%_, _<_}
+use Prim.Native.Nat.{ℕ, _+_, _<_}
 use mathlib.Core.Bool.{true}
 use mathlib.Core.Logic.{_⊎_}
 use mathlib.Core.Path.{_≡_}
 use lib.Ieee.{Float, binary64, ofBits, lt}
+use Rattle.listing_read.specs.Line.{FiniteBits}
 use Rattle.compare_steps.specs.Steps.{place, steps}
-
--- the bits of a finite float: 64 of them, and without the sign bit below those of infinity
-abbrev pub FiniteBits : ℕ → Type 0
-FiniteBits b = (b < 0x1_0000_0000_0000_0000) × (b % 0x8000_0000_0000_0000 < 0x7ff0_0000_0000_0000)
 
 abbrev pub floatOf : ℕ → Float
 floatOf b = ofBits binary64 b

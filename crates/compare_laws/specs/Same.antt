@@ -1,45 +1,19 @@
 -- Document 02, R-1: "Equal listings give one line, SAME and the number of states". Which two texts give that line, and no other two.
-use Prim.Native.Nat.{ℕ, _<_}
+use Prim.Native.Nat.{ℕ}
 use mathlib.Core.List.{List, [], _∷_, _++_, map}
 use mathlib.Core.Logic.{_⊎_, _↔_}
 use mathlib.Core.Path.{_≡_}
 use lib.ListN.{length}
-use Rattle.base.specs.Limits.{endOfTime}
-use Rattle.text_write.specs.Numerals.{hex16, decimalOf}
 use Rattle.listing_words.specs.Words.{lineFeed}
 use Rattle.listing_read.specs.declared.Row.{Row}
 use Rattle.listing_read.specs.declared.Line.the-variants.{State}
-use Rattle.listing_read.specs.Line.{kindOf}
+use Rattle.listing_read.specs.Line.{rowText, LineOf}
+use Rattle.listing_read.specs.Reading.{kindOf}
 use Rattle.listing_read.specs.Form.{linesOf, formRefusal, rowsIn}
 use Rattle.compare_report.specs.Report.{sameLine, report}
-use Rattle.compare_laws.specs.Order.{FiniteBits}
 use Rattle.compare_laws.specs.Runs.{Run, output}
 
 -- ---- a state's line is one text, and a listing's lines are those of its header, its states and its outcome
-
--- numbers of 64 bits, each behind a space (32)
-abbrev pub behindSpaces : List ℕ → List ℕ
-behindSpaces [] = []
-behindSpaces (bits ∷ more) = 32 ∷ (hex16 bits ++ behindSpaces more)
-
--- the bits of a state's six components
-abbrev pub sixOf : Row → List ℕ
-sixOf r = r .x ∷ r .y ∷ r .z ∷ r .vx ∷ r .vy ∷ r .vz ∷ []
-
--- the line of a state: its moment and its components
-unfoldable pub rowText : Row → List ℕ
-rowText r = decimalOf (r .moment) ++ behindSpaces (sixOf r)
-
--- finite floats, each by its bits
-abbrev pub AllFinite : List ℕ → Type 0
-AllFinite [] = Unit {0}
-AllFinite (bits ∷ more) = FiniteBits bits × AllFinite more
-
--- a line is the text of a state, the state's moment is in range, and its components are finite
-pub record LineOf (l : List ℕ) (r : Row) : Type 0 where
-  pub text : l ≡ rowText r
-  pub moment : r .moment < endOfTime
-  pub components : AllFinite (sixOf r)
 
 -- a line is read as a state if and only if it is the line of that state
 abbrev pub StateOnlyIf : List ℕ → Row → Type 0

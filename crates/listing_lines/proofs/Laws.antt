@@ -2,6 +2,7 @@
 use Prim.Native.Nat.{ℕ, zero, suc, _+_, _-_, _*_, _%_, _<_, _≤_}
 use mathlib.Core.Bool.{Bool, true, false, _&&_}
 use mathlib.Core.List.{List, [], _∷_}
+use mathlib.Core.Logic.{_↔_}
 use mathlib.Core.Path.{_≡_, refl, sym, ap, _∙_}
 use native.Mathlib.Nat.{add-zero, zero-add}
 use native.Mathlib.Numerals.{add-one}
@@ -12,7 +13,7 @@ use lib.ListN.{length, getD, drop, drop-of-length-le}
 use lib.Seq.{drop-cons}
 use Rattle.base.specs.Limits.{endOfTime}
 use Rattle.base.specs.Choice.{_<?_}
-use Rattle.listing_lines.specs.Digits.{isDecimal, hexValue, appended}
+use Rattle.listing_lines.specs.Digits.{isDecimal, hexValue, appended, finiteBits, FiniteBits}
 use Rattle.listing_lines.specs.Whole.{Values, unspelled, spelledFrom, goesOn, momentOn}
 
 both : (p q : Bool) → (p && q) ≡ true → (p ≡ true) × (q ≡ true)
@@ -107,3 +108,10 @@ agreed b (v ∷ vs) h (suc i) l = agreed (suc b) vs (both (eqb v (hexValue b)) _
 
 pub values-are : (vs : List ℕ) → agrees 0 vs ≡ true → length vs ≡ 256 → Values vs
 values-are vs h l = record { are = λ b lt. agreed 0 vs h b (omega arith) ∙ ap hexValue (zero-add b) }
+
+-- ---- finite floats
+
+-- of 64 bits the test finds those of a finite float and no others
+pub finite-told : (bits : ℕ) → bits < 0x1_0000_0000_0000_0000 → (finiteBits bits ≡ true) ↔ FiniteBits bits
+finite-told bits h =
+    (λ e. let below : bits % 0x8000_0000_0000_0000 < 0x7ff0_0000_0000_0000 = ltb-true _ _ e in (h, omega arith), λ f. lt-ltb (bits % 0x8000_0000_0000_0000) 0x7ff0_0000_0000_0000 (f .1))

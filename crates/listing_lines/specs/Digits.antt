@@ -1,5 +1,5 @@
 -- The digits in the lines of a listing, and the numbers that they spell.
-use Prim.Native.Nat.{ℕ, _+_, _-_, _*_, _%_}
+use Prim.Native.Nat.{ℕ, _+_, _-_, _*_, _%_, _<_}
 use mathlib.Core.Bool.{Bool, _&&_}
 use Rattle.base.specs.Choice.{if_then_else_, _<?_, _≤?_}
 
@@ -23,3 +23,7 @@ appended bits d = (16 * bits + d) % 0x1_0000_0000_0000_0000
 -- the bits of a finite float: "a component not finite" is refused
 abbrev pub finiteBits : ℕ → Bool
 finiteBits bits = bits % 0x8000_0000_0000_0000 <? 0x7ff0_0000_0000_0000
+
+-- the same as a statement: 64 bits, and without the sign bit below those of infinity
+abbrev pub FiniteBits : ℕ → Type 0
+FiniteBits bits = (bits < 0x1_0000_0000_0000_0000) × (bits % 0x8000_0000_0000_0000 < 0x7ff0_0000_0000_0000)

@@ -17,8 +17,8 @@ use Rattle.listing_read.specs.declared.Word.{Word}
 use Rattle.listing_read.specs.declared.Word.the-variants.{Strip, Arrived, Refused, Steps}
 use Rattle.listing_read.specs.declared.Scan.{Scan}
 use Rattle.listing_read.specs.declared.Scan.the-variants.{Start, Letters, Digits, Moment, Component, Behind, Bad}
-use Rattle.listing_read.specs.Line.{isDecimal, hexValue, word, digits, number, headerLine, arrivedLine, refusedLine, appended, finiteBits}
-use Rattle.listing_read.specs.Line.{component, pushed, components, blank, momentFrom, stateLine, kindOf}
+use Rattle.listing_read.specs.Reading.{isDecimal, hexValue, word, digits, number, headerLine, arrivedLine, refusedLine, appended, finiteBits}
+use Rattle.listing_read.specs.Reading.{component, pushed, components, blank, momentFrom, stateLine, kindOf}
 use Rattle.listing_read.specs.Bytes.{lettersOf, endsAs, afterNumber, told, Spaced, Takes}
 
 -- ---- digits

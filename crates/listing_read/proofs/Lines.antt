@@ -11,7 +11,7 @@ use Rattle.listing_read.specs.declared.Line.{Line}
 use Rattle.listing_read.specs.declared.Scan.{Scan}
 use Rattle.listing_read.specs.declared.Scan.the-variants.{Start}
 use Rattle.listing_read.specs.declared.Found.{Found}
-use Rattle.listing_read.specs.Line.{kindOf}
+use Rattle.listing_read.specs.Reading.{kindOf}
 use Rattle.listing_read.specs.Form.{inFirst, linesOf, kindsOf, foundRows, rowsOf}
 use Rattle.listing_read.specs.Bytes.{told, Takes, kindsAfter, kindsFrom, rowHere, Passes}
 

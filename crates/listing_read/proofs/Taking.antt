@@ -17,7 +17,7 @@ use Rattle.listing_read.specs.declared.Scan.{Scan}
 use Rattle.listing_read.specs.declared.Scan.the-variants.{Start, Letters, Digits, Moment, Component, Behind, Bad}
 use Rattle.listing_read.specs.declared.Found.{Found}
 use Rattle.listing_read.specs.declared.Found.the-variants.{Is, None}
-use Rattle.listing_read.specs.Line.{isDecimal, hexValue, appended, finiteBits, blank}
+use Rattle.listing_read.specs.Reading.{isDecimal, hexValue, appended, finiteBits, blank}
 use Rattle.listing_read.specs.Form.{rowsOf}
 use Rattle.listing_read.specs.Bytes.{lettersOf, Spaced, onFirst, onLetter, behindNumber, onDigit, onBehind, onMoment, onHex, onByte, Takes}
 use Rattle.listing_read.specs.Bytes.{kindsFrom, rowHere, behindByte, foundOr, searched, nextRow, Passes, Finds}

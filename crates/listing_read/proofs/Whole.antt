@@ -18,7 +18,7 @@ use Rattle.listing_lines.proofs.Laws.{more-least}
 use Rattle.listing_read.specs.declared.Row.{Row}
 use Rattle.listing_read.specs.declared.Scan.{Scan}
 use Rattle.listing_read.specs.declared.Scan.the-variants.{Start, Letters, Digits, Moment, Component, Behind, Bad}
-use Rattle.listing_read.specs.Line.{pushed, blank}
+use Rattle.listing_read.specs.Reading.{pushed, blank}
 use Rattle.listing_read.specs.Bytes.{begun, onByte}
 use Rattle.listing_read.specs.Reached.{upToFeed, toFeed, rowIn}
 

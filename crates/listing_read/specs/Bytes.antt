@@ -22,7 +22,7 @@ use Rattle.listing_read.specs.declared.Found.{Found}
 use Rattle.listing_read.specs.declared.Found.the-variants.{Is, None}
 use Rattle.listing_read.specs.declared.Next.{Next}
 use Rattle.listing_read.specs.Form.{linesOf, rowOf, foundRows, placed, isOff, missing, refusedFrom, rowsOf}
-use Rattle.listing_read.specs.Line.{isDecimal, hexValue, word, nothing, digits, number, appended, finiteBits, component, pushed, components, blank, momentFrom, kindOf}
+use Rattle.listing_read.specs.Reading.{isDecimal, hexValue, word, nothing, digits, number, appended, finiteBits, component, pushed, components, blank, momentFrom, kindOf}
 
 abbrev pub lettersOf : Word → List ℕ
 lettersOf Strip = stripWord

@@ -11,7 +11,7 @@ use Rattle.listing_read.specs.declared.Found.{Found}
 use Rattle.listing_read.specs.declared.Found.the-variants.{Is, None}
 use Rattle.listing_read.specs.declared.Place.{Place}
 use Rattle.listing_read.specs.declared.Place.the-variants.{Top, First, After, Done, Off}
-use Rattle.listing_read.specs.Line.{kindOf}
+use Rattle.listing_read.specs.Reading.{kindOf}
 
 -- the lines of a text: each ends at a line feed, which the last may lack
 abbrev pub inFirst : ℕ → List (List ℕ) → List (List ℕ)

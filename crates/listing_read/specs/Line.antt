@@ -1,89 +1,99 @@
--- The form of a line of a listing (document 01, "strip"), read from front to end: what kind of line it is, and its state if it has one. The
--- words are those that strip writes (listing_words). A line has no line feed here, and one space separates its parts.
-use Prim.Native.Nat.{ℕ, zero, suc, _+_, _-_, _*_}
-use mathlib.Core.Bool.{Bool, _&&_}
-use mathlib.Core.List.{List, [], _∷_}
-use Rattle.base.specs.Choice.{if_then_else_, _<?_, _=?_}
-use Rattle.base.specs.Limits.{isMoment}
-pub use Rattle.listing_lines.specs.Digits.{isDecimal, hexValue, appended, finiteBits}
-use Rattle.listing_words.specs.Words.{stripWord, arrivedWord, refusedWord}
+-- The form of a listing's lines (document 01, "strip"), each without its line feed:
+--   a header is STRIP and a number;
+--   a state is its moment and six components of 16 hexadecimal digits, each after one space;
+--   an outcome is ARRIVED and a number, or REFUSED and two numbers;
+--   a lone refusal is REFUSED and a number.
+-- The numbers are decimal, without a leading zero. The words end in a space (listing_words). `HasKind` below says which kind a line has. The
+-- law `kind-only-if` of listing_laws says that the code reads this form and no other.
+use Prim.Native.Nat.{ℕ, _<_}
+use mathlib.Core.List.{List, [], _∷_, _++_}
+use mathlib.Core.Logic.{_⊎_}
+use mathlib.Core.Path.{_≡_}
+use Rattle.base.specs.Limits.{endOfTime}
+use Rattle.text_write.specs.Numerals.{decimalOf, hex16}
+use Rattle.listing_words.specs.Words.{space, stripWord, arrivedWord, refusedWord}
+pub use Rattle.listing_lines.specs.Digits.{FiniteBits}
 use Rattle.listing_read.specs.declared.Row.{Row}
 use Rattle.listing_read.specs.declared.Line.{Line}
 use Rattle.listing_read.specs.declared.Line.the-variants.{Header, State, Outcome, Lone, Bad}
 
--- the line continues with a word; `after` judges what follows the word
-unfoldable pub word : List ℕ → (List ℕ → Line) → List ℕ → Line
-word [] after rest = after rest
-word (w ∷ ws) after [] = Bad
-word (w ∷ ws) after (b ∷ rest) = if b =? w then word ws after rest else Bad
-
--- nothing more may follow in the line
-abbrev pub nothing : List ℕ → Line
-nothing rest = Bad
-
--- a number of which a digit is read. If `more` is true, digits may follow. Then the line ends and its kind is `ends`, or a space comes.
-unfoldable pub digits : Bool → Line → (List ℕ → Line) → List ℕ → Line
-digits more ends after [] = ends
-digits more ends after (b ∷ rest) =
-    if b =? 32 then after rest else
-    if more && isDecimal b then digits more ends after rest else Bad
-
--- a decimal number of any length, without a leading zero: 0 itself is one digit
-unfoldable pub number : Line → (List ℕ → Line) → List ℕ → Line
-number ends after [] = Bad
-number ends after (b ∷ rest) = if isDecimal b then digits (48 <? b) ends after rest else Bad
+-- ---- the texts
 
 -- "a header with h": STRIP and a number
-unfoldable pub headerLine : List ℕ → Line
-headerLine = word stripWord (number Header nothing)
+abbrev pub headerText : ℕ → List ℕ
+headerText h = stripWord ++ decimalOf h
 
 -- "the outcome with steps done": ARRIVED and a number
-unfoldable pub arrivedLine : List ℕ → Line
-arrivedLine = word arrivedWord (number Outcome nothing)
+abbrev pub arrivedText : ℕ → List ℕ
+arrivedText steps = arrivedWord ++ decimalOf steps
 
--- "only REFUSED and the number", or "REFUSED 6 14 (number, steps)"
-unfoldable pub refusedLine : List ℕ → Line
-refusedLine = word refusedWord (number Lone (number Outcome nothing))
+-- "A step refused prints REFUSED 6 14 (number, steps) in the last line": REFUSED and two numbers
+abbrev pub refusedText : ℕ → ℕ → List ℕ
+refusedText k steps = refusedWord ++ decimalOf k ++ space ++ decimalOf steps
 
--- the digits of a component that are still to come, after those that spell `bits`; `after` judges what follows it
-unfoldable pub component : ℕ → ℕ → (ℕ → List ℕ → Line) → List ℕ → Line
-component zero bits after rest = after bits rest
-component (suc left) bits after [] = Bad
-component (suc left) bits after (b ∷ rest) =
-    if hexValue b <? 16 then component left (appended bits (hexValue b)) after rest else Bad
+-- "if the order or book is refused, only REFUSED and the number"
+abbrev pub loneText : ℕ → List ℕ
+loneText k = refusedWord ++ decimalOf k
 
--- one more component: the six are pushed in from the right, so that after all six the first is x
-abbrev pub pushed : Row → ℕ → Row
-pushed r bits =
-    record { moment = r .moment; x = r .y; y = r .z; z = r .vx; vx = r .vy; vy = r .vz; vz = bits }
+-- "Floats are their bits as 16 lowercase hexadecimal digits": each follows a space
+abbrev pub behindSpaces : List ℕ → List ℕ
+behindSpaces [] = []
+behindSpaces (bits ∷ more) = space ++ (hex16 bits ++ behindSpaces more)
 
--- that many components, each after a space, then the end of the line
-unfoldable pub components : ℕ → Row → List ℕ → Line
-components zero r [] = State r
-components zero r (b ∷ rest) = Bad
-components (suc more) r rest =
-    word (32 ∷ []) (component 16 0 (λ bits behind. if finiteBits bits then components more (pushed r bits) behind else Bad)) rest
+-- the bits of a state's six components
+abbrev pub sixOf : Row → List ℕ
+sixOf r = r .x ∷ r .y ∷ r .z ∷ r .vx ∷ r .vy ∷ r .vz ∷ []
 
--- a moment, and no component yet
-abbrev pub blank : ℕ → Row
-blank t = record { moment = t; x = 0; y = 0; z = 0; vx = 0; vy = 0; vz = 0 }
+-- "each state": its moment and its components
+unfoldable pub rowText : Row → List ℕ
+rowText r = decimalOf (r .moment) ++ behindSpaces (sixOf r)
 
--- a moment of which the digits read so far spell t: no digit follows a leading zero, and the moment must stay in range
-unfoldable pub momentFrom : ℕ → List ℕ → Line
-momentFrom t [] = Bad
-momentFrom t (b ∷ rest) =
-    if isDecimal b && (0 <? t) && isMoment (10 * t + (b - 48)) then momentFrom (10 * t + (b - 48)) rest
-    else components 6 (blank t) (b ∷ rest)
+-- ---- the lines with these texts
 
--- "each state": its moment and six components
-unfoldable pub stateLine : List ℕ → Line
-stateLine [] = Bad
-stateLine (b ∷ rest) = if isDecimal b then momentFrom (b - 48) rest else Bad
+pub record IsHeader (l : List ℕ) : Type 0 where
+  pub h : ℕ
+  pub text : l ≡ headerText h
 
--- the kind of a line: its first byte shows which kind it can be
-unfoldable pub kindOf : List ℕ → Line
-kindOf [] = Bad
-kindOf (b ∷ rest) =
-    if b =? 83 then headerLine (b ∷ rest) else
-    if b =? 65 then arrivedLine (b ∷ rest) else
-    if b =? 82 then refusedLine (b ∷ rest) else stateLine (b ∷ rest)
+pub record IsArrived (l : List ℕ) : Type 0 where
+  pub steps : ℕ
+  pub text : l ≡ arrivedText steps
+
+pub record IsRefused (l : List ℕ) : Type 0 where
+  pub refusal : ℕ
+  pub steps : ℕ
+  pub text : l ≡ refusedText refusal steps
+
+pub record IsLone (l : List ℕ) : Type 0 where
+  pub refusal : ℕ
+  pub text : l ≡ loneText refusal
+
+-- finite floats, each by its bits
+abbrev pub AllFinite : List ℕ → Type 0
+AllFinite [] = Unit {0}
+AllFinite (bits ∷ more) = FiniteBits bits × AllFinite more
+
+-- a line is the text of a state. Document 02, R-1, refuses a state "with a component not finite" or with a moment out of range.
+pub record LineOf (l : List ℕ) (r : Row) : Type 0 where
+  pub text : l ≡ rowText r
+  pub moment : r .moment < endOfTime
+  pub components : AllFinite (sixOf r)
+
+-- a line after the states is ARRIVED and a number, or REFUSED and two numbers
+abbrev pub IsOutcome : List ℕ → Type 0
+IsOutcome l = IsArrived l ⊎ IsRefused l
+
+-- a line "not of document 01's form": it has none of the kinds
+pub record NoKind (l : List ℕ) : Type 0 where
+  pub no-header : IsHeader l → ⊥
+  pub no-state : (r : Row) → LineOf l r → ⊥
+  pub no-outcome : IsOutcome l → ⊥
+  pub no-lone : IsLone l → ⊥
+
+-- ---- which kind a line has
+
+abbrev pub HasKind : List ℕ → Line → Type 0
+HasKind l Header = IsHeader l
+HasKind l (State r) = LineOf l r
+HasKind l Outcome = IsOutcome l
+HasKind l Lone = IsLone l
+HasKind l Bad = NoKind l

@@ -3,7 +3,7 @@
 use crate::Word;
 ghost use mathlib.Core.Path.{_≡_};
 ghost use lib.ListN.{getD, length};
-ghost use Rattle.listing_read.specs.Line.{isDecimal, hexValue};
+ghost use Rattle.listing_read.specs.Reading.{isDecimal, hexValue};
 ghost use Rattle.listing_read.specs.Bytes.{lettersOf};
 
 const STRIP: [u8; 6] = [83, 84, 82, 73, 80, 32];

@@ -10,7 +10,7 @@ use crate::letters::letter;
 use crate::letters::letters_in;
 ghost use mathlib.Core.Path.{_≡_};
 ghost use mathlib.Core.List.{[]};
-ghost use Rattle.listing_read.specs.Line.{finiteBits, pushed, blank};
+ghost use Rattle.listing_read.specs.Reading.{finiteBits, pushed, blank};
 ghost use Rattle.listing_read.specs.Bytes.{told, begun, onFirst, onLetter, behindNumber, onDigit, onBehind, onMoment, onHex, onByte, endsAs};
 
 // A tenth of the end of time: a moment of this or more cannot take another digit.

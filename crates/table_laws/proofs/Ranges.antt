@@ -12,8 +12,8 @@ use Rattle.listing_words.specs.Words.{stripWord, arrivedWord, refusedWord}
 use Rattle.listing_read.specs.declared.Row.{Row}
 use Rattle.listing_read.specs.declared.Line.{Line}
 use Rattle.listing_read.specs.declared.Line.the-variants as line
-use Rattle.listing_read.specs.Line.{isDecimal, hexValue, word, nothing, digits, number, headerLine, arrivedLine, refusedLine, appended, finiteBits}
-use Rattle.listing_read.specs.Line.{component, pushed, components, blank, momentFrom, stateLine, kindOf}
+use Rattle.listing_read.specs.Reading.{isDecimal, hexValue, word, nothing, digits, number, headerLine, arrivedLine, refusedLine, appended, finiteBits}
+use Rattle.listing_read.specs.Reading.{component, pushed, components, blank, momentFrom, stateLine, kindOf}
 use Rattle.listing_read.specs.Form.{linesOf, kindsOf}
 
 abbrev pub InRange : Line → Type 0
