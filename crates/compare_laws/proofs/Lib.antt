@@ -1,6 +1,5 @@
 pub mod Texts
 pub mod Once
-pub mod Numbers
 pub mod Lines
 pub mod Printed
 pub mod Whole

@@ -1,12 +1,11 @@
--- The lines that strip writes are of the form. Assumes nothing.
-use Prim.Native.Nat.{ℕ, zero, suc, _+_, _*_, _/_, _%_, _^_, _<_}
+-- The line of a state as strip writes it is of the form, and no line of strip has a line feed inside. Assumes nothing.
+use Prim.Native.Nat.{ℕ, zero, suc, _+_, _/_, _%_, _<_, _≤_}
 use mathlib.Core.Bool.{true}
 use mathlib.Core.List.{List, [], _∷_, _++_, append-assoc, append-nil}
 use mathlib.Core.Path.{_≡_, refl, sym, ap, subst, _∙_}
-use native.Mathlib.Nat.{pow-succ'}
 use native.Mathlib.Omega.{arith}
-use borrow.Author.Tests.{lt-ltb, le-ltb, le-leb, lt-leb}
-use lib.Dec.{T, ltb}
+use borrow.Author.Tests.{lt-ltb, le-ltb, ltb-true}
+use lib.Dec.{T}
 use lib.Ieee.{Float, nan, inf, fin, binary64, fits, ofBits, toBits}
 use lib.Ieee.Bits.{ofBits-toBits, toBits-lt}
 use lib.Ieee.Scale.{finite}
@@ -16,77 +15,27 @@ use Rattle.state.specs.declared.Vector.{Vector}
 use Rattle.state.specs.declared.State.{State}
 use Rattle.text_write.specs.Numerals.{glyph, hex16, decimalOf, floatText}
 use Rattle.text_write.specs.Numerals as text
-use Rattle.text_write.proofs.Decimal.{by-size}
+use Rattle.text_write.proofs.Decimal.{by-size, decimal-short, decimal-long}
 use Rattle.base_bytes.proofs.FiniteBits.{finite-bits}
 use Rattle.listing_words.specs.Words.{stripWord, arrivedWord, refusedWord}
 use Rattle.listing_write.specs.Lines.{spaced, vectorText}
 use Rattle.listing_read.specs.declared.Row.{Row}
-use Rattle.listing_read.specs.declared.Line.{Line}
 use Rattle.listing_read.specs.declared.Line.the-variants as line
-use Rattle.listing_read.specs.Reading.{hexValue, nothing, word, number, digits, headerLine, arrivedLine, refusedLine, finiteBits, component, pushed, components, blank, momentFrom, kindOf}
+use Rattle.listing_read.specs.Line.{FiniteBits, behindSpaces, rowText}
+use Rattle.listing_read.specs.Reading.{kindOf}
+use Rattle.listing_laws.proofs.Numbers.{glyph-small}
+use Rattle.listing_laws.proofs.OnlyIf.{kind-only-if}
 use Rattle.compare_laws.proofs.Texts.{Plain, plain-none, plain-on, plain-append}
-use Rattle.compare_laws.proofs.Numbers.{number-read, moment-kind, decimal-plain}
 
--- ---- header, outcome and lone refusal
+-- ---- no digit is a line feed
 
-number-ends : (ends : Line) (after : List ℕ → Line) (n : ℕ) → number ends after (decimalOf n) ≡ ends
-unfolding digits
-number-ends ends after n = ap (number ends after) (sym (append-nil (decimalOf n))) ∙ number-read ends after n n [] (omega arith)
-
-number-goes-on : (ends : Line) (after : List ℕ → Line) (n : ℕ) (rest : List ℕ) → number ends after (decimalOf n ++ (32 ∷ rest)) ≡ after rest
-unfolding digits
-number-goes-on ends after n rest = number-read ends after n n (32 ∷ rest) (omega arith)
-
-pub header-kind : (h : ℕ) → kindOf (stripWord ++ decimalOf h) ≡ line.Header
-unfolding kindOf headerLine word
-header-kind h = number-ends line.Header nothing h
-
-pub arrived-kind : (n : ℕ) → kindOf (arrivedWord ++ decimalOf n) ≡ line.Outcome
-unfolding kindOf arrivedLine word
-arrived-kind n = number-ends line.Outcome nothing n
-
-pub lone-kind : (k : ℕ) → kindOf (refusedWord ++ decimalOf k) ≡ line.Lone
-unfolding kindOf refusedLine word
-lone-kind k = number-ends line.Lone (number line.Outcome nothing) k
-
-pub refused-kind : (k n : ℕ) → kindOf (refusedWord ++ (decimalOf k ++ (32 ∷ decimalOf n))) ≡ line.Outcome
-unfolding kindOf refusedLine word
-refused-kind k n = number-goes-on line.Lone (number line.Outcome nothing) k (decimalOf n) ∙ number-ends line.Outcome nothing n
-
--- ---- a component: 16 digits
-
-hex-glyph : (d : ℕ) → d < 16 → hexValue (glyph d) ≡ d
-hex-glyph d h =
-    by-size d
-    (λ small. rw (lt-ltb d 10 small, le-leb 48 (48 + d) (omega arith), le-leb (48 + d) 57 (omega arith)) (omega arith))
-    (λ big. rw (le-ltb d 10 big, le-leb 48 (87 + d) (omega arith), lt-leb (87 + d) 57 (omega arith), le-leb 97 (87 + d) (omega arith), le-leb (87 + d) 102 (omega arith)) (omega arith))
-
-module _ (after : ℕ → List ℕ → Line) where
-  hex-more : (j n d : ℕ) (rest : List ℕ) → d < 16 → 16 * n + d < 0x1_0000_0000_0000_0000 → component (suc j) n after (glyph d ∷ rest) ≡ component j (16 * n + d) after rest
-  unfolding component
-  hex-more j n d rest h f =
-      let e : (16 * n + d) % 0x1_0000_0000_0000_0000 ≡ 16 * n + d = omega arith in
-      rw (hex-glyph d h, lt-ltb d 16 h, e)
-
-  hex-read : (k j n : ℕ) (rest : List ℕ) → n < 16 ^ k → n < 0x1_0000_0000_0000_0000 → component (j + k) 0 after (text.digits 16 k n ++ rest) ≡ component j n after rest
-  unfolding text.digits
-  hex-read zero j n rest h f =
-      let e : n ≡ 0 = omega arith in
-      let q : j + 0 ≡ j = omega arith in
-      rw (e, q)
-  hex-read (suc k) j n rest h f =
-      let p : 16 ^ suc k ≡ 16 * 16 ^ k = pow-succ' 16 k in
-      let e : 16 * (n / 16) + n % 16 ≡ n = omega arith in
-      let q : j + suc k ≡ suc j + k = omega arith in
-      ap (λ (l : List ℕ). component (j + suc k) 0 after l) (append-assoc (text.digits 16 k (n / 16)) (glyph (n % 16) ∷ []) rest)
-      ∙ ap (λ (i : ℕ). component i 0 after (text.digits 16 k (n / 16) ++ (glyph (n % 16) ∷ rest))) q
-      ∙ hex-read k (suc j) (n / 16) (glyph (n % 16) ∷ rest) (omega arith) (omega arith)
-      ∙ hex-more j (n / 16) (n % 16) rest (omega arith) (omega arith)
-      ∙ ap (λ (i : ℕ). component j i after rest) e
-
-  pub component-read : (n : ℕ) (rest : List ℕ) → n < 0x1_0000_0000_0000_0000 → component 16 0 after (hex16 n ++ rest) ≡ after n rest
-  unfolding component
-  component-read n rest f = hex-read 16 0 n rest f f
+pub decimal-plain : (most n : ℕ) → n ≤ most → Plain (decimalOf n)
+decimal-plain zero n h = subst Plain (sym (decimal-short n (omega arith))) (plain-on [] (glyph n) plain-none (λ e. omega (arith, glyph-small n (omega arith))))
+decimal-plain (suc most) n h =
+    by-size n
+    (λ small. subst Plain (sym (decimal-short n small)) (plain-on [] (glyph n) plain-none (λ e. omega (arith, glyph-small n small))))
+    (λ big. subst Plain (sym (decimal-long n big))
+    (plain-on (decimalOf (n / 10)) (glyph (n % 10)) (decimal-plain most (n / 10) (omega arith)) (λ e. omega (arith, glyph-small (n % 10) (omega arith)))))
 
 pub hex-plain : (k n : ℕ) → Plain (text.digits 16 k n)
 unfolding text.digits
@@ -108,13 +57,8 @@ fine-text nan h = let z : _≡_ {A = ℕ} 0 1 = cc in absurd (omega arith)
 fine-text (inf s) h = refl
 fine-text (fin s m e) h = refl
 
-fine-bits : (x : Float) → Fine x → finiteBits (toBits binary64 x) ≡ true
-fine-bits x f = sym (finite-bits (toBits binary64 x)) ∙ ap finite (ofBits-toBits binary64 x (f .is-fit)) ∙ f .is-finite
-
-pub spaced-read : (x : Float) (more : ℕ) (r : Row) (rest : List ℕ) → Fine x → components (suc more) r (spaced x ++ rest) ≡ components more (pushed r (toBits binary64 x)) rest
-unfolding components word
-spaced-read x more r rest f =
-    rw (fine-text x (f .is-finite)) (component-read _ (toBits binary64 x) rest (toBits-lt binary64 x (f .is-fit)) ∙ rw (fine-bits x f))
+fine-bits : (x : Float) → Fine x → FiniteBits (toBits binary64 x)
+fine-bits x f = (toBits-lt binary64 x (f .is-fit), ltb-true _ _ (sym (finite-bits (toBits binary64 x)) ∙ ap finite (ofBits-toBits binary64 x (f .is-fit)) ∙ f .is-finite))
 
 -- ---- a state's line
 
@@ -123,24 +67,28 @@ pub record FineVector (v : Vector) : Type 0 where
   pub y-fine : Fine (v .y)
   pub z-fine : Fine (v .z)
 
-abbrev pushedAll : Row → Vector → Row
-pushedAll r v = pushed (pushed (pushed r (toBits binary64 (v .x))) (toBits binary64 (v .y))) (toBits binary64 (v .z))
+abbrev bitsIn : Vector → List ℕ
+bitsIn v = toBits binary64 (v .x) ∷ toBits binary64 (v .y) ∷ toBits binary64 (v .z) ∷ []
 
-vector-read : (v : Vector) (more : ℕ) (r : Row) (rest : List ℕ) → FineVector v → components (suc (suc (suc more))) r (vectorText v ++ rest) ≡ components more (pushedAll r v) rest
+vector-text : (v : Vector) (more : List ℕ) → FineVector v → vectorText v ++ behindSpaces more ≡ behindSpaces (bitsIn v ++ more)
 unfolding vectorText
-vector-read v more r rest f =
-    ap (components (suc (suc (suc more))) r) (append-assoc (spaced (v .x) ++ spaced (v .y)) (spaced (v .z)) rest ∙ append-assoc (spaced (v .x)) (spaced (v .y)) (spaced (v .z) ++ rest))
-    ∙ spaced-read (v .x) (suc (suc more)) r _ (f .x-fine)
-    ∙ spaced-read (v .y) (suc more) _ _ (f .y-fine)
-    ∙ spaced-read (v .z) more _ rest (f .z-fine)
-
-after-moment : (t : ℕ) (p : Vector) (rest : List ℕ) → momentFrom t (vectorText p ++ rest) ≡ components 6 (blank t) (vectorText p ++ rest)
-unfolding momentFrom vectorText
-after-moment t p rest = refl
+vector-text v more f =
+    append-assoc (spaced (v .x) ++ spaced (v .y)) (spaced (v .z)) (behindSpaces more)
+    ∙ append-assoc (spaced (v .x)) (spaced (v .y)) (spaced (v .z) ++ behindSpaces more)
+    ∙ rw (fine-text (v .x) (f .x-fine .is-finite), fine-text (v .y) (f .y-fine .is-finite), fine-text (v .z) (f .z-fine .is-finite))
 
 -- the row that the line of a state is read as
 abbrev pub rowFor : State → Row
-rowFor s = pushedAll (pushedAll (blank (s .moment)) (position s)) (velocity s)
+rowFor s =
+    record {
+      moment = s .moment;
+      x = toBits binary64 (s .x);
+      y = toBits binary64 (s .y);
+      z = toBits binary64 (s .z);
+      vx = toBits binary64 (s .vx);
+      vy = toBits binary64 (s .vy);
+      vz = toBits binary64 (s .vz);
+    }
 
 abbrev pub stateText : State → List ℕ
 stateText s = decimalOf (s .moment) ++ vectorText (position s) ++ vectorText (velocity s)
@@ -150,21 +98,27 @@ pub record FineState (s : State) : Type 0 where
   pub position-fine : FineVector (position s)
   pub velocity-fine : FineVector (velocity s)
 
-pub no-more : (r : Row) → components 0 r [] ≡ line.State r
-unfolding components
-no-more r = refl
+-- strip writes the text of the row
+pub as-strip-writes : (s : State) → FineState s → stateText s ≡ rowText (rowFor s)
+unfolding rowText
+as-strip-writes s f =
+    let p = vectorText (position s) in
+    let v : vectorText (velocity s) ≡ behindSpaces (bitsIn (velocity s)) = sym (append-nil _) ∙ vector-text (velocity s) [] (f .velocity-fine) in
+    append-assoc (decimalOf (s .moment)) p (vectorText (velocity s))
+    ∙ ap (λ (l : List ℕ). decimalOf (s .moment) ++ (p ++ l)) v
+    ∙ ap (λ (l : List ℕ). decimalOf (s .moment) ++ l) (vector-text (position s) (bitsIn (velocity s)) (f .position-fine))
 
 pub state-line-kind : (s : State) → FineState s → kindOf (stateText s) ≡ line.State (rowFor s)
 state-line-kind s f =
-    let p = vectorText (position s) in
-    let v = vectorText (velocity s) in
-    ap kindOf (append-assoc (decimalOf (s .moment)) p v)
-    ∙ moment-kind (s .moment) (p ++ v) (f .inside)
-    ∙ after-moment (s .moment) (position s) v
-    ∙ vector-read (position s) 3 (blank (s .moment)) v (f .position-fine)
-    ∙ ap (components 3 (pushedAll (blank (s .moment)) (position s))) (sym (append-nil v))
-    ∙ vector-read (velocity s) 0 (pushedAll (blank (s .moment)) (position s)) [] (f .velocity-fine)
-    ∙ no-more (rowFor s)
+    let p = f .position-fine in
+    let v = f .velocity-fine in
+    let b = fine-bits in
+    kind-only-if (stateText s) (line.State (rowFor s)) .1
+    (record {
+      text = as-strip-writes s f;
+      moment = f .inside;
+      components = (b _ (p .x-fine), (b _ (p .y-fine), (b _ (p .z-fine), (b _ (v .x-fine), (b _ (v .y-fine), (b _ (v .z-fine), tt))))));
+    })
 
 -- ---- none of these lines has a line feed inside
 

@@ -43,11 +43,12 @@ use Rattle.text_write.specs.Numerals.{decimalOf}
 use Rattle.listing_read.specs.declared.Line.{Line}
 use Rattle.listing_read.specs.declared.Line.the-variants as line
 use Rattle.listing_read.specs.declared.Place.the-variants.{Top, First, After, Off}
+use Rattle.listing_read.specs.Line.{headerText, arrivedText, refusedText, loneText}
 use Rattle.listing_read.specs.Reading.{kindOf}
 use Rattle.listing_read.specs.Form.{linesOf, kindsOf, refusedFrom, formRefusal}
+use Rattle.listing_laws.proofs.Texts.{header-kind, arrived-kind, lone-kind, refused-kind}
 use Rattle.compare_laws.proofs.Texts.{Plain, plain-append, feed-lines}
-use Rattle.compare_laws.proofs.Numbers.{decimal-plain}
-use Rattle.compare_laws.proofs.Lines.{Fine, FineVector, FineState, rowFor, stateText, header-kind, arrived-kind, lone-kind, refused-kind}
+use Rattle.compare_laws.proofs.Lines.{Fine, FineVector, FineState, rowFor, stateText}
 use Rattle.compare_laws.proofs.Lines.{state-line-kind, space-plain, state-plain, strip-plain, arrived-plain, refused-plain, numbered-plain}
 
 -- ---- floats of a state that a step leads to
@@ -155,23 +156,22 @@ kinds-state s rest f = kinds-line (stateText s) rest (state-plain s f) ∙ ap (�
 
 kinds-arrived : (n : ℕ) → kindsOf (arrivedLine n) ≡ line.Outcome ∷ []
 unfolding arrivedLine
-kinds-arrived n = last-kind (arrivedWord ++ decimalOf n) (numbered-plain arrivedWord n arrived-plain) ∙ ap (λ (k : Line). k ∷ []) (arrived-kind n)
+kinds-arrived n = last-kind (arrivedText n) (numbered-plain arrivedWord n arrived-plain) ∙ ap (λ (k : Line). k ∷ []) (arrived-kind n)
 
 kinds-lone : (k : ℕ) → kindsOf (loneRefusal k) ≡ line.Lone ∷ []
 unfolding loneRefusal
-kinds-lone k = last-kind (refusedWord ++ decimalOf k) (numbered-plain refusedWord k refused-plain) ∙ ap (λ (l : Line). l ∷ []) (lone-kind k)
+kinds-lone k = last-kind (loneText k) (numbered-plain refusedWord k refused-plain) ∙ ap (λ (l : Line). l ∷ []) (lone-kind k)
 
 kinds-header : (h : ℕ) (rest : List ℕ) → kindsOf (headerLine h ++ rest) ≡ line.Header ∷ kindsOf rest
 unfolding headerLine
-kinds-header h rest = kinds-line (stripWord ++ decimalOf h) rest (numbered-plain stripWord h strip-plain) ∙ ap (λ (k : Line). k ∷ kindsOf rest) (header-kind h)
+kinds-header h rest = kinds-line (headerText h) rest (numbered-plain stripWord h strip-plain) ∙ ap (λ (k : Line). k ∷ kindsOf rest) (header-kind h)
 
 kinds-refused : (k n : ℕ) → kindsOf (refusedLine k n) ≡ line.Outcome ∷ []
 unfolding refusedLine
 kinds-refused k n =
-    let behind : List ℕ = 32 ∷ decimalOf n in
-    ap kindsOf (sym (append-assoc (refusedWord ++ decimalOf k) behind (10 ∷ [])) ∙ ap (λ (l : List ℕ). l ++ (10 ∷ [])) (append-assoc refusedWord (decimalOf k) behind))
-    ∙ last-kind (refusedWord ++ (decimalOf k ++ behind))
-    (plain-append refusedWord (decimalOf k ++ behind) refused-plain (plain-append (decimalOf k) behind (decimal-plain k k (omega arith)) (numbered-plain (32 ∷ []) n space-plain)))
+    let front = refusedWord ++ decimalOf k in
+    ap kindsOf (sym (append-assoc front (32 ∷ decimalOf n) (10 ∷ [])) ∙ ap (λ (l : List ℕ). l ++ (10 ∷ [])) (sym (append-assoc front (32 ∷ []) (decimalOf n))))
+    ∙ last-kind (refusedText k n) (numbered-plain (front ++ (32 ∷ [])) n (plain-append front (32 ∷ []) (numbered-plain refusedWord k refused-plain) space-plain))
     ∙ ap (λ (l : Line). l ∷ []) (refused-kind k n)
 
 -- ---- the states of a run, and its outcome

@@ -6,20 +6,13 @@ use mathlib.Core.Path.{_≡_}
 use lib.ListN.{length}
 use Rattle.listing_words.specs.Words.{lineFeed}
 use Rattle.listing_read.specs.declared.Row.{Row}
-use Rattle.listing_read.specs.declared.Line.the-variants.{State}
-use Rattle.listing_read.specs.Line.{rowText, LineOf}
-use Rattle.listing_read.specs.Reading.{kindOf}
+use Rattle.listing_read.specs.Line.{rowText}
 use Rattle.listing_read.specs.Form.{linesOf, formRefusal, rowsIn}
 use Rattle.compare_report.specs.Report.{sameLine, report}
 use Rattle.compare_laws.specs.Runs.{Run, output}
 
--- ---- a state's line is one text, and a listing's lines are those of its header, its states and its outcome
+-- ---- a listing's lines are those of its header, its states and its outcome. A listing without states is its outcome alone.
 
--- a line is read as a state if and only if it is the line of that state
-abbrev pub StateOnlyIf : List ℕ → Row → Type 0
-StateOnlyIf l r = (kindOf l ≡ State r) ↔ LineOf l r
-
--- a listing without states is its outcome alone
 abbrev pub listingLines : List ℕ → List Row → List ℕ → List (List ℕ)
 listingLines header [] outcome = outcome ∷ []
 listingLines header (r ∷ rs) outcome = header ∷ (map rowText (r ∷ rs) ++ (outcome ∷ []))

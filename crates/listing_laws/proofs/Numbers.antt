@@ -1,8 +1,8 @@
--- Numbers as strip writes them are numbers of the form. Assumes nothing.
+-- Decimal numbers are read as numbers, and as moments if they are in range. Assumes nothing.
 use Prim.Native.Nat.{ℕ, zero, suc, _+_, _-_, _*_, _/_, _%_, _<_, _≤_}
 use mathlib.Core.Bool.{Bool, true}
 use mathlib.Core.List.{List, [], _∷_, _++_, append-assoc}
-use mathlib.Core.Path.{_≡_, refl, sym, ap, subst, _∙_}
+use mathlib.Core.Path.{_≡_, refl, sym, ap, _∙_}
 use native.Mathlib.Omega.{arith}
 use borrow.Author.Tests.{lt-ltb, le-leb, ne-eqb}
 use lib.Dec.{ltb}
@@ -11,7 +11,6 @@ use Rattle.text_write.specs.Numerals.{glyph, decimalOf}
 use Rattle.text_write.proofs.Decimal.{by-size, decimal-short, decimal-long}
 use Rattle.listing_read.specs.declared.Line.{Line}
 use Rattle.listing_read.specs.Reading.{isDecimal, number, digits, momentFrom, stateLine, kindOf}
-use Rattle.compare_laws.proofs.Texts.{Plain, plain-none, plain-on}
 
 pub glyph-small : (d : ℕ) → d < 10 → glyph d ≡ 48 + d
 glyph-small d h = rw (lt-ltb d 10 h)
@@ -19,7 +18,7 @@ glyph-small d h = rw (lt-ltb d 10 h)
 decimal-digit : (d : ℕ) → d < 10 → isDecimal (48 + d) ≡ true
 decimal-digit d h = rw (le-leb 48 (48 + d) (omega arith), le-leb (48 + d) 57 (omega arith))
 
-above-zero : (n : ℕ) → ltb 48 (48 + n) ≡ ltb 0 n
+pub above-zero : (n : ℕ) → ltb 48 (48 + n) ≡ ltb 0 n
 above-zero zero = refl
 above-zero (suc n) = lt-ltb 48 (48 + suc n) (omega arith) ∙ sym (lt-ltb 0 (suc n) (omega arith))
 
@@ -108,13 +107,3 @@ moment-kind n rest f =
     ∙ state-kind (d .first) (d .rest ++ rest) (d .low) (d .high)
     ∙ ap (λ (l : List ℕ). stateLine (l ++ rest)) (sym (d .is))
     ∙ moment-read n n rest (omega arith) f
-
--- ---- no digit is a line feed
-
-pub decimal-plain : (most n : ℕ) → n ≤ most → Plain (decimalOf n)
-decimal-plain zero n h = subst Plain (sym (decimal-short n (omega arith))) (plain-on [] (glyph n) plain-none (λ e. omega (arith, glyph-small n (omega arith))))
-decimal-plain (suc most) n h =
-    by-size n
-    (λ small. subst Plain (sym (decimal-short n small)) (plain-on [] (glyph n) plain-none (λ e. omega (arith, glyph-small n small))))
-    (λ big. subst Plain (sym (decimal-long n big))
-    (plain-on (decimalOf (n / 10)) (glyph (n % 10)) (decimal-plain most (n / 10) (omega arith)) (λ e. omega (arith, glyph-small (n % 10) (omega arith)))))
