@@ -10,7 +10,7 @@ use lib.ListN.{length, take, drop}
 use Rattle.base.specs.Choice.{if_then_else_}
 use Rattle.text_write.specs.Written.{Wrote}
 use Rattle.text_write.proofs.Writing.{inside, later}
-use Rattle.listing_read.specs.declared.Row.{Row}
+use Rattle.listing_scan.specs.declared.Row.{Row}
 use Rattle.listing_read.specs.declared.Found.{Found}
 use Rattle.listing_read.specs.declared.Found.the-variants.{Is, None}
 use Rattle.listing_read.specs.Form.{foundRows, rowsOf}

@@ -10,11 +10,11 @@ use lib.ListN.{length, drop, drop-of-length-le}
 use Rattle.base.specs.Choice.{if_then_else_}
 use Rattle.listing_read.specs.declared.Found.{Found}
 use Rattle.listing_read.specs.declared.Found.the-variants.{Is, None}
-use Rattle.listing_read.specs.declared.Scan.the-variants.{Start}
+use Rattle.listing_scan.specs.declared.Scan.the-variants.{Start}
 use Rattle.listing_read.specs.declared.Next.{Next}
 use Rattle.listing_read.specs.Form.{linesOf, rowsOf}
 use Rattle.listing_read.specs.Bytes.{kindsFrom, nextRow, Finds}
-use Rattle.listing_read.proofs.Taking.{finds}
+use Rattle.listing_read.proofs.Finding.{finds}
 use Rattle.compare_report.specs.Turns.{Ended, left}
 use Rattle.compare_blocks.specs.declared.Reading.{Reading}
 use Rattle.compare_blocks.specs.Sides.{coming, Rests, Shut, isNone, waiting, Fills, leaving, onward, goingOn}

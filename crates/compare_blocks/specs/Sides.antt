@@ -5,12 +5,13 @@ use mathlib.Core.List.{List, [], _++_}
 use mathlib.Core.Path.{_≡_}
 use lib.ListN.{length, take, drop}
 use Rattle.base.specs.Choice.{if_then_else_, _<?_}
-use Rattle.listing_read.specs.declared.Row.{Row}
+use Rattle.listing_scan.specs.declared.Row.{Row}
 use Rattle.listing_read.specs.declared.Found.{Found}
 use Rattle.listing_read.specs.declared.Found.the-variants.{Is, None}
-use Rattle.listing_read.specs.declared.Scan.the-variants.{Start}
+use Rattle.listing_scan.specs.declared.Scan.the-variants.{Start}
 use Rattle.listing_read.specs.Form.{rowOf, foundRows, rowsOf}
-use Rattle.listing_read.specs.Bytes.{told, kindsFrom}
+use Rattle.listing_scan.specs.Bytes.{told}
+use Rattle.listing_read.specs.Bytes.{kindsFrom}
 use Rattle.compare_report.specs.declared.Side.{Side}
 use Rattle.compare_report.specs.Report.{parted, textOf}
 use Rattle.compare_report.specs.Turns.{sideOf}

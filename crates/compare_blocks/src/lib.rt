@@ -4,8 +4,8 @@
 pub mod inner;
 
 use listing_read::Found;
-use listing_read::Scan;
 use listing_read::last_row;
+use listing_scan::Scan;
 ghost use mathlib.Core.Path.{_≡_};
 ghost use Rattle.compare_blocks.specs.Sides.{opened, onward, goingOn};
 

@@ -8,11 +8,11 @@ use native.Mathlib.Omega.{arith}
 use borrow.Author.Tests.{eqb-true}
 use lib.Dec.{eqb}
 use Rattle.base.specs.Choice.{if_then_else_}
-use Rattle.listing_read.specs.declared.Line.{Line}
-use Rattle.listing_read.specs.declared.Line.the-variants as line
+use Rattle.listing_scan.specs.declared.Line.{Line}
+use Rattle.listing_scan.specs.declared.Line.the-variants as line
 use Rattle.listing_read.specs.declared.Place.{Place}
 use Rattle.listing_read.specs.declared.Place.the-variants.{Top, First, After, Done, Off}
-use Rattle.listing_read.specs.Reading.{kindOf}
+use Rattle.listing_scan.specs.Reading.{kindOf}
 use Rattle.listing_read.specs.Form.{inFirst, linesOf, kindsOf, placed, isOff, refusedFrom, formRefusal}
 use Rattle.compare_laws.specs.Same.{SameBytes, LinesAreBytes}
 use Rattle.compare_laws.proofs.Texts.{some-line}

@@ -19,10 +19,10 @@ use Rattle.text_write.proofs.Decimal.{by-size, decimal-short, decimal-long}
 use Rattle.base_bytes.proofs.FiniteBits.{finite-bits}
 use Rattle.listing_words.specs.Words.{stripWord, arrivedWord, refusedWord}
 use Rattle.listing_write.specs.Lines.{spaced, vectorText}
-use Rattle.listing_read.specs.declared.Row.{Row}
-use Rattle.listing_read.specs.declared.Line.the-variants as line
-use Rattle.listing_read.specs.Line.{FiniteBits, behindSpaces, rowText}
-use Rattle.listing_read.specs.Reading.{kindOf}
+use Rattle.listing_scan.specs.declared.Row.{Row}
+use Rattle.listing_scan.specs.declared.Line.the-variants as line
+use Rattle.listing_scan.specs.Line.{FiniteBits, behindSpaces, rowText}
+use Rattle.listing_scan.specs.Reading.{kindOf}
 use Rattle.listing_laws.proofs.Numbers.{glyph-small}
 use Rattle.listing_laws.proofs.OnlyIf.{kind-only-if}
 use Rattle.compare_laws.proofs.Texts.{Plain, plain-none, plain-on, plain-append}

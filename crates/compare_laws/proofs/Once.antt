@@ -8,10 +8,10 @@ use native.Mathlib.Omega.{arith}
 use borrow.Author.Tests.{lt-ltb, le-ltb, ltb-true, ltb-false, eq-eqb, ne-eqb, eqb-true, eqb-false}
 use lib.Dec.{ltb, eqb}
 use Rattle.base.specs.Choice.{if_then_else_}
-use Rattle.listing_read.specs.declared.Row.{Row}
+use Rattle.listing_scan.specs.declared.Row.{Row}
 use Rattle.listing_read.specs.declared.Found.the-variants.{None}
-use Rattle.listing_read.specs.declared.Line.{Line}
-use Rattle.listing_read.specs.declared.Line.the-variants as line
+use Rattle.listing_scan.specs.declared.Line.{Line}
+use Rattle.listing_scan.specs.declared.Line.the-variants as line
 use Rattle.listing_read.specs.declared.Place.the-variants.{Top, First, After, Done}
 use Rattle.listing_read.specs.Form.{kindsOf, refusedFrom, formRefusal, rowsOf, rowsIn}
 use Rattle.compare_report.specs.declared.Component.{Component}

@@ -5,7 +5,8 @@ use lib.ListN.{length}
 use denote.Ref.{now}
 use Rattle.base.proofs.OneAnswer.{OneAnswer, one-answer}
 use Rattle.listing_read.specs.Form.{placed, rowOf}
-use Rattle.listing_read.specs.Bytes.{told, nextRow}
+use Rattle.listing_scan.specs.Bytes.{told}
+use Rattle.listing_read.specs.Bytes.{nextRow}
 use Rattle.compare_steps.specs.Steps.{steps}
 use Rattle.compare_report.specs.Report.{partAfter, untilFeed, same}
 use Rattle.compare_report.specs.Turns.{sideOf}

@@ -12,7 +12,7 @@ use lib.Ieee.Fits.{down-pos}
 use lib.Ieee.Exact.{HasValue, odd-sign}
 use borrow.Author.Tests.{lt-ltb, le-ltb, le-leb, lt-leb, ltb-true, ltb-false, ne-eqb}
 use Rattle.compare_steps.specs.Steps.{place, steps}
-use Rattle.listing_read.specs.Line.{FiniteBits}
+use Rattle.listing_scan.specs.Line.{FiniteBits}
 use Rattle.compare_laws.specs.Order.{floatOf, FollowsOrder, Neighbours, Next}
 use Rattle.compare_laws.proofs.Counting.{by-sign, place-clear, place-set}
 

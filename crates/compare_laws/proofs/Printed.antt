@@ -40,11 +40,11 @@ use Rattle.strip_order.specs.declared.Order.{Order}
 use Rattle.listing_write.proofs.Courses.{starts}
 use Rattle.listing_write.proofs.Whole.{order-course}
 use Rattle.text_write.specs.Numerals.{decimalOf}
-use Rattle.listing_read.specs.declared.Line.{Line}
-use Rattle.listing_read.specs.declared.Line.the-variants as line
+use Rattle.listing_scan.specs.declared.Line.{Line}
+use Rattle.listing_scan.specs.declared.Line.the-variants as line
 use Rattle.listing_read.specs.declared.Place.the-variants.{Top, First, After, Off}
-use Rattle.listing_read.specs.Line.{headerText, arrivedText, refusedText, loneText}
-use Rattle.listing_read.specs.Reading.{kindOf}
+use Rattle.listing_scan.specs.Line.{headerText, arrivedText, refusedText, loneText}
+use Rattle.listing_scan.specs.Reading.{kindOf}
 use Rattle.listing_read.specs.Form.{linesOf, kindsOf, refusedFrom, formRefusal}
 use Rattle.listing_laws.proofs.Texts.{header-kind, arrived-kind, lone-kind, refused-kind}
 use Rattle.compare_laws.proofs.Texts.{Plain, plain-append, feed-lines}

@@ -11,7 +11,7 @@ use Rattle.base.specs.Choice.{if_then_else_}
 use Rattle.listing_words.specs.Words.{headerWord, outcomeWord, refused13, dash}
 use Rattle.listing_read.specs.declared.Judge.{Judge}
 use Rattle.listing_read.specs.declared.Verdict.{Verdict}
-use Rattle.listing_read.specs.declared.Row.{Row}
+use Rattle.listing_scan.specs.declared.Row.{Row}
 use Rattle.listing_read.specs.declared.Found.the-variants.{None}
 use Rattle.listing_read.specs.Form.{formRefusal, rowsIn}
 use Rattle.listing_read.specs.Bytes.{atTop, Goes, Counted}

@@ -13,8 +13,8 @@ use Rattle.base.proofs.Bools.{clash}
 use Rattle.text_write.specs.Numerals.{decimalOf}
 use Rattle.text_write.proofs.Back.{Spells, decimal-spells}
 use Rattle.listing_words.specs.Words.{lineFeed, sameWord, headerWord, outcomeWord, refused13, bar}
-use Rattle.listing_read.specs.declared.Row.{Row}
-use Rattle.listing_read.specs.Reading.{kindOf}
+use Rattle.listing_scan.specs.declared.Row.{Row}
+use Rattle.listing_scan.specs.Reading.{kindOf}
 use Rattle.listing_read.specs.Form.{linesOf, kindsOf, rowsOf, rowsIn, formRefusal}
 use Rattle.compare_steps.specs.Steps.{steps}
 use Rattle.compare_report.specs.declared.Component.{Component}

@@ -7,12 +7,12 @@ use native.Mathlib.Omega.{arith}
 use borrow.Author.Tests.{ne-eqb}
 use lib.Dec.{ltb}
 use lib.ListN.{length}
-use Rattle.listing_read.specs.declared.Row.{Row}
-use Rattle.listing_read.specs.declared.Line.{Line}
-use Rattle.listing_read.specs.declared.Line.the-variants as line
+use Rattle.listing_scan.specs.declared.Row.{Row}
+use Rattle.listing_scan.specs.declared.Line.{Line}
+use Rattle.listing_scan.specs.declared.Line.the-variants as line
 use Rattle.listing_read.specs.declared.Place.the-variants.{Top, First, After, Done}
-use Rattle.listing_read.specs.Line.{rowText}
-use Rattle.listing_read.specs.Reading.{kindOf}
+use Rattle.listing_scan.specs.Line.{rowText}
+use Rattle.listing_scan.specs.Reading.{kindOf}
 use Rattle.listing_read.specs.Form.{linesOf, kindsOf, foundRows, rowOf, refusedFrom, formRefusal, rowsOf, rowsIn}
 use Rattle.listing_laws.proofs.OnlyIf.{one-text}
 use Rattle.compare_report.specs.Report.{firstOf, lastOf, headerOf, outcomeOf}

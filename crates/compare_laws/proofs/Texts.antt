@@ -12,7 +12,7 @@ use lib.Seq.{drop-append-seam}
 use Rattle.base.specs.Choice.{if_then_else_}
 use Rattle.listing_read.specs.declared.Judge.{Judge}
 use Rattle.listing_read.specs.declared.Place.the-variants.{Top}
-use Rattle.listing_read.specs.declared.Scan.the-variants.{Start}
+use Rattle.listing_scan.specs.declared.Scan.the-variants.{Start}
 use Rattle.listing_read.specs.Form.{inFirst, linesOf, refusedFrom, formRefusal, rowsOf}
 use Rattle.listing_read.specs.Bytes.{kindsFrom, lastStart, refusalWith, countWith, outcomeWith, atTop, Goes, verdictOf}
 use Rattle.listing_read.proofs.Lines.{kinds-start}

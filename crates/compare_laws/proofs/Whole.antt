@@ -9,14 +9,15 @@ use borrow.Author.Tests.{lt-ltb}
 use lib.Dec.{ltb}
 use lib.ListN.{length, drop, drop-of-length-le}
 use Rattle.base.specs.Choice.{if_then_else_}
-use Rattle.listing_read.specs.declared.Row.{Row}
+use Rattle.listing_scan.specs.declared.Row.{Row}
 use Rattle.listing_read.specs.declared.Found.{Found}
 use Rattle.listing_read.specs.declared.Found.the-variants.{Is, None}
-use Rattle.listing_read.specs.declared.Scan.{Scan}
-use Rattle.listing_read.specs.declared.Scan.the-variants.{Start, Letters, Digits, Moment, Component, Behind, Bad}
+use Rattle.listing_scan.specs.declared.Scan.{Scan}
+use Rattle.listing_scan.specs.declared.Scan.the-variants.{Start, Letters, Digits, Moment, Component, Behind, Bad}
 use Rattle.listing_read.specs.Form.{linesOf, rowOf, foundRows, rowsOf, rowsIn, formRefusal}
-use Rattle.listing_read.specs.Bytes.{told, kindsFrom}
-use Rattle.listing_read.specs.Reading.{kindOf}
+use Rattle.listing_scan.specs.Bytes.{told}
+use Rattle.listing_read.specs.Bytes.{kindsFrom}
+use Rattle.listing_scan.specs.Reading.{kindOf}
 use Rattle.listing_read.proofs.Lines.{kinds-start}
 use Rattle.compare_report.specs.declared.Part.the-variants.{Header, States, Outcome, End}
 use Rattle.compare_report.specs.Turns.{takes, sideOf}

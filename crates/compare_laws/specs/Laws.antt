@@ -3,7 +3,7 @@ use Prim.Native.Nat.{ℕ, _+_, _≤_}
 use mathlib.Core.List.{List, [], _∷_}
 use lib.ListN.{length}
 use Rattle.base.specs.Choice.{if_then_else_, _=?_}
-use Rattle.listing_read.specs.declared.Row.{Row}
+use Rattle.listing_scan.specs.declared.Row.{Row}
 use Rattle.listing_read.specs.declared.Found.{Found}
 use Rattle.listing_read.specs.declared.Found.the-variants.{Is, None}
 use Rattle.listing_read.specs.declared.Verdict.{Verdict}

@@ -5,7 +5,7 @@ use mathlib.Core.Bool.{true}
 use mathlib.Core.Logic.{_⊎_}
 use mathlib.Core.Path.{_≡_}
 use lib.Ieee.{Float, binary64, ofBits, lt}
-use Rattle.listing_read.specs.Line.{FiniteBits}
+use Rattle.listing_scan.specs.Line.{FiniteBits}
 use Rattle.compare_steps.specs.Steps.{place, steps}
 
 abbrev pub floatOf : ℕ → Float

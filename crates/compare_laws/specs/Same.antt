@@ -5,8 +5,8 @@ use mathlib.Core.Logic.{_⊎_, _↔_}
 use mathlib.Core.Path.{_≡_}
 use lib.ListN.{length}
 use Rattle.listing_words.specs.Words.{lineFeed}
-use Rattle.listing_read.specs.declared.Row.{Row}
-use Rattle.listing_read.specs.Line.{rowText}
+use Rattle.listing_scan.specs.declared.Row.{Row}
+use Rattle.listing_scan.specs.Line.{rowText}
 use Rattle.listing_read.specs.Form.{linesOf, formRefusal, rowsIn}
 use Rattle.compare_report.specs.Report.{sameLine, report}
 use Rattle.compare_laws.specs.Runs.{Run, output}

@@ -7,7 +7,7 @@ use borrow.Author.Tests.{eq-eqb, ne-eqb}
 use lib.ListN.{length}
 use Rattle.text_write.specs.Written.{Wrote}
 use Rattle.text_write.proofs.Writing.{nothing, both}
-use Rattle.listing_read.specs.declared.Row.{Row}
+use Rattle.listing_scan.specs.declared.Row.{Row}
 use Rattle.compare_report.specs.declared.Component.{Component}
 use Rattle.compare_report.specs.declared.Component.the-variants.{X, Y, Z, VX, VY, VZ}
 use Rattle.compare_steps.specs.Steps.{steps}

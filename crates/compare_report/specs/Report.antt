@@ -7,7 +7,7 @@ use lib.ListN.{length}
 use Rattle.base.specs.Choice.{if_then_else_, _<?_, _=?_}
 use Rattle.text_write.specs.Numerals.{decimalOf}
 use Rattle.listing_words.specs.Words.{space, lineFeed, sameWord, onlyWord, diffWord, headerWord, outcomeWord, refused13, bar, dash, xName, yName, zName, vxName, vyName, vzName}
-use Rattle.listing_read.specs.declared.Row.{Row}
+use Rattle.listing_scan.specs.declared.Row.{Row}
 use Rattle.listing_read.specs.Form.{linesOf, formRefusal, rowsIn}
 use Rattle.compare_report.specs.declared.Component.{Component}
 use Rattle.compare_report.specs.declared.Component.the-variants.{X, Y, Z, VX, VY, VZ}

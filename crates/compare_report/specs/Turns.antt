@@ -5,7 +5,7 @@ use mathlib.Core.List.{List, [], _∷_, _++_}
 use mathlib.Core.Path.{_≡_}
 use Rattle.base.specs.Choice.{if_then_else_, _<?_}
 use Rattle.text_write.specs.Written.{Wrote}
-use Rattle.listing_read.specs.declared.Row.{Row}
+use Rattle.listing_scan.specs.declared.Row.{Row}
 use Rattle.listing_read.specs.declared.Found.{Found}
 use Rattle.listing_read.specs.declared.Found.the-variants.{Is, None}
 use Rattle.listing_read.specs.Form.{foundRows}

@@ -3,7 +3,7 @@
 pub mod same;
 
 use listing_read::Found;
-use listing_read::Row;
+use listing_scan::Row;
 ghost use mathlib.Core.Path.{_≡_};
 ghost use Rattle.compare_report.specs.Report.{partAfter};
 ghost use Rattle.compare_report.specs.Turns.{takes, sideOf};

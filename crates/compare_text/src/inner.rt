@@ -3,7 +3,7 @@
 use compare_report::Component;
 use compare_steps::steps_between;
 use listing_read::Found;
-use listing_read::Row;
+use listing_scan::Row;
 use text_write::inner::put_bytes;
 use text_write::inner::put_decimal;
 ghost use Prim.Native.Nat.{_+_, _≤_};

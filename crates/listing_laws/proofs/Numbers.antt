@@ -9,8 +9,8 @@ use lib.Dec.{ltb}
 use Rattle.base.specs.Limits.{endOfTime}
 use Rattle.text_write.specs.Numerals.{glyph, decimalOf}
 use Rattle.text_write.proofs.Decimal.{by-size, decimal-short, decimal-long}
-use Rattle.listing_read.specs.declared.Line.{Line}
-use Rattle.listing_read.specs.Reading.{isDecimal, number, digits, momentFrom, stateLine, kindOf}
+use Rattle.listing_scan.specs.declared.Line.{Line}
+use Rattle.listing_scan.specs.Reading.{isDecimal, number, digits, momentFrom, stateLine, kindOf}
 
 pub glyph-small : (d : ℕ) → d < 10 → glyph d ≡ 48 + d
 glyph-small d h = rw (lt-ltb d 10 h)

@@ -5,11 +5,11 @@ use mathlib.Core.List.{List}
 use mathlib.Core.Logic.{_↔_, inl, inr}
 use mathlib.Core.Path.{_≡_, refl, sym, ap, _∙_}
 use Rattle.base.proofs.Bools.{clash}
-use Rattle.listing_read.specs.declared.Row.{Row}
-use Rattle.listing_read.specs.declared.Line.{Line}
-use Rattle.listing_read.specs.declared.Line.the-variants.{Header, State, Outcome, Lone, Bad}
-use Rattle.listing_read.specs.Line.{rowText, LineOf, NoKind, IsOutcome, HasKind}
-use Rattle.listing_read.specs.Reading.{kindOf}
+use Rattle.listing_scan.specs.declared.Row.{Row}
+use Rattle.listing_scan.specs.declared.Line.{Line}
+use Rattle.listing_scan.specs.declared.Line.the-variants.{Header, State, Outcome, Lone, Bad}
+use Rattle.listing_scan.specs.Line.{rowText, LineOf, NoKind, IsOutcome, HasKind}
+use Rattle.listing_scan.specs.Reading.{kindOf}
 use Rattle.listing_laws.specs.OnlyIf.{KindOnlyIf}
 use Rattle.listing_laws.proofs.Texts.{header-kind, arrived-kind, refused-kind, lone-kind, row-kind}
 use Rattle.listing_laws.proofs.Spelling.{kind-back}

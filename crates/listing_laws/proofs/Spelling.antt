@@ -17,12 +17,12 @@ use Rattle.text_write.specs.Numerals as text
 use Rattle.text_write.proofs.Decimal.{decimal-short, decimal-long}
 use Rattle.listing_words.specs.Words.{stripWord, arrivedWord, refusedWord}
 use Rattle.listing_lines.proofs.Laws.{finite-told}
-use Rattle.listing_read.specs.declared.Row.{Row}
-use Rattle.listing_read.specs.declared.Line.{Line}
-use Rattle.listing_read.specs.declared.Line.the-variants as line
-use Rattle.listing_read.specs.Line.{FiniteBits, behindSpaces, sixOf, rowText, AllFinite, LineOf, HasKind}
-use Rattle.listing_read.specs.Reading.{isDecimal, hexValue, appended, nothing, word, number, digits, headerLine, arrivedLine, refusedLine}
-use Rattle.listing_read.specs.Reading.{finiteBits, component, pushed, components, blank, momentFrom, stateLine, kindOf}
+use Rattle.listing_scan.specs.declared.Row.{Row}
+use Rattle.listing_scan.specs.declared.Line.{Line}
+use Rattle.listing_scan.specs.declared.Line.the-variants as line
+use Rattle.listing_scan.specs.Line.{FiniteBits, behindSpaces, sixOf, rowText, AllFinite, LineOf, HasKind}
+use Rattle.listing_scan.specs.Reading.{isDecimal, hexValue, appended, nothing, word, number, digits, headerLine, arrivedLine, refusedLine}
+use Rattle.listing_scan.specs.Reading.{finiteBits, component, pushed, components, blank, momentFrom, stateLine, kindOf}
 use Rattle.listing_laws.proofs.Numbers.{glyph-small, above-zero}
 use Rattle.listing_laws.proofs.Texts.{two-numbers}
 

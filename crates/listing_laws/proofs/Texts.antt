@@ -11,11 +11,11 @@ use Rattle.text_write.specs.Numerals as text
 use Rattle.text_write.proofs.Decimal.{by-size}
 use Rattle.listing_words.specs.Words.{refusedWord}
 use Rattle.listing_lines.proofs.Laws.{finite-told}
-use Rattle.listing_read.specs.declared.Row.{Row}
-use Rattle.listing_read.specs.declared.Line.{Line}
-use Rattle.listing_read.specs.declared.Line.the-variants as line
-use Rattle.listing_read.specs.Line.{FiniteBits, headerText, arrivedText, refusedText, loneText, behindSpaces, sixOf, rowText, AllFinite}
-use Rattle.listing_read.specs.Reading.{hexValue, nothing, word, number, digits, headerLine, arrivedLine, refusedLine, component, pushed, components, blank, momentFrom, kindOf}
+use Rattle.listing_scan.specs.declared.Row.{Row}
+use Rattle.listing_scan.specs.declared.Line.{Line}
+use Rattle.listing_scan.specs.declared.Line.the-variants as line
+use Rattle.listing_scan.specs.Line.{FiniteBits, headerText, arrivedText, refusedText, loneText, behindSpaces, sixOf, rowText, AllFinite}
+use Rattle.listing_scan.specs.Reading.{hexValue, nothing, word, number, digits, headerLine, arrivedLine, refusedLine, component, pushed, components, blank, momentFrom, kindOf}
 use Rattle.listing_laws.proofs.Numbers.{number-read, moment-kind}
 
 -- ---- header, outcome and lone refusal

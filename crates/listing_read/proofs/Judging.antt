@@ -8,15 +8,16 @@ use native.Mathlib.Omega.{arith}
 use borrow.Author.Tests.{lt-ltb, le-ltb, ne-eqb}
 use lib.ListN.{length, length-append}
 use Rattle.base.specs.Choice.{if_then_else_}
-use Rattle.listing_read.specs.declared.Line.{Line}
-use Rattle.listing_read.specs.declared.Line.the-variants as line
+use Rattle.listing_scan.specs.declared.Line.{Line}
+use Rattle.listing_scan.specs.declared.Line.the-variants as line
 use Rattle.listing_read.specs.declared.Place.{Place}
 use Rattle.listing_read.specs.declared.Place.the-variants.{Top, First, After, Done, Off}
-use Rattle.listing_read.specs.declared.Scan.{Scan}
-use Rattle.listing_read.specs.declared.Scan.the-variants.{Start}
+use Rattle.listing_scan.specs.declared.Scan.{Scan}
+use Rattle.listing_scan.specs.declared.Scan.the-variants.{Start}
 use Rattle.listing_read.specs.declared.Judge.{Judge}
 use Rattle.listing_read.specs.Form.{linesOf, placed, isOff, missing, refusedFrom, rowsOf}
-use Rattle.listing_read.specs.Bytes.{told, begun, Takes, kindsFrom, lastStart, refusalWith, countWith, outcomeWith, lineAfter, rowsAfter, lineEnded, Counted, Goes, closed, verdictOf}
+use Rattle.listing_scan.specs.Bytes.{told, begun, Takes}
+use Rattle.listing_read.specs.Bytes.{kindsFrom, lastStart, refusalWith, countWith, outcomeWith, lineAfter, rowsAfter, lineEnded, Counted, Goes, closed, verdictOf}
 use Rattle.listing_read.proofs.Lines.{kinds-feed, kinds-byte}
 
 -- ---- one line more

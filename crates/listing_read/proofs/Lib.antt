@@ -1,6 +1,5 @@
-pub mod Bytes
 pub mod Lines
 pub mod Judging
-pub mod Taking
+pub mod Finding
 pub mod Whole
 pub mod Skipping

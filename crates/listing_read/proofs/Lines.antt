@@ -6,14 +6,15 @@ use native.Mathlib.Numerals.{add-one}
 use borrow.Author.Tests.{ne-eqb}
 use lib.ListN.{length, getD, drop}
 use lib.Seq.{drop-cons}
-use Rattle.listing_read.specs.declared.Row.{Row}
-use Rattle.listing_read.specs.declared.Line.{Line}
-use Rattle.listing_read.specs.declared.Scan.{Scan}
-use Rattle.listing_read.specs.declared.Scan.the-variants.{Start}
+use Rattle.listing_scan.specs.declared.Row.{Row}
+use Rattle.listing_scan.specs.declared.Line.{Line}
+use Rattle.listing_scan.specs.declared.Scan.{Scan}
+use Rattle.listing_scan.specs.declared.Scan.the-variants.{Start}
 use Rattle.listing_read.specs.declared.Found.{Found}
-use Rattle.listing_read.specs.Reading.{kindOf}
+use Rattle.listing_scan.specs.Reading.{kindOf}
 use Rattle.listing_read.specs.Form.{inFirst, linesOf, kindsOf, foundRows, rowsOf}
-use Rattle.listing_read.specs.Bytes.{told, Takes, kindsAfter, kindsFrom, rowHere, Passes}
+use Rattle.listing_scan.specs.Bytes.{told, Takes}
+use Rattle.listing_read.specs.Bytes.{kindsAfter, kindsFrom, rowHere, Passes}
 
 at-start : (ls : List (List ℕ)) → kindsAfter Start ls ≡ map kindOf ls
 unfolding told

@@ -10,13 +10,14 @@ use borrow.Author.Tests.{ltb-true, eq-eqb, ne-eqb, eqb-true, eqb-false, ltb-fals
 use lib.Dec.{eqb, ltb}
 use lib.ListN.{length, getD, take, drop, length-drop}
 use lib.Seq.{drop-cons, take-suc}
-use Rattle.listing_read.specs.declared.Scan.{Scan}
+use Rattle.listing_scan.specs.declared.Scan.{Scan}
 use Rattle.listing_read.specs.declared.Judge.{Judge}
 use Rattle.listing_read.specs.declared.Reached.{Reached}
-use Rattle.listing_read.specs.Bytes.{onByte, searched, nextRow, kindsFrom, Counted, Goes}
+use Rattle.listing_scan.specs.Bytes.{onByte}
+use Rattle.listing_read.specs.Bytes.{searched, nextRow, kindsFrom, Counted, Goes}
 use Rattle.listing_read.specs.Reached.{upToFeed, toFeed, readOn, judgedLine}
 use Rattle.listing_read.proofs.Lines.{kinds-byte}
-use Rattle.listing_read.proofs.Taking.{takes}
+use Rattle.listing_scan.proofs.Taking.{takes}
 use Rattle.listing_read.proofs.Judging.{goes-on, goes-feed, goes-byte}
 use Rattle.listing_read.proofs.Whole.{after-drop}
 

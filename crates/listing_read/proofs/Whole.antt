@@ -15,11 +15,11 @@ use Rattle.listing_lines.specs.Whole.{spelledFrom, finiteOnly, componentAt, goe
 use Rattle.listing_lines.specs.declared.Numbered.{Numbered}
 use Rattle.listing_lines.specs.declared.Spelled.{Spelled}
 use Rattle.listing_lines.proofs.Laws.{more-least}
-use Rattle.listing_read.specs.declared.Row.{Row}
-use Rattle.listing_read.specs.declared.Scan.{Scan}
-use Rattle.listing_read.specs.declared.Scan.the-variants.{Start, Letters, Digits, Moment, Component, Behind, Bad}
-use Rattle.listing_read.specs.Reading.{pushed, blank}
-use Rattle.listing_read.specs.Bytes.{begun, onByte}
+use Rattle.listing_scan.specs.declared.Row.{Row}
+use Rattle.listing_scan.specs.declared.Scan.{Scan}
+use Rattle.listing_scan.specs.declared.Scan.the-variants.{Start, Letters, Digits, Moment, Component, Behind, Bad}
+use Rattle.listing_scan.specs.Reading.{pushed, blank}
+use Rattle.listing_scan.specs.Bytes.{begun, onByte}
 use Rattle.listing_read.specs.Reached.{upToFeed, toFeed, rowIn}
 
 both : (p q : Bool) → (p && q) ≡ true → (p ≡ true) × (q ≡ true)

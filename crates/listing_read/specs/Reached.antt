@@ -4,12 +4,13 @@ use mathlib.Core.List.{List, [], _∷_}
 use lib.ListN.{length, drop}
 use Rattle.base.specs.Choice.{if_then_else_, _<?_, _=?_}
 use Rattle.listing_lines.specs.declared.WholeLine.{WholeLine}
-use Rattle.listing_read.specs.declared.Row.{Row}
-use Rattle.listing_read.specs.declared.Scan.{Scan}
+use Rattle.listing_scan.specs.declared.Row.{Row}
+use Rattle.listing_scan.specs.declared.Scan.{Scan}
 use Rattle.listing_read.specs.declared.Reached.{Reached}
 use Rattle.listing_read.specs.declared.Judge.{Judge}
 use Rattle.listing_read.specs.declared.Judged.{Judged}
-use Rattle.listing_read.specs.Bytes.{onByte, lineEnded}
+use Rattle.listing_scan.specs.Bytes.{onByte}
+use Rattle.listing_read.specs.Bytes.{lineEnded}
 
 -- the scan at the first line feed of some bytes, which begin at `at`, and its place; or after all of them
 unfoldable pub upToFeed : List ℕ → ℕ → Scan → Reached

@@ -1,12 +1,12 @@
 // Reads a line up to its line feed: at once if it is that of a state and lies whole in the block, else byte by byte.
 
 use crate::Reached;
-use crate::Row;
-use crate::Scan;
-use crate::scanning::has_begun;
-use crate::scanning::take_byte;
 use listing_lines::WholeLine;
 use listing_lines::inner::state_line;
+use listing_scan::Row;
+use listing_scan::Scan;
+use listing_scan::scanning::has_begun;
+use listing_scan::scanning::take_byte;
 ghost use mathlib.Core.Path.{_≡_};
 ghost use Rattle.listing_read.specs.Reached.{toFeed, rowIn};
 

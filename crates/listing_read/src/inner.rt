@@ -2,15 +2,15 @@
 
 use crate::Judge;
 use crate::Judged;
-use crate::Line;
 use crate::Place;
 use crate::Reached;
-use crate::Scan;
 use crate::Verdict;
 use crate::feed::to_feed;
 use crate::place_after;
-use crate::scanning::has_begun;
-use crate::scanning::line_end;
+use listing_scan::Line;
+use listing_scan::Scan;
+use listing_scan::scanning::has_begun;
+use listing_scan::scanning::line_end;
 ghost use mathlib.Core.Path.{_≡_};
 ghost use mathlib.Core.List.{[]};
 ghost use Prim.Native.Nat.{_+_, _-_, _<_, _≤_};

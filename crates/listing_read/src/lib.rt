@@ -1,38 +1,19 @@
-// The reader of listings. It never keeps a line: each byte updates a small value, so a line of any length needs no
-// memory.
+// The reader of listings: the judgement of their lines, block by block.
 
 pub mod feed;
 pub mod inner;
-mod letters;
-pub mod scanning;
 
 ghost use mathlib.Core.Path.{_≡_};
 ghost use mathlib.Core.List.{[]};
 ghost use Rattle.listing_read.specs.Form.{rowOf, later, afterTop, afterHeader, afterState, placed};
-ghost use Rattle.listing_read.specs.Bytes.{atTop, told, rowHere, behindByte, nextRow};
+ghost use Rattle.listing_scan.specs.Bytes.{told};
+ghost use Rattle.listing_read.specs.Bytes.{atTop, rowHere, behindByte, nextRow};
 use feed::to_feed;
-use scanning::line_end;
-use scanning::take_byte;
-
-// A state as its line has it: its moment, and the bits of its six components.
-pub struct Row {
-    pub moment: u64,
-    pub x: u64,
-    pub y: u64,
-    pub z: u64,
-    pub vx: u64,
-    pub vy: u64,
-    pub vz: u64,
-}
-
-// The kind of a line.
-pub enum Line {
-    Header,
-    State(Row),
-    Outcome,
-    Lone,
-    Bad,
-}
+use listing_scan::Line;
+use listing_scan::Row;
+use listing_scan::Scan;
+use listing_scan::scanning::line_end;
+use listing_scan::scanning::take_byte;
 
 // The stage of reading a listing: before its first line, after the header, after a state of that moment, after the
 // outcome, or not of the form.
@@ -42,31 +23,6 @@ pub enum Place {
     After(u64),
     Done,
     Off,
-}
-
-// The words before numbers. `Steps` is for the number after a refusal, which has no word.
-pub enum Word {
-    Strip,
-    Arrived,
-    Refused,
-    Steps,
-}
-
-// What is known of a line after some of its bytes.
-pub enum Scan {
-    // no byte yet
-    Start,
-    // that many letters of a word, or all of it
-    Letters(Word, usize),
-    // a digit of the number after a word; whether more may follow
-    Digits(Word, bool),
-    // digits of a moment
-    Moment(u64),
-    // inside a component: components after it, digits after the next, the bits so far, and the row before it
-    Component(u64, u64, u64, Row),
-    // after the moment or a component: components to come
-    Behind(u64, Row),
-    Bad,
 }
 
 // A listing after some of its bytes: the stage and the scan, the number of the line being read, the states and the

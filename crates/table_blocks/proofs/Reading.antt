@@ -13,17 +13,18 @@ use Rattle.base.specs.Choice.{if_then_else_}
 use Rattle.base.specs.Limits.{endOfTime}
 use Rattle.text_write.specs.Written.{Wrote}
 use Rattle.text_write.proofs.Writing.{nothing, both, inside}
-use Rattle.listing_read.specs.declared.Row.{Row}
-use Rattle.listing_read.specs.declared.Line.{Line}
-use Rattle.listing_read.specs.declared.Line.the-variants as line
+use Rattle.listing_scan.specs.declared.Row.{Row}
+use Rattle.listing_scan.specs.declared.Line.{Line}
+use Rattle.listing_scan.specs.declared.Line.the-variants as line
 use Rattle.listing_read.specs.declared.Found.{Found}
 use Rattle.listing_read.specs.declared.Found.the-variants.{Is, None}
 use Rattle.listing_read.specs.declared.Place.{Place}
 use Rattle.listing_read.specs.declared.Place.the-variants.{Top, First, After, Done, Off}
-use Rattle.listing_read.specs.declared.Scan.{Scan}
-use Rattle.listing_read.specs.declared.Scan.the-variants.{Start}
+use Rattle.listing_scan.specs.declared.Scan.{Scan}
+use Rattle.listing_scan.specs.declared.Scan.the-variants.{Start}
 use Rattle.listing_read.specs.Form.{linesOf, rowOf, placed, isOff}
-use Rattle.listing_read.specs.Bytes.{told, begun, Takes, kindsFrom}
+use Rattle.listing_scan.specs.Bytes.{told, begun, Takes}
+use Rattle.listing_read.specs.Bytes.{kindsFrom}
 use Rattle.listing_read.proofs.Lines.{kinds-feed, kinds-byte}
 use Rattle.table_rows.specs.Text.{hasLarge}
 use Rattle.table_rows.proofs.Sizes.{row-short}

@@ -2,7 +2,7 @@
 use Prim.Native.Nat.{ℕ}
 use mathlib.Core.List.{List}
 use Rattle.listing_read.specs.declared.Place.{Place}
-use Rattle.listing_read.specs.declared.Scan.{Scan}
+use Rattle.listing_scan.specs.declared.Scan.{Scan}
 use Rattle.listing_read.specs.Reached.{toFeed}
 use Rattle.table_blocks.specs.declared.Standing.{Standing}
 use Rattle.table_blocks.specs.declared.Standing.the-variants.{Going, Refused}

@@ -8,8 +8,9 @@ use Rattle.base.specs.Limits.{endOfTime}
 use Rattle.text_write.specs.Written.{Wrote}
 use Rattle.listing_read.specs.declared.Place.{Place}
 use Rattle.listing_read.specs.declared.Place.the-variants.{Top, First, After, Done, Off}
-use Rattle.listing_read.specs.declared.Scan.the-variants.{Start}
-use Rattle.listing_read.specs.Bytes.{begun, kindsFrom}
+use Rattle.listing_scan.specs.declared.Scan.the-variants.{Start}
+use Rattle.listing_scan.specs.Bytes.{begun}
+use Rattle.listing_read.specs.Bytes.{kindsFrom}
 use Rattle.table_blocks.specs.declared.Standing.{Standing}
 use Rattle.table_blocks.specs.declared.Standing.the-variants.{Going, Refused}
 use Rattle.table_blocks.specs.declared.Step.{Step}

@@ -6,8 +6,8 @@ use Rattle.base.specs.Choice.{if_then_else_, _=?_}
 use Rattle.base.specs.Limits.{isMoment}
 use Rattle.text_write.specs.Numerals.{decimalOf}
 use Rattle.listing_words.specs.Words.{space, lineFeed, refusedWord}
-use Rattle.listing_read.specs.declared.Row.{Row}
-use Rattle.listing_read.specs.declared.Line.{Line}
+use Rattle.listing_scan.specs.declared.Row.{Row}
+use Rattle.listing_scan.specs.declared.Line.{Line}
 use Rattle.listing_read.specs.declared.Found.{Found}
 use Rattle.listing_read.specs.declared.Found.the-variants.{Is, None}
 use Rattle.listing_read.specs.declared.Place.{Place}

@@ -3,8 +3,8 @@
 use crate::Ahead;
 use crate::Standing;
 use listing_read::Place;
-use listing_read::Scan;
 use listing_read::feed::to_feed;
+use listing_scan::Scan;
 ghost use mathlib.Core.Path.{_≡_};
 ghost use Rattle.table_blocks.specs.Onward.{lineAhead, aheadOf};
 

@@ -5,9 +5,9 @@ pub mod inner;
 
 use listing_read::Found;
 use listing_read::Place;
-use listing_read::Row;
-use listing_read::Scan;
 use listing_read::inner::is_off;
+use listing_scan::Row;
+use listing_scan::Scan;
 use table_rows::has_large;
 ghost use mathlib.Core.Path.{_≡_};
 ghost use Rattle.table_blocks.specs.Table.{stateRefusal, foundRefusal, refusalAt};

@@ -3,9 +3,9 @@ use Prim.Native.Nat.{ℕ, _<_}
 use mathlib.Core.List.{List, [], _∷_, map}
 use mathlib.Core.Path.{_≡_, refl}
 use Rattle.base.specs.Limits.{endOfTime}
-use Rattle.listing_read.specs.declared.Line.{Line}
-use Rattle.listing_read.specs.declared.Line.the-variants as line
-use Rattle.listing_read.specs.Reading.{kindOf}
+use Rattle.listing_scan.specs.declared.Line.{Line}
+use Rattle.listing_scan.specs.declared.Line.the-variants as line
+use Rattle.listing_scan.specs.Reading.{kindOf}
 use Rattle.listing_read.specs.Form.{linesOf, kindsOf}
 use Rattle.listing_laws.proofs.OnlyIf.{state-only-if}
 

@@ -8,7 +8,7 @@ use lib.ListN.{length, length-append}
 use lib.Ieee.{binary64, ofBits}
 use Rattle.base.specs.Choice.{if_then_else_}
 use Rattle.text_write.specs.Written.{Wrote}
-use Rattle.listing_read.specs.declared.Row.{Row}
+use Rattle.listing_scan.specs.declared.Row.{Row}
 use Rattle.text_decimal.specs.declared.Places.{Places}
 use Rattle.text_decimal.specs.declared.Places.the-variants.{Three, Six}
 use Rattle.text_decimal.proofs.Writing.{numeral-short}

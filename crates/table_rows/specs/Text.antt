@@ -5,7 +5,7 @@ use mathlib.Core.List.{List, _++_}
 use lib.Ieee.{binary64, ofBits}
 use Rattle.base.specs.Choice.{if_then_else_}
 use Rattle.listing_words.specs.Words.{xName, yName, zName, vxName, vyName, vzName, timeName, comma, endOfRow}
-use Rattle.listing_read.specs.declared.Row.{Row}
+use Rattle.listing_scan.specs.declared.Row.{Row}
 use Rattle.text_decimal.specs.declared.Places.{Places}
 use Rattle.text_decimal.specs.declared.Places.the-variants.{Three, Six}
 use Rattle.text_decimal.specs.Numeral.{numeral, isLarge}

@@ -1,7 +1,7 @@
 // Rows for a buffer with room for them. The writers put a text at a place of the buffer and return the place after
 // it.
 
-use listing_read::Row;
+use listing_scan::Row;
 use text_decimal::Places;
 use text_decimal::inner::put_numeral;
 use text_time::inner::put_stamp;

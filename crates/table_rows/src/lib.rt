@@ -2,7 +2,7 @@
 
 pub mod inner;
 
-use listing_read::Row;
+use listing_scan::Row;
 use text_decimal::is_large;
 ghost use mathlib.Core.Path.{_≡_};
 ghost use Rattle.table_rows.specs.Text.{anyLarge, hasLarge};

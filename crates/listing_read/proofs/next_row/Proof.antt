@@ -6,7 +6,7 @@ use lib.ListN.{length}
 use denote.Ref.{now}
 use borrow.Author.Needs.{needs}
 use Rattle.listing_read.specs.Bytes.{nextRow}
-use Rattle.listing_read.proofs.Taking.{search-on, search-ends}
+use Rattle.listing_read.proofs.Finding.{search-on, search-ends}
 use Rattle.listing_read.proofs.Skipping.{search-skips, feed-least}
 use Rattle.listing_read.proofs.next_row.Statement.{statement}
 use Rattle.listing_read.proofs.next_row.Tie as tie

@@ -1,6 +1,6 @@
 -- `table_blocks::inner::go_on` meets its contract. Assumes nothing.
 use Rattle.table_blocks.proofs.Reading.{feed-steps, byte-steps}
-use Rattle.listing_read.proofs.Taking.{takes}
+use Rattle.listing_scan.proofs.Taking.{takes}
 use borrow.Author.Needs.{needs}
 use Rattle.table_blocks.proofs.inner.go_on.Statement.{statement}
 use Rattle.table_blocks.proofs.inner.go_on.Tie as tie
