@@ -1,6 +1,7 @@
 //! Processor time. On a machine that does other work it is steadier than time by the clock.
 
 use std::hint::black_box;
+use std::time::{Duration, Instant};
 
 #[repr(C)]
 struct Time {
@@ -39,23 +40,61 @@ pub fn children() -> f64 {
     [used.user, used.system].iter().map(|time| time.seconds as f64 * 1e3 + time.parts as f64 / 1e3).sum()
 }
 
+/// A least time that falls by less than this part has not changed.
+const SAME: f64 = 0.01;
+/// For this long, too, no least time has changed at the end.
+const CALM: Duration = Duration::from_secs(3);
+
+/// Rounds until the least times no longer change: a number of them in a row, or until the seconds are over. Other users of a processor
+/// can slow it down for a while.
+pub struct Rounds {
+    times: u32,
+    longest: Duration,
+    start: Instant,
+    changed: Instant,
+    calm: u32,
+}
+
+impl Rounds {
+    pub fn new(times: u32, seconds: u64) -> Rounds {
+        let now = Instant::now();
+        Rounds { times, longest: Duration::from_secs(seconds), start: now, changed: now, calm: 0 }
+    }
+
+    /// Takes a new time into a least one.
+    pub fn take(&mut self, least: &mut f64, new: f64) {
+        if new < *least * (1.0 - SAME) {
+            (self.changed, self.calm) = (Instant::now(), 0);
+        }
+        *least = least.min(new);
+    }
+
+    /// At the end of a round: whether there is another one.
+    pub fn go_on(&mut self) -> bool {
+        self.calm += 1;
+        (self.calm <= self.times || self.changed.elapsed() < CALM) && self.start.elapsed() < self.longest
+    }
+}
+
 /// What is timed.
 pub type Turn<'a> = Box<dyn FnMut() + 'a>;
 
-/// The least nanoseconds of each over a number of rounds. All rows run in every round, each of them in turn: if the machine is slow
-/// for a while, that is a part of every row's rounds and not all rounds of one row.
-pub fn least<const N: usize>(times: u32, rows: &mut [[Turn<'_>; N]]) -> Vec<[f64; N]> {
+/// The least nanoseconds of each. All rows run in every round, each of them in turn: if the machine is slow for a while, that is a part
+/// of every row's rounds and not all rounds of one row.
+pub fn least<const N: usize>(mut rounds: Rounds, rows: &mut [[Turn<'_>; N]]) -> Vec<[f64; N]> {
     let mut best = vec![[f64::INFINITY; N]; rows.len()];
-    for _ in 0..times {
+    loop {
         for (best, row) in best.iter_mut().zip(rows.iter_mut()) {
             for (best, turn) in best.iter_mut().zip(row) {
                 let start = thread();
                 turn();
-                *best = best.min(thread() - start);
+                rounds.take(best, thread() - start);
             }
         }
+        if !rounds.go_on() {
+            return best;
+        }
     }
-    best
 }
 
 /// Uses a value, so that the compiler keeps its computation.

@@ -8,7 +8,7 @@ use reference::extras::Extras;
 use reference::motion::{of_an_order, run, Outcome, Ran};
 use reference::rule::{Setting, State};
 
-use crate::clock::{least, took, Turn};
+use crate::clock::{least, took, Rounds, Turn};
 use crate::{best, plain};
 
 pub const H: u32 = 60_000;
@@ -120,10 +120,10 @@ impl<'a> Flight<'a> {
 }
 
 /// Nanoseconds of the four walks of each flight, after they are compared.
-pub fn timed(flights: &[&Flight], times: u32) -> Result<Vec<[f64; 4]>, String> {
+pub fn timed(flights: &[&Flight], rounds: Rounds) -> Result<Vec<[f64; 4]>, String> {
     if let Some(wrong) = flights.iter().position(|flight| !flight.same()) {
         return Err(format!("flight {}: the walks differ, or do not arrive", wrong + 1));
     }
     let mut rows: Vec<[Turn<'_>; 4]> = flights.iter().map(|flight| flight.turns()).collect();
-    Ok(least(times, &mut rows))
+    Ok(least(rounds, &mut rows))
 }

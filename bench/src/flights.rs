@@ -7,6 +7,7 @@ use reference::strip::{read_order, Order};
 
 use crate::asked::{by_machine, Asked};
 use crate::books::preceded;
+use crate::clock::Rounds;
 use crate::flight::{timed, Flight, DAY, H, THIRTY_DAYS};
 
 const MOON: u64 = 2;
@@ -93,7 +94,7 @@ pub fn table(given: &Given, times: u32) -> Result<Asked, String> {
     let mut asked = Asked::default();
     println!("{HEAD}");
     let all: Vec<&Flight> = flights.iter().map(|(_, flight, _)| flight).collect();
-    for ((name, _, most), figures) in flights.iter().zip(timed(&all, times)?) {
+    for ((name, _, most), figures) in flights.iter().zip(timed(&all, Rounds::new(times, 180))?) {
         println!("{}", row(name, figures.map(|t| t / 1e6), Some(*most), &mut asked));
     }
     Ok(asked)

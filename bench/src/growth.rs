@@ -5,6 +5,7 @@ use reference::extras::Extras;
 use reference::rule::{Setting, State, EARTH};
 
 use crate::books::made;
+use crate::clock::Rounds;
 use crate::flight::{timed, Flight, DAY, H};
 
 /// Document 003's Earth, Moon and Sun.
@@ -35,7 +36,7 @@ fn journey(book: &[u8], days: u32) -> Flight<'_> {
 /// Nanoseconds per step of the proved walk, document 01's in Rust and the fastest Rust form.
 fn a_step(book: &[u8], (days, part): (u32, u32), times: u32) -> Result<[f64; 3], String> {
     let times = (times / part).max(3);
-    let figures = timed(&[&journey(book, days)], times)?;
+    let figures = timed(&[&journey(book, days)], Rounds::new(times, 8))?;
     let [proved, plain, _, best] = figures[0];
     Ok([proved, plain, best].map(|t| t / f64::from(days * DAY)))
 }

@@ -1,8 +1,8 @@
 //! `bench WORD DATA [TIMES]`: compares the proved calls with the Rust version of document 01, in one process. DATA is the folder
 //! `data`. WORD is `flights` (thirty days, five ways), `growth` (the cost of a step over books and journeys) or `parts` (single
 //! calls). `proved`, `plain`, `rust` and `best` run the evening run by one walk, for a profiler. Answers are compared bit by bit
-//! first. Then each is timed TIMES times, in turn. The least processor time of each is printed, with its ratio and the greatest
-//! allowed one. The exit status is 1 if a ratio is too great. `bench/table` prints everything.
+//! first. Then each is timed in turn, until no least time has fallen by 1 % in TIMES rounds. The least processor time of each is
+//! printed, with its ratio and the greatest allowed one. The exit status is 1 if a ratio is too great. `bench/table` prints everything.
 
 use std::process::ExitCode;
 

@@ -6,7 +6,7 @@ use std::rc::Rc;
 use belfrywool::{calls, Body, Book, Moment, State};
 
 use crate::asked::{by_machine, Asked};
-use crate::clock::{least, took, Turn};
+use crate::clock::{least, took, Rounds, Turn};
 use crate::flights::Given;
 
 /// A call, how many times it is made in a turn, and the greatest allowed ratio.
@@ -31,7 +31,7 @@ impl<'a> Rows<'a> {
 
     fn tell(&mut self, times: u32) -> Asked {
         let mut asked = Asked::default();
-        for (call, figures) in self.calls.iter().zip(least(times, &mut self.turns)) {
+        for (call, figures) in self.calls.iter().zip(least(Rounds::new(times, 90), &mut self.turns)) {
             let [a, b] = figures.map(|t| t / call.turns as f64);
             println!("| {} | {a:.1} | {b:.1} |{}", call.name, asked.cells(a / b, call.most));
         }

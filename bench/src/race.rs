@@ -6,7 +6,7 @@ use std::process::{Command, Stdio};
 
 use reference::strip::{read_order, ORDER};
 
-use crate::clock::children;
+use crate::clock::{children, Rounds};
 use crate::flight::{H, THIRTY_DAYS};
 
 /// The order with only the Moon and the Sun, thirty days and one minute, and the book after it.
@@ -33,19 +33,20 @@ fn once(words: &[String], input: &Path) -> io::Result<f64> {
     Ok(children() - before)
 }
 
-/// Programs on the same input. Their outputs are compared and returned. Then each is started a number of times, in turn: the least
-/// milliseconds of each.
+/// Programs on the same input. Their outputs are compared and returned. Then they are started in turn: the least milliseconds of each.
 pub fn race(racers: &[Vec<String>], input: &Path, times: u32) -> io::Result<(Vec<u8>, Vec<f64>)> {
     let printed = |words: &Vec<String>| Ok(started(words, input, Stdio::piped())?.output()?.stdout);
     let texts = racers.iter().map(printed).collect::<io::Result<Vec<Vec<u8>>>>()?;
     assert!(texts.iter().all(|text| *text == texts[0]), "they print different texts");
-    let mut best = vec![f64::INFINITY; racers.len()];
-    for _ in 0..times {
+    let (mut best, mut rounds) = (vec![f64::INFINITY; racers.len()], Rounds::new(times, 40));
+    loop {
         for (best, racer) in best.iter_mut().zip(racers) {
-            *best = best.min(once(racer, input)?);
+            rounds.take(best, once(racer, input)?);
+        }
+        if !rounds.go_on() {
+            return Ok((texts[0].clone(), best));
         }
     }
-    Ok((texts[0].clone(), best))
 }
 
 /// The command of a program, and of this one with each of the words, all with the same last words.

@@ -1,8 +1,8 @@
 //! `rows BOOK ORDER TIMES TABLE COMPARE [WORDS]`: compares the programs `table` and `compare`, each started by WORDS and its path,
 //! with the Rust versions (this program as `rows table` and `rows compare FIRST SECOND`). The listings are those of the order's
 //! flight: thirty days at one-minute steps, and a year with the same components repeated under rising moments. The outputs are
-//! compared first. Then each program is started TIMES times, in turn (three times for a year). The least time of each is printed,
-//! with the greatest allowed ratio.
+//! compared first. Then the programs are started in turn, until no least time has fallen by 1 % in TIMES rounds (three for a year). The
+//! least time of each is printed, with the greatest allowed ratio.
 
 use std::io::{self, Read, Write};
 use std::process::ExitCode;
