@@ -102,6 +102,24 @@ extern "C" {
     ) -> u64;
 }
 
+/// `belfry_frame` and `belfry_frame_motion` again, for memory that is not set yet: they write all of it, whatever they return. Setting
+/// it first takes as long as a late frame itself.
+#[allow(clashing_extern_declarations)]
+pub(crate) mod unset {
+    use std::mem::MaybeUninit;
+
+    extern "C" {
+        #[link_name = "belfry_frame"]
+        pub fn frame(
+            pane: &[u64; 5], places: &[f64; 18], moment: u64, position: &mut MaybeUninit<[f64; 3]>, late: &mut MaybeUninit<u64>,
+        ) -> u64;
+        #[link_name = "belfry_frame_motion"]
+        pub fn frame_motion(
+            pane: &[u64; 5], places: &[f64; 18], moment: u64, motion: &mut MaybeUninit<[f64; 6]>, late: &mut MaybeUninit<u64>,
+        ) -> u64;
+    }
+}
+
 extern "C" {
     pub fn belfry_book_holds(
         first: *const u8, length: usize, second: *const u8, second_length: usize, missing: &mut u64,

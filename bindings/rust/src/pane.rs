@@ -1,6 +1,8 @@
 //! The live pane: the last two states reached, and what it shows at a moment.
 
-use crate::calls;
+use std::mem::MaybeUninit;
+
+use crate::calls::{self, unset};
 use crate::refusal::{answer, meaning, refused};
 use crate::{Body, Moment, Motion, Refusal, RunAnswer, State, Vector};
 
@@ -230,10 +232,12 @@ impl Pane {
     /// # Ok::<(), Refusal>(())
     /// ```
     pub fn frame(&self, moment: Moment) -> Frame {
-        let (mut position, mut late) = ([0.0; 3], 0);
-        let number =
-            unsafe { calls::belfry_frame(&self.numbers, &self.places, moment.0, &mut position, &mut late) };
-        shown(number, position, late)
+        let (mut position, mut late) = (MaybeUninit::uninit(), MaybeUninit::uninit());
+        // SAFETY: the call writes both.
+        unsafe {
+            let number = unset::frame(&self.numbers, &self.places, moment.0, &mut position, &mut late);
+            shown(number, position.assume_init(), late.assume_init())
+        }
     }
 
     /// Position and velocity at a moment, by the cubic through both states.
@@ -244,9 +248,11 @@ impl Pane {
     /// assert_eq!(Pane::default().frame_motion(Moment(0)), Frame::Empty);
     /// ```
     pub fn frame_motion(&self, moment: Moment) -> Frame<Motion> {
-        let (mut motion, mut late) = ([0.0; 6], 0);
-        let number =
-            unsafe { calls::belfry_frame_motion(&self.numbers, &self.places, moment.0, &mut motion, &mut late) };
-        shown(number, Motion::of_six(motion), late)
+        let (mut motion, mut late) = (MaybeUninit::uninit(), MaybeUninit::uninit());
+        // SAFETY: the call writes both.
+        unsafe {
+            let number = unset::frame_motion(&self.numbers, &self.places, moment.0, &mut motion, &mut late);
+            shown(number, Motion::of_six(motion.assume_init()), late.assume_init())
+        }
     }
 }
