@@ -29,9 +29,10 @@ impl<'a> Rows<'a> {
         self.turns.push([Box::new(proved), Box::new(rust)]);
     }
 
+    /// A round takes milliseconds, so there are many.
     fn tell(&mut self, times: u32) -> Asked {
         let mut asked = Asked::default();
-        for (call, figures) in self.calls.iter().zip(least(Rounds::new(times, 90), &mut self.turns)) {
+        for (call, figures) in self.calls.iter().zip(least(Rounds::new(8 * times, 90), &mut self.turns)) {
             let [a, b] = figures.map(|t| t / call.turns as f64);
             println!("| {} | {a:.1} | {b:.1} |{}", call.name, asked.cells(a / b, call.most));
         }
@@ -99,22 +100,23 @@ fn books<'a>(rows: &mut Rows<'a>, book: &'a [u8], moment: u64) {
     rows.add(call(name), move || often(|| took(proved())), move || often(|| took(rust())));
 }
 
-/// Two states a minute apart, and a thousand frames from the older one on: between them, or after the newer one.
+/// Two states a minute apart, and a frame for each millisecond of a minute: between them, or after the newer one.
 fn frames(rows: &mut Rows) {
+    const MINUTE: u64 = 60_000;
     let six = [6570.0, 10.0, -700.0, 1.5, 7.8, -0.2];
     let at = |moment| reference::rule::State { moment, centre: 1, position: [six[0], six[1], six[2]], velocity: [six[3], six[4], six[5]], acceleration: [0.0; 3] };
     let (mut pane, mut other) = (belfrywool::Pane::default(), reference::pane::Pane::Clear);
-    for moment in [0, 60_000] {
+    for moment in [0, MINUTE] {
         let [x, y, z, vx, vy, vz] = six;
         assert_eq!(pane.take(&State::of_nine(Moment(moment), Body::EARTH, [x, y, z, vx, vy, vz, 0.0, 0.0, 0.0])), Ok(()));
         other = other.take(&at(moment)).expect("the next state");
     }
     let (pane, other) = (Rc::new(pane), Rc::new(other));
-    for (first, name, most) in [(0, "a frame of the pane, current", 1.1), (60_001, "a frame of the pane, late", 2.0)] {
+    for (first, name, most) in [(0, "a frame of the pane, current", 1.1), (MINUTE + 1, "a frame of the pane, late", 2.0)] {
         let (pane, other) = (Rc::clone(&pane), Rc::clone(&other));
-        let proved = move || (first..first + 1000).for_each(|t| took(black_box(&*pane).frame(Moment(black_box(t)))));
-        let rust = move || (first..first + 1000).for_each(|t| took(black_box(&*other).frame(black_box(t))));
-        rows.add(Call { name: name.to_string(), turns: 1000, most: Some(most) }, proved, rust);
+        let proved = move || (first..first + MINUTE).for_each(|t| took(black_box(&*pane).frame(Moment(black_box(t)))));
+        let rust = move || (first..first + MINUTE).for_each(|t| took(black_box(&*other).frame(black_box(t))));
+        rows.add(Call { name: name.to_string(), turns: MINUTE as usize, most: Some(most) }, proved, rust);
     }
 }
 
