@@ -34,11 +34,11 @@ fn once(words: &[String], input: &Path) -> io::Result<f64> {
 }
 
 /// Programs on the same input. Their outputs are compared and returned. Then they are started in turn: the least milliseconds of each.
-pub fn race(racers: &[Vec<String>], input: &Path, times: u32) -> io::Result<(Vec<u8>, Vec<f64>)> {
+pub fn race(racers: &[Vec<String>], input: &Path, mut rounds: Rounds) -> io::Result<(Vec<u8>, Vec<f64>)> {
     let printed = |words: &Vec<String>| Ok(started(words, input, Stdio::piped())?.output()?.stdout);
     let texts = racers.iter().map(printed).collect::<io::Result<Vec<Vec<u8>>>>()?;
     assert!(texts.iter().all(|text| *text == texts[0]), "they print different texts");
-    let (mut best, mut rounds) = (vec![f64::INFINITY; racers.len()], Rounds::new(times, 40));
+    let mut best = vec![f64::INFINITY; racers.len()];
     loop {
         for (best, racer) in best.iter_mut().zip(racers) {
             rounds.take(best, once(racer, input)?);

@@ -1,14 +1,15 @@
 //! `listing BOOK ORDER TIMES PROGRAM [WORDS]`: compares the program `strip`, started by PROGRAM and WORDS, with Rust walks that
 //! print the same listing. These are document 01's, the reference's and the fastest form (this program with `plain`, `walk` or
 //! `best`). The flight is the order's state with the Earth, the Moon and the Sun for thirty days at one-minute steps. The outputs
-//! are compared first. Then each program is started TIMES times, in turn, and the least time of each is printed as a row of
-//! `bench/table`.
+//! are compared first. Then the programs are started in turn, until no least time has fallen by 1 % in four times TIMES rounds. The
+//! least time of each is printed as a row of `bench/table`.
 
 use std::io::{self, Read, Write};
 use std::process::ExitCode;
 
 use bench::asked::Asked;
 use bench::best::Best;
+use bench::clock::Rounds;
 use bench::flights::row;
 use bench::plain;
 use bench::race::{race, racers, thirty_days, Laid};
@@ -94,7 +95,7 @@ fn bench(words: &[String]) -> io::Result<Option<ExitCode>> {
         return Ok(None);
     };
     let input = Laid::new("order", &input)?;
-    let (listing, least) = race(&racers(program, &["plain", "walk", "best"], &[])?, input.path(), times)?;
+    let (listing, least) = race(&racers(program, &["plain", "walk", "best"], &[])?, input.path(), Rounds::new(4 * times, 150))?;
     let name = format!("`strip` with its listing ({} bytes), the whole program", listing.len());
     let mut asked = Asked::default();
     println!("{}", row(&name, [least[0], least[1], least[2], least[3]], Some(1.03), &mut asked));

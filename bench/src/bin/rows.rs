@@ -8,6 +8,7 @@ use std::io::{self, Read, Write};
 use std::process::ExitCode;
 
 use bench::asked::Asked;
+use bench::clock::Rounds;
 use bench::race::{race, racers, thirty_days, Laid};
 use reference::{parting::report, strip::strip, table};
 
@@ -69,7 +70,7 @@ fn bench(words: &[String]) -> io::Result<Option<ExitCode>> {
     let size = |laid: &Laid| std::fs::metadata(laid.path()).map(|told| told.len() as usize);
     println!("| Listings read back, ms | Proved | Rust | Ratio | Asked | MB/s |\n|---|---|---|---|---|---|");
     for (name, laid, times) in [("`table`, thirty days", &month, times), ("`table`, a year", &first, 3)] {
-        let (_, least) = race(&racers(&program(table), &["table"], &[])?, laid.path(), times)?;
+        let (_, least) = race(&racers(&program(table), &["table"], &[])?, laid.path(), Rounds::new(times, 30))?;
         row(&format!("{name}, {} bytes", size(laid)?), size(laid)?, &least, Some(MOST), &mut asked);
     }
     let pairs = [
@@ -78,7 +79,7 @@ fn bench(words: &[String]) -> io::Result<Option<ExitCode>> {
         ("a year judged alone (`compare` with an empty text)", &none, None),
     ];
     for (name, with, most) in pairs {
-        let (_, least) = race(&racers(&program(compare), &["compare"], &[first.word(), with.word()])?, none.path(), 3)?;
+        let (_, least) = race(&racers(&program(compare), &["compare"], &[first.word(), with.word()])?, none.path(), Rounds::new(3, 30))?;
         row(&format!("{name}, {} bytes each", size(&first)?), size(&first)?, &least, most, &mut asked);
     }
     Ok(Some(asked.code()))
