@@ -94,7 +94,7 @@ pub fn table(given: &Given, times: u32) -> Result<Asked, String> {
     let mut asked = Asked::default();
     println!("{HEAD}");
     let all: Vec<&Flight> = flights.iter().map(|(_, flight, _)| flight).collect();
-    for ((name, _, most), figures) in flights.iter().zip(timed(&all, Rounds::new(times, 180))?) {
+    for ((name, _, most), figures) in flights.iter().zip(timed(&all, Rounds::new(2 * times, 300))?) {
         println!("{}", row(name, figures.map(|t| t / 1e6), Some(*most), &mut asked));
     }
     Ok(asked)
