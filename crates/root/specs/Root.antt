@@ -14,6 +14,7 @@ pub use Rattle.root_digits.specs.Nearest.{NearestRoot}
 unfoldable use Rattle.root.specs.Computed.{positiveRoot}
 use Rattle.root.specs.declared.ThreeRoots.{ThreeRoots}
 use Rattle.root.specs.declared.FiveRoots.{FiveRoots}
+use Rattle.root.specs.declared.SixRoots.{SixRoots}
 use Rattle.root.specs.declared.RootAnswer.{RootAnswer}
 use Rattle.root.specs.declared.RootAnswer.the-variants.{Value, Refused}
 
@@ -49,12 +50,15 @@ rootOf (fin s zero e) = fin s zero e
 rootOf (fin true (suc m) e) = nan
 rootOf (fin false (suc m) e) = positiveRoot (low binary64) (suc m) e
 
--- three and five roots at once
+-- three, five and six roots at once
 abbrev pub rootsOf : Float → Float → Float → ThreeRoots
 rootsOf a b c = record { a = rootOf a; b = rootOf b; c = rootOf c }
 
 abbrev pub fiveRootsOf : Float → Float → Float → Float → Float → FiveRoots
-fiveRootsOf a b c d e = record { a = rootOf a; b = rootOf b; c = rootOf c; d = rootOf d; e = rootOf e }
+fiveRootsOf a b c d e = record { a = rootOf a; b = rootOf b; others = rootsOf c d e }
+
+abbrev pub sixRootsOf : Float → Float → Float → Float → Float → Float → SixRoots
+sixRootsOf a b c d e f = record { first = rootsOf a b c; second = rootsOf d e f }
 
 -- below zero; -0.0 is not
 abbrev pub negative : Float → Bool

@@ -20,9 +20,12 @@ pub struct ThreeRoots {
 pub struct FiveRoots {
     pub a: f64,
     pub b: f64,
-    pub c: f64,
-    pub d: f64,
-    pub e: f64,
+    pub others: ThreeRoots,
+}
+
+pub struct SixRoots {
+    pub first: ThreeRoots,
+    pub second: ThreeRoots,
 }
 
 // The root of a finite float that is not negative, or refusal 11.

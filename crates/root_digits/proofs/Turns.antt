@@ -1,10 +1,12 @@
 -- The weights of the digit loop: powers of four, from 2^52 down to 1. Assumes nothing.
-use mathlib.Core.Path.{_≡_, _∙_, subst}
+use mathlib.Core.Path.{_≡_, refl, _∙_, subst}
 use Prim.Native.Nat.{ℕ, zero, suc, _*_, _/_, _%_, _^_, _≤_, _<_}
 use native.Mathlib.Nat.{pow-succ'}
 use native.Mathlib.Omega.{arith}
-use Rattle.root_digits.specs.Digits.{LaneOf, Turning, Turned, EndsAt}
+use Rattle.root_digits.specs.Digits.{LaneOf, Turning, Turned, EndsAt, HasDigits, LanesOf, ThreeTurning, ThreeEndAt, NearestOf}
 use Rattle.root_digits.specs.Nearest.{nearestRoot}
+use Rattle.root_digits.specs.declared.ThreeLanes.{ThreeLanes}
+use Rattle.root_digits.specs.declared.ThreeNumbers.{ThreeNumbers}
 use Rattle.root_digits.proofs.Powers.{four-pos}
 
 abbrev pub Weight : ℕ → Type 0
@@ -42,3 +44,17 @@ turned {n} l i h = record { n = n; lane = ended l i h }
 
 pub found : {m g v t r : ℕ} → EndsAt v t r → m < 2 ^ 54 → LaneOf (m * 2 ^ 52) g v t → Weight g → g ≤ 1 → r ≡ nearestRoot (m * 2 ^ 52)
 found {m} e b l i h = e (m * 2 ^ 52) (omega arith) (ended l i h)
+
+-- ---- the same for three lanes
+
+pub three-turning : {a b c g : ℕ} {s : ThreeLanes} → LanesOf a b c g s → Weight g → 1 < g → ThreeTurning 4 g s
+three-turning {a} {b} {c} {g} l i h = record { a = a; b = b; c = c; lanes = l; whole = next g i h .whole }
+
+three-ended : {a b c g : ℕ} {s : ThreeLanes} → LanesOf a b c g s → Weight g → g ≤ 1 → LanesOf a b c 1 s
+three-ended l i h = record { of-a = ended (l .of-a) i h; of-b = ended (l .of-b) i h; of-c = ended (l .of-c) i h }
+
+pub three-turned : {a b c g : ℕ} {s : ThreeLanes} → LanesOf a b c g s → Weight g → g ≤ 1 → ThreeTurning 1 1 s
+three-turned {a} {b} {c} l i h = record { a = a; b = b; c = c; lanes = three-ended l i h; whole = refl }
+
+pub three-found : {a b c g : ℕ} {s : ThreeLanes} {r : ThreeNumbers} → ThreeEndAt s r → HasDigits a × HasDigits b × HasDigits c → LanesOf a b c g s → Weight g → g ≤ 1 → NearestOf a b c r
+three-found {a} {b} {c} e d l i h = e a b c d (three-ended l i h)

@@ -3,11 +3,25 @@
 use crate::FiveNumbers;
 use crate::LEADING;
 use crate::Lane;
+use crate::SixNumbers;
+use crate::ThreeLanes;
 use crate::ThreeNumbers;
 ghost use mathlib.Core.Path.{_≡_};
 ghost use Prim.Native.Nat.{_*_, _^_, _≤_, _<_};
 ghost use Rattle.root_digits.specs.Nearest.{nearestRoot};
-ghost use Rattle.root_digits.specs.Digits.{LaneOf, Turning, TurnsTo, Turned, EndsAt};
+ghost use Rattle.root_digits.specs.Digits.{
+  LaneOf,
+  Turning,
+  TurnsTo,
+  Turned,
+  EndsAt,
+  HasDigits,
+  LanesOf,
+  ThreeTurning,
+  ThreeTurnTo,
+  ThreeEndAt,
+  NearestOf,
+};
 
 // The lane with the digit of weight g / 2 found. The digit is 1 if the difference does not wrap. The test is on the
 // sign, because the compiler makes no branch of it.
@@ -71,54 +85,97 @@ pub fn nearest_root(m: u64) -> u64
     last(s)
 }
 
+fn three_firsts(a: u64, b: u64, c: u64) -> ThreeLanes
+    requires { ⌜ HasDigits a × HasDigits b × HasDigits c ⌝ }
+    ensures { λ r. ⌜ LanesOf a b c (2 ^ 52) r ⌝ }
+{
+    ThreeLanes {
+        a: first(a),
+        b: first(b),
+        c: first(c),
+    }
+}
+
+// Two more digits in each of three lanes.
+fn three_turns(s: ThreeLanes, g: u64) -> ThreeLanes
+    requires { ⌜ ThreeTurning 4 g s ⌝ }
+    ensures { λ r. ⌜ ThreeTurnTo 4 g s r ⌝ }
+{
+    let a = s.a;
+    let b = s.b;
+    let c = s.c;
+    ThreeLanes {
+        a: two_turns(a, g),
+        b: two_turns(b, g),
+        c: two_turns(c, g),
+    }
+}
+
+fn three_lasts(s: ThreeLanes) -> ThreeNumbers
+    requires { ⌜ ThreeTurning 1 1 s ⌝ }
+    ensures { λ r. ⌜ ThreeEndAt s r ⌝ }
+{
+    let a = s.a;
+    let b = s.b;
+    let c = s.c;
+    ThreeNumbers {
+        a: last(a),
+        b: last(b),
+        c: last(c),
+    }
+}
+
 // The same for three numbers, in one loop. The lanes do not wait for each other.
 pub fn three_nearest_roots(a: u64, b: u64, c: u64) -> ThreeNumbers
-    requires { ⌜ (2 ^ 52 ≤ a) × (a < 2 ^ 54) × (2 ^ 52 ≤ b) × (b < 2 ^ 54) × (2 ^ 52 ≤ c) × (c < 2 ^ 54) ⌝ }
-    ensures { λ r. ⌜ (r .a ≡ nearestRoot (a * 2 ^ 52)) × (r .b ≡ nearestRoot (b * 2 ^ 52)) × (r .c ≡ nearestRoot (c * 2 ^ 52)) ⌝ }
+    requires { ⌜ HasDigits a × HasDigits b × HasDigits c ⌝ }
+    ensures { λ r. ⌜ NearestOf a b c r ⌝ }
+{
+    let mut s = three_firsts(a, b, c);
+    let mut g: u64 = LEADING;
+    while 1 < g {
+        s = three_turns(s, g);
+        g = g >> 2;
+    }
+    three_lasts(s)
+}
+
+// The same for five numbers.
+pub fn five_nearest_roots(a: u64, b: u64, c: u64, d: u64, e: u64) -> FiveNumbers
+    requires { ⌜ (HasDigits a × HasDigits b) × (HasDigits c × HasDigits d × HasDigits e) ⌝ }
+    ensures { λ r. ⌜ (r .a ≡ nearestRoot (a * 2 ^ 52)) × (r .b ≡ nearestRoot (b * 2 ^ 52)) × NearestOf c d e (r .others) ⌝ }
 {
     let mut s = first(a);
     let mut t = first(b);
-    let mut u = first(c);
+    let mut u = three_firsts(c, d, e);
     let mut g: u64 = LEADING;
     while 1 < g {
         s = two_turns(s, g);
         t = two_turns(t, g);
-        u = two_turns(u, g);
+        u = three_turns(u, g);
         g = g >> 2;
     }
-    ThreeNumbers {
+    let others = three_lasts(u);
+    FiveNumbers {
         a: last(s),
         b: last(t),
-        c: last(u),
+        others,
     }
 }
 
-// The same of five numbers, in one loop whose lanes do not wait for one another.
-pub fn five_nearest_roots(a: u64, b: u64, c: u64, d: u64, e: u64) -> FiveNumbers
-    requires { ⌜ (2 ^ 52 ≤ a) × (a < 2 ^ 54) × (2 ^ 52 ≤ b) × (b < 2 ^ 54) × (2 ^ 52 ≤ c) × (c < 2 ^ 54) × (2 ^ 52 ≤ d) × (d < 2 ^ 54)
-        × (2 ^ 52 ≤ e) × (e < 2 ^ 54) ⌝ }
-    ensures { λ r. ⌜ (r .a ≡ nearestRoot (a * 2 ^ 52)) × (r .b ≡ nearestRoot (b * 2 ^ 52)) × (r .c ≡ nearestRoot (c * 2 ^ 52))
-        × (r .d ≡ nearestRoot (d * 2 ^ 52)) × (r .e ≡ nearestRoot (e * 2 ^ 52)) ⌝ }
+// The same for six numbers.
+pub fn six_nearest_roots(a: u64, b: u64, c: u64, d: u64, e: u64, f: u64) -> SixNumbers
+    requires { ⌜ (HasDigits a × HasDigits b × HasDigits c) × (HasDigits d × HasDigits e × HasDigits f) ⌝ }
+    ensures { λ r. ⌜ NearestOf a b c (r .first) × NearestOf d e f (r .second) ⌝ }
 {
-    let mut v = first(a);
-    let mut w = first(b);
-    let mut x = first(c);
-    let mut y = first(d);
-    let mut z = first(e);
+    let mut s = three_firsts(a, b, c);
+    let mut t = three_firsts(d, e, f);
     let mut g: u64 = LEADING;
     while 1 < g {
-        v = two_turns(v, g);
-        w = two_turns(w, g);
-        x = two_turns(x, g);
-        y = two_turns(y, g);
-        z = two_turns(z, g);
+        s = three_turns(s, g);
+        t = three_turns(t, g);
         g = g >> 2;
     }
-    FiveNumbers {
-        a: last(v),
-        b: last(w),
-        c: last(x),
-        d: last(y),
-        e: last(z),
-    }
+    let first = three_lasts(s);
+    let second = three_lasts(t);
+    SixNumbers { first, second }
 }

@@ -10,6 +10,13 @@ pub struct Lane {
     pub t: u64,
 }
 
+// Three lanes that do not wait for each other.
+pub struct ThreeLanes {
+    pub a: Lane,
+    pub b: Lane,
+    pub c: Lane,
+}
+
 pub struct ThreeNumbers {
     pub a: u64,
     pub b: u64,
@@ -19,7 +26,10 @@ pub struct ThreeNumbers {
 pub struct FiveNumbers {
     pub a: u64,
     pub b: u64,
-    pub c: u64,
-    pub d: u64,
-    pub e: u64,
+    pub others: ThreeNumbers,
+}
+
+pub struct SixNumbers {
+    pub first: ThreeNumbers,
+    pub second: ThreeNumbers,
 }
