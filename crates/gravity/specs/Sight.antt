@@ -1,5 +1,7 @@
 -- What the code keeps for a moment about a centre: the other bodies, each with its pull on the centre, computed once.
+use mathlib.Core.Bool.{Bool, _||_}
 use mathlib.Core.List.{List, [], _∷_}
+use mathlib.Core.Path.{_≡_}
 use Prim.Native.Nat.{ℕ}
 use lib.Ieee.{Float}
 use Rattle.base.specs.Choice.{if_then_else_, _=?_}
@@ -7,8 +9,9 @@ use Rattle.state.specs.State.{used, coefficientOf}
 use Rattle.state.specs.declared.Vector.{Vector}
 use Rattle.state.specs.declared.Setting.{Setting}
 use Rattle.gravity_pull.specs.Pull.{minus}
-use Rattle.gravity_pull.specs.Sum.{pullOf, noPull, lessAll, startBy, vectorOf, nearRoots}
+use Rattle.gravity_pull.specs.Sum.{pullOf, noPull, lessAll, startBy, vectorOf, nearRoots, RootFor}
 use Rattle.root.specs.declared.ThreeRoots.{ThreeRoots}
+use Rattle.root.specs.declared.SixRoots.{SixRoots}
 use Rattle.gravity_terms.specs.Added.{oblateBy, sunlitBy}
 use Rattle.gravity_pull.specs.declared.Pull.{Pull}
 use Rattle.gravity_pull.specs.declared.Other.{Other}
@@ -43,9 +46,20 @@ othersOf C s =
       fifth = otherOf C (s .fifth);
     }
 
--- the roots that the centre and the first two bodies beside it ask for at P
-abbrev pub rootsAt : Vector → Others → ThreeRoots
-rootsAt P o = nearRoots P (o .first .place) (o .second .place)
+-- one of three bodies is used
+abbrev pub anyUsed : Float → Float → Float → Bool
+anyUsed a b c = used a || (used b || used c)
+
+-- the roots that three bodies ask for at P, each if the body is used
+pub record RootsFor (P : Vector) (a b c : Other) (roots : ThreeRoots) : Type 0 where
+  pub for-a : RootFor P a (roots .a)
+  pub for-b : RootFor P b (roots .b)
+  pub for-c : RootFor P c (roots .c)
+
+-- the roots that the centre and the bodies beside it ask for at P: the last three bodies each if it is used
+pub record RootsAt (P : Vector) (o : Others) (roots : SixRoots) : Type 0 where
+  pub near : roots .first ≡ nearRoots P (o .first .place) (o .second .place)
+  pub later : RootsFor P (o .third) (o .fourth) (o .fifth) (roots .second)
 
 abbrev pub entriesOf : Found → Guesses
 entriesOf f = record { moon = f .moon .entry; sun = f .sun .entry; venus = f .venus .entry; mars = f .mars .entry; jupiter = f .jupiter .entry }

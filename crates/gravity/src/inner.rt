@@ -3,13 +3,13 @@
 
 use crate::AccelerationAnswer;
 use crate::Guesses;
+use crate::LastSeen;
 use crate::Others;
 use crate::OthersSeen;
 use crate::Seen;
 use crate::Sights;
 use gravity_bodies::Besides;
 use gravity_bodies::Found;
-use gravity_bodies::Sight;
 use gravity_bodies::beside;
 use gravity_bodies::blank_sight;
 use gravity_bodies::centre_place;
@@ -19,12 +19,14 @@ use gravity_pull::Other;
 use gravity_pull::Pull;
 pub use gravity_pull::pulls::difference;
 use gravity_pull::pulls::far_pulls;
-use gravity_pull::pulls::less;
+use gravity_pull::pulls::less_by;
 use gravity_pull::pulls::near_sum;
 use gravity_pull::pulls::near_sum_by;
-use gravity_pull::pulls::pull;
+use gravity_pull::pulls::six_roots_at;
+use gravity_pull::pulls::three_far_pulls;
 use gravity_terms::inner::oblate_sum;
 use gravity_terms::inner::sunlit_sum;
+use root::SixRoots;
 use root::ThreeRoots;
 use state::Setting;
 use state::Vector;
@@ -34,10 +36,19 @@ ghost use Rattle.state.specs.State.{centreAllowed};
 ghost use Rattle.book.specs.Passes.{passes};
 ghost use Rattle.book.specs.Calm.{Ready};
 ghost use Rattle.gravity.specs.Acceleration.{accelerationAt};
-ghost use Rattle.gravity_pull.specs.Pull.{minus};
-ghost use Rattle.gravity_pull.specs.Sum.{nearRoots};
 ghost use Rattle.gravity_bodies.specs.Looked.{foundIn};
-ghost use Rattle.gravity.specs.Sight.{otherBy, otherOf, othersOf, rootsAt, entriesOf, sights, settledBy, accelerationBy};
+ghost use Rattle.gravity.specs.Sight.{
+  otherBy,
+  otherOf,
+  othersOf,
+  anyUsed,
+  RootsFor,
+  RootsAt,
+  entriesOf,
+  sights,
+  settledBy,
+  accelerationBy,
+};
 
 fn found_in(book: &[u8], setting: Setting, moment: u64, guesses: Guesses, calm: bool) -> Found
     requires { ⌜ Ready (now book) calm ⌝ }
@@ -82,12 +93,45 @@ fn other_by(place: Vector, m: f64, by: Pull) -> Other
     Other { m, place, pull }
 }
 
-fn other(c: Vector, b: Sight) -> Other
-    ensures { λ r. ⌜ r ≡ otherOf c b ⌝ }
+// Whether one of three bodies is used.
+fn any_used(a: f64, b: f64, c: f64) -> bool
+    ensures { λ r. ⌜ r ≡ anyUsed a b c ⌝ }
 {
-    let place = difference(b.place, c);
-    if 0.0 < b.m {
-        return other_by(place, b.m, pull(place, b.m));
+    if 0.0 < a {
+        return true;
+    }
+    if 0.0 < b {
+        return true;
+    }
+    0.0 < c
+}
+
+// The last three bodies beside the centre. If one of them is used, all their roots are computed side by side.
+fn last_seen(c: Vector, bodies: Besides, p: Vector) -> LastSeen
+    ensures { λ r. ⌜ (r .third ≡ otherOf c (bodies .third)) × (r .fourth ≡ otherOf c (bodies .fourth)) × (r .fifth ≡ otherOf c (bodies .fifth)) ⌝ }
+    ensures { λ r. ⌜ RootsFor p (r .third) (r .fourth) (r .fifth) (r .roots) ⌝ }
+{
+    let d = bodies.third;
+    let e = bodies.fourth;
+    let f = bodies.fifth;
+    let d_place = difference(d.place, c);
+    let e_place = difference(e.place, c);
+    let f_place = difference(f.place, c);
+    if any_used(d.m, e.m, f.m) {
+        let pulls = three_far_pulls(p, d_place, d.m, e_place, e.m, f_place, f.m);
+        let by_d = pulls.first;
+        let by_e = pulls.second;
+        let by_f = pulls.third;
+        let roots = pulls.roots;
+        let third = other_by(d_place, d.m, by_d);
+        let fourth = other_by(e_place, e.m, by_e);
+        let fifth = other_by(f_place, f.m, by_f);
+        return LastSeen {
+            third,
+            fourth,
+            fifth,
+            roots,
+        };
     }
     let none = Pull {
         x: 0.0,
@@ -95,13 +139,26 @@ fn other(c: Vector, b: Sight) -> Other
         z: 0.0,
         sound: true,
     };
-    other_by(place, b.m, none)
+    let roots = ThreeRoots {
+        a: 0.0,
+        b: 0.0,
+        c: 0.0,
+    };
+    let third = other_by(d_place, d.m, none);
+    let fourth = other_by(e_place, e.m, none);
+    let fifth = other_by(f_place, f.m, none);
+    LastSeen {
+        third,
+        fourth,
+        fifth,
+        roots,
+    }
 }
 
 // The pulls of the bodies on the centre are computed here, once for the moment. The first two bodies are almost always
 // used, so theirs are computed side by side, and with them the roots for a first position p.
 fn seen_from(c: Vector, bodies: Besides, p: Vector) -> OthersSeen
-    ensures { λ r. ⌜ (r .others ≡ othersOf c bodies) × (r .roots ≡ nearRoots p (minus (bodies .first .place) c) (minus (bodies .second .place) c)) ⌝ }
+    ensures { λ r. ⌜ (r .others ≡ othersOf c bodies) × RootsAt p (r .others) (r .roots) ⌝ }
 {
     let a = bodies.first;
     let b = bodies.second;
@@ -110,18 +167,24 @@ fn seen_from(c: Vector, bodies: Besides, p: Vector) -> OthersSeen
     let pulls = far_pulls(p, a_place, a.m, b_place, b.m);
     let by_a = pulls.first;
     let by_b = pulls.second;
-    let roots = pulls.roots;
+    let near = pulls.roots;
     let first = other_by(a_place, a.m, by_a);
     let second = other_by(b_place, b.m, by_b);
-    let third = other(c, bodies.third);
-    let fourth = other(c, bodies.fourth);
-    let fifth = other(c, bodies.fifth);
+    let last = last_seen(c, bodies, p);
+    let third = last.third;
+    let fourth = last.fourth;
+    let fifth = last.fifth;
+    let later = last.roots;
     let others = Others {
         first,
         second,
         third,
         fourth,
         fifth,
+    };
+    let roots = SixRoots {
+        first: near,
+        second: later,
     };
     OthersSeen { others, roots }
 }
@@ -154,7 +217,7 @@ pub fn seen_at(
     p: Vector,
 ) -> Seen
     requires { ⌜ Ready (now book) calm ⌝ }
-    ensures { λ r. ⌜ (r .bodies ≡ sights (now (book .entry)) setting centre moment) × (r .roots ≡ rootsAt p (r .bodies .others)) ⌝ }
+    ensures { λ r. ⌜ (r .bodies ≡ sights (now (book .entry)) setting centre moment) × RootsAt p (r .bodies .others) (r .roots) ⌝ }
 {
     let bodies = found_in(book, setting, moment, guesses, calm);
     let earth = blank_sight(setting.earth, 0);
@@ -193,6 +256,38 @@ fn settle(sum: Pull) -> AccelerationAnswer
     AccelerationAnswer::Refused(7)
 }
 
+// The acceleration at p, if the roots for that position are known.
+pub fn acceleration_by(
+    bodies: Sights,
+    setting: Setting,
+    p: Vector,
+    roots: SixRoots,
+) -> AccelerationAnswer
+    requires { ⌜ RootsAt p (bodies .others) roots ⌝ }
+    ensures { λ r. ⌜ r ≡ accelerationBy bodies setting p ⌝ }
+{
+    if bodies.refusal == 0 {
+        let others = bodies.others;
+        let first = others.first;
+        let second = others.second;
+        let third = others.third;
+        let fourth = others.fourth;
+        let fifth = others.fifth;
+        let later = roots.second;
+        let near = near_sum_by(p, bodies.own, first, second, roots.first);
+        let sum = near.sum;
+        let known = near.known;
+        let with_third = less_by(p, sum, third, later.a);
+        let with_fourth = less_by(p, with_third, fourth, later.b);
+        let all = less_by(p, with_fourth, fifth, later.c);
+        let with_earth = oblate_sum(setting, bodies.home, p, all, known);
+        return settle(sunlit_sum(setting, bodies.sun, p, with_earth, known));
+    }
+    AccelerationAnswer::Refused(bodies.refusal)
+}
+
+// The same without known roots. All roots are computed side by side: three, or six if more than two other bodies are
+// used.
 pub fn acceleration_under(bodies: Sights, setting: Setting, p: Vector) -> AccelerationAnswer
     ensures { λ r. ⌜ r ≡ accelerationBy bodies setting p ⌝ }
 {
@@ -203,38 +298,21 @@ pub fn acceleration_under(bodies: Sights, setting: Setting, p: Vector) -> Accele
         let third = others.third;
         let fourth = others.fourth;
         let fifth = others.fifth;
+        if any_used(third.m, fourth.m, fifth.m) {
+            let roots = six_roots_at(
+                p,
+                first.place,
+                second.place,
+                third.place,
+                fourth.place,
+                fifth.place,
+            );
+            return acceleration_by(bodies, setting, p, roots);
+        }
         let near = near_sum(p, bodies.own, first, second);
         let sum = near.sum;
         let known = near.known;
-        let all = less(p, less(p, less(p, sum, third), fourth), fifth);
-        let with_earth = oblate_sum(setting, bodies.home, p, all, known);
-        return settle(sunlit_sum(setting, bodies.sun, p, with_earth, known));
-    }
-    AccelerationAnswer::Refused(bodies.refusal)
-}
-
-// The same, if the roots for the position are known.
-pub fn acceleration_by(
-    bodies: Sights,
-    setting: Setting,
-    p: Vector,
-    roots: ThreeRoots,
-) -> AccelerationAnswer
-    requires { ⌜ roots ≡ rootsAt p (bodies .others) ⌝ }
-    ensures { λ r. ⌜ r ≡ accelerationBy bodies setting p ⌝ }
-{
-    if bodies.refusal == 0 {
-        let others = bodies.others;
-        let first = others.first;
-        let second = others.second;
-        let third = others.third;
-        let fourth = others.fourth;
-        let fifth = others.fifth;
-        let near = near_sum_by(p, bodies.own, first, second, roots);
-        let sum = near.sum;
-        let known = near.known;
-        let all = less(p, less(p, less(p, sum, third), fourth), fifth);
-        let with_earth = oblate_sum(setting, bodies.home, p, all, known);
+        let with_earth = oblate_sum(setting, bodies.home, p, sum, known);
         return settle(sunlit_sum(setting, bodies.sun, p, with_earth, known));
     }
     AccelerationAnswer::Refused(bodies.refusal)

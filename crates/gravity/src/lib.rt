@@ -5,6 +5,7 @@ pub mod inner;
 
 use base::END_OF_TIME;
 use gravity_pull::Other;
+use root::SixRoots;
 use root::ThreeRoots;
 use state::Setting;
 use state::Vector;
@@ -48,16 +49,24 @@ pub struct Sights {
     pub others: Others,
 }
 
+// The last three bodies beside the centre, and the roots that a first position asks for.
+pub struct LastSeen {
+    pub third: Other,
+    pub fourth: Other,
+    pub fifth: Other,
+    pub roots: ThreeRoots,
+}
+
 // The bodies beside the centre, and the roots that a first position asks for.
 pub struct OthersSeen {
     pub others: Others,
-    pub roots: ThreeRoots,
+    pub roots: SixRoots,
 }
 
 // What is kept of a moment, and the roots that a first position asks for.
 pub struct Seen {
     pub bodies: Sights,
-    pub roots: ThreeRoots,
+    pub roots: SixRoots,
 }
 
 // The acceleration about a centre at a position, under a setting, at a moment of a book.

@@ -1,17 +1,20 @@
 -- How the code computes pulls: a pull, whether its lengths are allowed, and sums of pulls.
 use mathlib.Core.Bool.{Bool, true, _&&_}
 use mathlib.Core.List.{List, [], _∷_}
+use mathlib.Core.Path.{_≡_}
 use lib.Ieee.{Float, neg}
 use Rattle.base.specs.Choice.{if_then_else_}
 use Rattle.base.specs.Floats.{_⊕_, _⊖_, _⊗_, _⊘_, zero64}
-use Rattle.root.specs.Root.{rootsOf}
+use Rattle.root.specs.Root.{rootOf, rootsOf}
 use Rattle.root.specs.declared.ThreeRoots.{ThreeRoots}
+use Rattle.root.specs.declared.SixRoots.{SixRoots}
 use Rattle.root_known.specs.Known.{threeRootedOf}
 use Rattle.state.specs.State.{n, used}
 use Rattle.state.specs.declared.Vector.{Vector}
 use Rattle.gravity_pull.specs.Pull.{g, sound, divisible, minus}
 use Rattle.gravity_pull.specs.declared.Pull.{Pull}
 use Rattle.gravity_pull.specs.declared.FarPulls.{FarPulls}
+use Rattle.gravity_pull.specs.declared.ThreeFarPulls.{ThreeFarPulls}
 use Rattle.gravity_pull.specs.declared.ThreePulls.{ThreePulls}
 use Rattle.gravity_pull.specs.declared.NearSum.{NearSum}
 use Rattle.gravity_pull.specs.declared.Other.{Other}
@@ -69,6 +72,23 @@ nearRoots P u v = rootsOf (n P) (n (minus P u)) (n (minus P v))
 -- the pulls of two bodies on the centre, with those roots
 abbrev pub farPullsOf : Vector → Vector → Float → Vector → Float → FarPulls
 farPullsOf P u a v b = record { first = pullOf u a; second = pullOf v b; roots = nearRoots P u v }
+
+-- the roots that the pulls of three bodies on a craft at P ask for
+abbrev pub otherRoots : Vector → Vector → Vector → Vector → ThreeRoots
+otherRoots P u v w = rootsOf (n (minus P u)) (n (minus P v)) (n (minus P w))
+
+-- the pulls of three bodies on the centre, with those roots
+abbrev pub threeFarPullsOf : Vector → Vector → Float → Vector → Float → Vector → Float → ThreeFarPulls
+threeFarPullsOf P u a v b w c =
+    record { first = pullOf u a; second = pullOf v b; third = pullOf w c; roots = otherRoots P u v w }
+
+-- the roots of the centre and of five bodies
+abbrev pub sixRootsAt : Vector → Vector → Vector → Vector → Vector → Vector → SixRoots
+sixRootsAt P u v w x y = record { first = nearRoots P u v; second = otherRoots P w x y }
+
+-- the root that the pull of a body on a craft at P asks for, if the body is used
+abbrev pub RootFor : Vector → Other → Float → Type 0
+RootFor P b root = used (b .m) ≡ true → root ≡ rootOf (n (minus P (b .place)))
 
 -- three pulls side by side, with each n and its root
 abbrev pub pullsOf : Vector → Float → Vector → Float → Vector → Float → ThreePulls

@@ -21,6 +21,14 @@ pub struct FarPulls {
     pub roots: ThreeRoots,
 }
 
+// Three pulls, and three more roots that were worked out beside theirs.
+pub struct ThreeFarPulls {
+    pub first: Pull,
+    pub second: Pull,
+    pub third: Pull,
+    pub roots: ThreeRoots,
+}
+
 // Three pulls, and the numbers whose roots they took.
 pub struct ThreePulls {
     pub first: Pull,

@@ -4,7 +4,9 @@ use crate::FarPulls;
 use crate::NearSum;
 use crate::Other;
 use crate::Pull;
+use crate::ThreeFarPulls;
 use crate::ThreePulls;
+use root::SixRoots;
 use root::ThreeRoots;
 use root_known::Rooted;
 use root_known::ThreeRooted;
@@ -17,7 +19,21 @@ ghost use Rattle.state.specs.State.{n};
 ghost use Rattle.root.specs.Root.{rootsOf};
 ghost use Rattle.root_known.specs.Known.{AreRoots};
 ghost use Rattle.gravity_pull.specs.Pull.{divisible, minus};
-ghost use Rattle.gravity_pull.specs.Sum.{pullBy, pullOf, nearRoots, farPullsOf, pullsOf, opposite, takenOff, lessNear, lessBy, nearSum};
+ghost use Rattle.gravity_pull.specs.Sum.{
+  pullBy,
+  pullOf,
+  nearRoots,
+  farPullsOf,
+  threeFarPullsOf,
+  sixRootsAt,
+  pullsOf,
+  opposite,
+  takenOff,
+  lessNear,
+  RootFor,
+  lessBy,
+  nearSum,
+};
 
 pub fn both(a: bool, b: bool) -> bool
     ensures { λ r. ⌜ r ≡ (a && b) ⌝ }
@@ -53,14 +69,7 @@ fn pull_by(v: Vector, m: f64, n: f64, root: f64) -> Pull
     }
 }
 
-pub fn pull(v: Vector, m: f64) -> Pull
-    ensures { λ r. ⌜ r ≡ pullOf v m ⌝ }
-{
-    let n = state::square(v);
-    pull_by(v, m, n, root::inner::square_root(n))
-}
-
-// The same pull, if some roots are known already.
+// The pull of a body that lies v away, if some roots are known already.
 pub fn pull_known(v: Vector, m: f64, known: ThreeRooted) -> Pull
     requires { ⌜ AreRoots known ⌝ }
     ensures { λ r. ⌜ r ≡ pullOf v m ⌝ }
@@ -170,16 +179,62 @@ pub fn far_pulls(p: Vector, u: Vector, a: f64, v: Vector, b: f64) -> FarPulls
     );
     let first = pull_by(u, a, n_u, five.a);
     let second = pull_by(v, b, n_v, five.b);
-    let roots = ThreeRoots {
-        a: five.c,
-        b: five.d,
-        c: five.e,
-    };
+    let roots = five.others;
     FarPulls {
         first,
         second,
         roots,
     }
+}
+
+// The same for the three bodies after them, at u, v and w: six roots are worked out side by side.
+pub fn three_far_pulls(
+    p: Vector,
+    u: Vector,
+    a: f64,
+    v: Vector,
+    b: f64,
+    w: Vector,
+    c: f64,
+) -> ThreeFarPulls
+    ensures { λ r. ⌜ r ≡ threeFarPullsOf p u a v b w c ⌝ }
+{
+    let n_u = state::square(u);
+    let n_v = state::square(v);
+    let n_w = state::square(w);
+    let six = root::inner::six_roots(
+        n_u,
+        n_v,
+        n_w,
+        state::square(difference(p, u)),
+        state::square(difference(p, v)),
+        state::square(difference(p, w)),
+    );
+    let far = six.first;
+    let first = pull_by(u, a, n_u, far.a);
+    let second = pull_by(v, b, n_v, far.b);
+    let third = pull_by(w, c, n_w, far.c);
+    let roots = six.second;
+    ThreeFarPulls {
+        first,
+        second,
+        third,
+        roots,
+    }
+}
+
+// All roots that the pulls on a craft at p ask for: of the centre, and of five bodies.
+pub fn six_roots_at(p: Vector, u: Vector, v: Vector, w: Vector, x: Vector, y: Vector) -> SixRoots
+    ensures { λ r. ⌜ r ≡ sixRootsAt p u v w x y ⌝ }
+{
+    root::inner::six_roots(
+        state::square(p),
+        state::square(difference(p, u)),
+        state::square(difference(p, v)),
+        state::square(difference(p, w)),
+        state::square(difference(p, x)),
+        state::square(difference(p, y)),
+    )
 }
 
 fn take_off(sum: Pull, near: Pull, far: Pull) -> Pull
@@ -204,14 +259,17 @@ fn less_near(sum: Pull, b: Other, near: Pull) -> Pull
     sum
 }
 
-// Subtracts the pulls of a body from the sum: on the craft at p, and on the centre.
-pub fn less(p: Vector, sum: Pull, b: Other) -> Pull
+// Subtracts the pulls of a body from the sum: on the craft at p, and on the centre. If the body is used, its root is
+// known.
+pub fn less_by(p: Vector, sum: Pull, b: Other, root: f64) -> Pull
+    requires { ⌜ RootFor p b root ⌝ }
     ensures { λ r. ⌜ r ≡ lessBy p sum b ⌝ }
 {
     if 0.0 < b.m {
         let place = b.place;
         let far = b.pull;
-        return take_off(sum, pull(difference(p, place), b.m), far);
+        let v = difference(p, place);
+        return take_off(sum, pull_by(v, b.m, state::square(v), root), far);
     }
     sum
 }

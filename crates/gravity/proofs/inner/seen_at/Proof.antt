@@ -1,7 +1,5 @@
 -- `gravity::inner::seen_at` meets its contract. Assumes nothing.
-use mathlib.Core.Path.{sym, ap, _∙_}
-use Rattle.gravity.specs.Sight.{sights, rootsAt}
-use Rattle.gravity.proofs.Places.{roots-of}
+use Rattle.gravity.specs.Sight.{sights}
 use borrow.Author.Needs.{needs}
 use Rattle.gravity.proofs.inner.seen_at.Statement.{statement}
 use Rattle.gravity.proofs.inner.seen_at.Tie as tie
@@ -16,7 +14,7 @@ returns c =
           (rw (c .before .before .before .entries-of .ensures, at .refusal-of .ensures, s .0)
           (rw (seen .before .beside .ensures, seen .before .before .centre-place .ensures)
           (rw (seen .before .before .before .blank-sight .ensures, seen .before .before .before .before .found-in .ensures)))),
-      s .1 ∙ sym (ap (rootsAt _) (s .0) ∙ roots-of _ _ _),
+      s .1,
     )
 
 pub seen-at-spec : {M : Type 1} → statement M

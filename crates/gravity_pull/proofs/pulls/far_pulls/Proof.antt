@@ -8,11 +8,11 @@ use Rattle.gravity_pull.proofs.pulls.far_pulls.Tie as tie
 returns : tie.Need-returns
 unfolding pullOf g sound r3
 returns c =
-    let roots = c .before .before in
+    let roots = c .before .before .before in
     let near = roots .before in
     rw (
-      c .pull-by2 .ensures,
-      c .before .pull-by .ensures,
+      c .before .pull-by2 .ensures,
+      c .before .before .pull-by .ensures,
       roots .five-roots .ensures,
       near .square5 .ensures,
       near .before .difference2 .ensures,
