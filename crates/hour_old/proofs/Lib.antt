@@ -1,2 +1,2 @@
-pub mod LongDivision
+pub mod Quotients
 pub mod Sum

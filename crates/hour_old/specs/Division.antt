@@ -1,26 +1,11 @@
--- Long division three digits at a time, for dividends beyond 64 bits: the contracts of the private functions.
+-- A division of a dividend beyond 64 bits: the contract of a private function.
 use mathlib.Core.Path.{_≡_}
-use Prim.Native.Nat.{ℕ, _+_, _*_, _/_, _%_, _≤_, _<_}
-use Rattle.base.specs.Limits.{dayLength}
-use Rattle.hour_old.specs.declared.Division.{Division}
+use Prim.Native.Nat.{ℕ, _+_, _*_, _≤_, _<_}
+use Rattle.hour_old.specs.declared.Estimate.{Estimate}
 
-abbrev pub division : ℕ → ℕ → Division
-division dividend divisor = record { quotient = dividend / divisor; rest = dividend % divisor }
-
--- the condition that keeps the next three digits within 64 bits
-pub record Room (part : Division) (divisor : ℕ) : Type 0 where
-  pub rest-below : part .rest < divisor
-  pub divisor-small : divisor ≤ 2_000_000_000_000_000
-  pub quotient-small : part .quotient < 10_000_000_000_000_000
-
--- next is the division of a thousand times the dividend of part
-pub record ThreeDigitsOn (part : Division) (divisor : ℕ) (next : Division) : Type 0 where
-  pub continues : (dividend : ℕ) → part ≡ division dividend divisor → next ≡ division (dividend * 1000) divisor
-  pub rest-below : next .rest < divisor
-  pub quotient-below : next .quotient < part .quotient * 1000 + 1000
-
--- a time of day, and a divisor of the fourth term's size
-pub record TurnRoom (t divisor : ℕ) : Type 0 where
-  pub time-of-day : t < dayLength
-  pub divisor-large : 1_000_000_000_000_000 ≤ divisor
-  pub divisor-small : divisor ≤ 2_000_000_000_000_000
+-- `quotient - over` times the divisor, plus the rest, is the dividend; the rest may contain the divisor up to twice
+pub record EstimateOf (dividend divisor : ℕ) (estimate : Estimate) : Type 0 where
+  pub exact : dividend + estimate .over * divisor ≡ estimate .quotient * divisor + estimate .rest
+  pub rest-small : estimate .rest < 3 * divisor
+  pub over-small : estimate .over ≤ 100_000
+  pub quotient-small : estimate .quotient < 3_700_000_000_000

@@ -2,7 +2,9 @@
 
 pub mod inner;
 
-struct Division {
+// An unfinished division: the quotient is too large by `over`, and the rest may contain the divisor up to twice.
+struct Estimate {
     quotient: u64,
+    over: u64,
     rest: u64,
 }

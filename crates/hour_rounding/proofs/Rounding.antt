@@ -1,5 +1,4 @@
--- Rounding down and reducing into one circle, over any numerator, negative ones too, and any denominator above 0; and long division.
--- Assumes nothing.
+-- Rounding down and reducing into one circle, over any numerator, negative ones too, and any denominator above 0. Assumes nothing.
 use mathlib.Core.Path.{_≡_, refl, ap, sym, _∙_}
 use Prim.Native.Nat.{ℕ, suc, _+_, _-_, _*_, _/_, _%_, _<_}
 use lib.IntN.{ℤ, pos, negsuc, _+ℤ_, _*ℤ_}
@@ -66,41 +65,26 @@ rounded f h =
       exact = exactly (f .numerator) (f .denominator) circle h (omega arith) _ _ refl refl;
     }
 
-module _ (n k d : ℕ) (h : 0 < d) where
-  -- n·k, with the part that d divides taken separately
-  apart : n * k ≡ n / d * k * d + n % d * k
-  apart = omega (arith, ap (λ (x : ℕ). x * k) (div-add-mod' n d))
-
-  -- long division: the quotient and the rest of n·k from those of n
-  pub quotient-on : n * k / d ≡ n / d * k + n % d * k / d
-  quotient-on = ap (λ (x : ℕ). x / d) apart ∙ mul-add-div-right h (n / d * k) (n % d * k)
-
-  pub rest-on : n * k % d ≡ n % d * k % d
-  rest-on = ap (λ (x : ℕ). x % d) apart ∙ mul-add-mod-self-right (n / d * k) d (n % d * k)
-
--- whole + n/m + x/d rounded down once, only by divisions by d and by m: the fraction of x/d is carried in units of 1/m
-pub rounded-once : (whole n x m d : ℕ) → 0 < m → 0 < d
-    → (whole * (m * d) + n * d + x * m) / (m * d) ≡ whole + x / d + (n + x % d * m / d) / m
-rounded-once whole n x m d m-pos d-pos =
-    ap (λ (y : ℕ). (whole * (m * d) + n * d + x * m) / y) (mul-comm m d)
-    ∙ sym (div-div-eq-div-mul (whole * (m * d) + n * d + x * m) d m)
-    ∙ ap (λ (y : ℕ). y / m) by-d
-    ∙ mul-add-div-right m-pos (whole + x / d) (n + x % d * m / d)
-  where
-    by-d : (whole * (m * d) + n * d + x * m) / d ≡ (whole + x / d) * m + (n + x % d * m / d)
-    by-d =
-        ap (λ (y : ℕ). y / d) regroup
-        ∙ mul-add-div-right d-pos (whole * m + n) (x * m)
-        ∙ omega (arith, quotient-on x m d d-pos)
-      where
-        regroup : whole * (m * d) + n * d + x * m ≡ (whole * m + n) * d + x * m
-        regroup = omega arith
-
 -- a digit's fraction is carried into the next one
 pub carried : (n m v k : ℕ) → 0 < v → (n * v + m) / (v * k) ≡ (n + m / v) / k
 carried n m v k h = sym (div-div-eq-div-mul (n * v + m) v k) ∙ ap (λ (x : ℕ). x / k) (mul-add-div-right h n m)
 
--- the same from below 0
+-- whole + n/m + x/d rounded down once, only by divisions by d and by m: the last one is carried in units of 1/m
+pub rounded-once : (whole n x m d : ℕ) → 0 < m → 0 < d → (whole * (m * d) + n * d + x * m) / (m * d) ≡ whole + (n + x * m / d) / m
+rounded-once whole n x m d m-pos d-pos =
+    ap (λ (y : ℕ). (whole * (m * d) + n * d + x * m) / y) (mul-comm m d)
+    ∙ ap (λ (y : ℕ). y / (d * m)) regroup
+    ∙ carried (whole * m + n) (x * m) d m d-pos
+    ∙ ap (λ (y : ℕ). y / m) next
+    ∙ mul-add-div-right m-pos whole (n + x * m / d)
+  where
+    regroup : whole * (m * d) + n * d + x * m ≡ (whole * m + n) * d + x * m
+    regroup = omega arith
+
+    next : whole * m + n + x * m / d ≡ whole * m + (n + x * m / d)
+    next = omega arith
+
+-- whole circles added to a number below 0, in natural numbers
 module _ (m n k c d : ℕ) (cp : 0 < c) (dp : 0 < d) (h : n + suc m ≡ k * (c * d)) where
   abbrev q : ℕ
   q = m / d
