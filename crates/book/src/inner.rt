@@ -15,10 +15,12 @@ pub use book_check::inner::offset_of;
 pub use book_check::inner::size_of;
 pub use book_search::inner::lookup_guessed;
 use book_series::Place;
+use book_series::TwoPlaces;
 use book_series::Velocity;
 use book_series::inner::argument_at;
 use book_series::inner::series_at;
 use book_series::inner::slopes_at;
+use book_series::inner::two_series_at;
 ghost use mathlib.Core.Bool.{true, _&&_};
 ghost use mathlib.Core.Path.{_≡_};
 ghost use Prim.Native.Nat.{_<_};
@@ -66,6 +68,19 @@ pub fn place_at(book: &[u8], entry: usize, moment: u64) -> Place
 {
     let r = reading_at(book, entry, moment);
     series_at(book, r.offset, r.n, r.w)
+}
+
+// The places by entries i and j at one moment, each as `place_at` returns it. The two series share a loop.
+pub fn two_places_at(book: &[u8], i: usize, j: usize, moment: u64) -> TwoPlaces
+    requires { ⌜ passes (now book) ≡ true ⌝ }
+    requires { ⌜ (i < entryCount (now book)) × (covers (now book) i moment ≡ true) ⌝ }
+    requires { ⌜ (j < entryCount (now book)) × (covers (now book) j moment ≡ true) ⌝ }
+    ensures { λ r. ⌜ r .first ≡ place (now (book .entry)) i moment ⌝ }
+    ensures { λ r. ⌜ r .second ≡ place (now (book .entry)) j moment ⌝ }
+{
+    let r = reading_at(book, i, moment);
+    let s = reading_at(book, j, moment);
+    two_series_at(book, r.offset, r.n, r.w, s.offset, s.n, s.w)
 }
 
 pub fn velocity_at(book: &[u8], entry: usize, moment: u64) -> Velocity

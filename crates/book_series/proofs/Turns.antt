@@ -11,8 +11,9 @@ use Rattle.book_check.specs.Contents.{floatOf, offsetOf, sizeOf, startOf, spanO
 use Rattle.base_bytes.specs.Bytes.{floatAt}
 use Rattle.book_check.specs.Check.{floatsFinite}
 use Rattle.base.specs.Floats.{zero64}
-use Rattle.book_series.specs.Series.{Pair, turn, lastTurn, clenshaw, series, listed, blockOf, placeBy, argument, place}
-use Rattle.book_series.specs.declared.Place.{Place}
+use Rattle.book_series.specs.Series.{Pair, twice, turn, lastTurn, clenshaw, series, listed, blockOf, placeBy, argument, place}
+use Rattle.book_series.specs.Sums.{sumsNone, sumsTurn, sumsPlace}
+use Rattle.book_series.specs.declared.inner.Sums.{Sums}
 use Rattle.book_check.proofs.Below.{every}
 
 abbrev pair : Float → Float → Pair
@@ -32,37 +33,35 @@ module _ (w : Float) (f : ℕ → Float) where
   unfolding series
   last j j' m m' x y e e' h = rw (← e') (ap (lastTurn w (f j)) (rw e h))
 
-  -- the coefficients from k on of each axis are done, of n: b(k) and b(k+1)
-  pub record Done (n k : ℕ) (x x-next y y-next z z-next : Float) : Type 0 where
+  -- the coefficients from k on of each axis are done, of n: s has b(k) and b(k+1)
+  pub record Done (n k : ℕ) (s : Sums) : Type 0 where
     pub some : 1 ≤ k
     pub within : k ≤ n
-    pub by-x : pair x x-next ≡ clenshaw w (listed f k (n - k))
-    pub by-y : pair y y-next ≡ clenshaw w (listed f (n + k) (n - k))
-    pub by-z : pair z z-next ≡ clenshaw w (listed f (2 * n + k) (n - k))
+    pub by-x : pair (s .x) (s .x1) ≡ clenshaw w (listed f k (n - k))
+    pub by-y : pair (s .y) (s .y1) ≡ clenshaw w (listed f (n + k) (n - k))
+    pub by-z : pair (s .z) (s .z1) ≡ clenshaw w (listed f (2 * n + k) (n - k))
 
-  pub no-turn : (n : ℕ) → 1 ≤ n → Done n n zero64 zero64 zero64 zero64 zero64 zero64
+  pub no-turn : (n : ℕ) → 1 ≤ n → Done n n sumsNone
   no-turn n l = record { some = l; within = omega arith; by-x = none n n; by-y = none (n + n) n; by-z = none (2 * n + n) n }
 
-  module _ (n k : ℕ) (x x-next y y-next z z-next : Float) (d : Done n k x x-next y y-next z z-next) where
-    pub one-turn : 1 < k →
-        Done n (k - 1) (turn w (f (k - 1)) (pair x x-next) .here) x (turn w (f (n + (k - 1))) (pair y y-next) .here) y (turn w (f (2 * n + (k - 1))) (pair z z-next) .here) z
+  module _ (n k : ℕ) (s : Sums) (d : Done n k s) where
+    pub one-turn : 1 < k → Done n (k - 1) (sumsTurn (twice w) f n (k - 1) s)
     one-turn l =
         record {
           some = omega arith;
           within = omega arith;
-          by-x = more (k - 1) k (n - k) (n - (k - 1)) x x-next (omega arith) (omega arith) (d .by-x);
-          by-y = more (n + (k - 1)) (n + k) (n - k) (n - (k - 1)) y y-next (omega arith) (omega arith) (d .by-y);
-          by-z = more (2 * n + (k - 1)) (2 * n + k) (n - k) (n - (k - 1)) z z-next (omega arith) (omega arith) (d .by-z);
+          by-x = more (k - 1) k (n - k) (n - (k - 1)) (s .x) (s .x1) (omega arith) (omega arith) (d .by-x);
+          by-y = more (n + (k - 1)) (n + k) (n - k) (n - (k - 1)) (s .y) (s .y1) (omega arith) (omega arith) (d .by-y);
+          by-z = more (2 * n + (k - 1)) (2 * n + k) (n - k) (n - (k - 1)) (s .z) (s .z1) (omega arith) (omega arith) (d .by-z);
         }
 
-    pub last-turn : k ≤ 1 →
-        _≡_ {A = Place} (record { x = lastTurn w (f 0) (pair x x-next); y = lastTurn w (f n) (pair y y-next); z = lastTurn w (f (2 * n)) (pair z z-next) }) (placeBy (blockOf f n) w)
+    pub last-turn : k ≤ 1 → sumsPlace w f n s ≡ placeBy (blockOf f n) w
     last-turn l =
         let e : k ≡ 1 = omega arith in
         rw (
-          last 0 k (n - k) n x x-next (omega arith) (omega arith) (d .by-x),
-          last n (n + k) (n - k) n y y-next (omega arith) (omega arith) (d .by-y),
-          last (2 * n) (2 * n + k) (n - k) n z z-next (omega arith) (omega arith) (d .by-z),
+          last 0 k (n - k) n (s .x) (s .x1) (omega arith) (omega arith) (d .by-x),
+          last n (n + k) (n - k) n (s .y) (s .y1) (omega arith) (omega arith) (d .by-y),
+          last (2 * n) (2 * n + k) (n - k) n (s .z) (s .z1) (omega arith) (omega arith) (d .by-z),
         )
 
 module _ (b : List ℕ) (offset : ℕ) where

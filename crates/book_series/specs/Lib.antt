@@ -1,2 +1,3 @@
 pub mod Series
 pub mod Axis
+pub mod Sums

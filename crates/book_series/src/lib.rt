@@ -8,6 +8,12 @@ pub struct Place {
     pub z: f64,
 }
 
+// The positions of two bodies at one moment.
+pub struct TwoPlaces {
+    pub first: Place,
+    pub second: Place,
+}
+
 pub struct Velocity {
     pub x: f64,
     pub y: f64,

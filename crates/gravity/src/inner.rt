@@ -14,6 +14,7 @@ use gravity_bodies::beside;
 use gravity_bodies::blank_sight;
 use gravity_bodies::centre_place;
 use gravity_bodies::inner::found;
+use gravity_bodies::inner::found_two;
 use gravity_bodies::refusal_of;
 use gravity_pull::Other;
 use gravity_pull::Pull;
@@ -54,9 +55,19 @@ fn found_in(book: &[u8], setting: Setting, moment: u64, guesses: Guesses, calm: 
     requires { ⌜ Ready (now book) calm ⌝ }
     ensures { λ r. ⌜ r ≡ foundIn (now (book .entry)) setting moment ⌝ }
 {
-    let moon = found(book, 2, setting.moon, false, moment, guesses.moon, calm);
     let shines = state::sun_shines(setting);
-    let sun = found(book, 3, setting.sun, shines, moment, guesses.sun, calm);
+    let two = found_two(
+        book,
+        setting.moon,
+        setting.sun,
+        shines,
+        moment,
+        guesses.moon,
+        guesses.sun,
+        calm,
+    );
+    let moon = two.first;
+    let sun = two.second;
     let venus = found(book, 4, setting.venus, false, moment, guesses.venus, calm);
     let mars = found(book, 5, setting.mars, false, moment, guesses.mars, calm);
     let jupiter = found(

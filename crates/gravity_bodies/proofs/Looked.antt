@@ -12,6 +12,7 @@ use Rattle.book.specs.Lookup.{lookup}
 use Rattle.book.specs.Series.{place, velocity}
 use Rattle.book.specs.Position.{finiteVelocity, bodyAt}
 use Rattle.book.proofs.BodyAt.{no-cover, not-finite, too-fast, at-place}
+use Rattle.book_series.specs.declared.Place.{Place}
 use Rattle.book.specs.declared.Motion.{Motion}
 use Rattle.book_search.specs.declared.Lookup.{Lookup}
 use Rattle.book_search.specs.declared.Lookup.the-variants.{Entry, Nothing}
@@ -62,6 +63,12 @@ module _ (b : List ℕ) (number : ℕ) (m : Float) (forLight : Bool) (t : ℕ) w
       go : (u : Bool) → lookedUp m forLight ≡ u → Looked b number m forLight t (if u then foundBy b m t (lookup b number t) else blank m 0)
       go true u = by u (lookup b number t) refl
       go false u = unlooked u
+
+  -- a body that is looked up and has entry i, by its place and the test of its velocity
+  pub by-entry : (i : ℕ) (p : Place) (slow : Bool) → lookedUp m forLight ≡ true → lookup b number t ≡ Entry i → p ≡ place b i t → slow ≡ finiteVelocity (velocity b i t)
+      → foundAt p slow i m ≡ foundOf b number m forLight t
+  unfolding foundOf
+  by-entry i p slow u l e v = rw (u, l, e, v)
 
   pub earth : (number =? 1) ≡ true → Looked b number m forLight t (blank m 0)
   earth near = go (lookedUp m forLight) refl

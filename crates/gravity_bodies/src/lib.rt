@@ -16,6 +16,12 @@ pub struct Sight {
     pub place: Vector,
 }
 
+// The Moon and the Sun, looked up together.
+pub struct TwoSights {
+    pub first: Sight,
+    pub second: Sight,
+}
+
 pub struct Found {
     pub moon: Sight,
     pub sun: Sight,

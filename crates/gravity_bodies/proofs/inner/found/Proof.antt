@@ -2,6 +2,7 @@
 use Rattle.book.proofs.Found.{covered}
 use mathlib.Core.Path.{sym, _∙_}
 use Rattle.gravity_bodies.specs.Looked.{foundOf}
+use Rattle.gravity_bodies.proofs.Looked.{by-entry}
 use borrow.Author.Needs.{needs}
 use Rattle.gravity_bodies.proofs.inner.found.Statement.{statement}
 use Rattle.gravity_bodies.proofs.inner.found.Tie as tie
@@ -21,12 +22,14 @@ slow-at-requires c κs =
     (at .before .before .before .before .pre, covered _ _ _ _ (sym (at .lookup-guessed .ensures) ∙ c .before .before .entry .given .1))
 
 returns-2 : tie.Need-returns-2
-unfolding foundOf
 returns-2 c =
     let at = c .before .before .before .before in
-    rw (sym (at .before .before .before .before .is-looked-up .ensures) ∙ at .before .before .before .if1 .taken)
-    (rw (sym (at .before .before .lookup-guessed .ensures) ∙ at .entry .given .1, c .found-at .ensures, c .before .before .place-at .ensures)
-    (rw (c .before .slow-at .ensures)))
+    rw (c .found-at .ensures)
+    (by-entry _ _ _ _ _ _ _ _
+    (sym (at .before .before .before .before .is-looked-up .ensures) ∙ at .before .before .before .if1 .taken)
+    (sym (at .before .before .lookup-guessed .ensures) ∙ at .entry .given .1)
+    (c .before .before .place-at .ensures)
+    (c .before .slow-at .ensures))
 
 returns-3 : tie.Need-returns-3
 unfolding foundOf
