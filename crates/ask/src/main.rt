@@ -1,11 +1,14 @@
 // The program ask: reads calls on standard input, one on each line, and writes one line for each. Its argument names
-// the file of the book. Without one the book has no bytes. The text that it writes for a line is line_texts' definition
+// the file of the book. Without one the book has no bytes. The text that it writes for a line is the definition
 // `answerText`.
 
+use line_answers::answer_to;
 use line_form::put::Out;
-use line_texts::inner::put_answer;
+use line_texts::inner::put_line;
 ghost use Prim.Native.Nat.{_+_, _≤_};
 ghost use lib.ListN.{length};
+ghost use Rattle.line_form.specs.Spelled.{Puts};
+ghost use Rattle.ask.specs.Text.{answerText};
 
 // One byte more than a book may have: enough to refuse a longer one.
 const BOOK: usize = book::LONGEST_BOOK + 1;
@@ -56,6 +59,14 @@ fn with_room(out: &mut Out, at: usize) -> usize
     }
     write_out(out, at);
     0
+}
+
+// The line that answers a line, and the place behind it.
+fn put_answer(book: &[u8], line: &[u8], out: &mut Out, at: usize) -> usize
+    requires { ⌜ at + 512 ≤ 65_536 ⌝ }
+    ensures { λ r. ⌜ Puts (now (out .entry)) at (answerText (now (book .entry)) (now (line .entry))) (now (out .exit)) 1 512 r ⌝ }
+{
+    put_line(out, at, answer_to(book, line))
 }
 
 // Adds the answer to the line's first n bytes at a place of `out`.

@@ -6,7 +6,7 @@ use mathlib.Core.Path.{_≡_, refl}
 use lib.ListN.{take, drop}
 use Rattle.line_form.specs.Call.{callOf, orUnreadable}
 use Rattle.line_form.proofs.Reading.{is-call, no-call}
-use Rattle.line_answers.specs.declared.Answer.the-variants as answer
+use Rattle.line_types.specs.declared.Answer.the-variants as answer
 use Rattle.line_answers.specs.Calls.{Question, answerOf, questions, rootCall, sincosCall, hourCall, siderealCall, dateCall, dayCall, fixedCall, turnCall}
 use Rattle.line_answers.specs.Calls.{sphereCall, conicCall, orbitCall, bodyCall, accelCall, runCall, pullCall, injectCall, moveCall, flyCall}
 

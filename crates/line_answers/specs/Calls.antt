@@ -18,8 +18,8 @@ use Rattle.launch.specs.Sphere.{sphereAnswer}
 use Rattle.conic.specs.Conic.{conicAnswer}
 use Rattle.line_form.specs.Call.{Call, These, Unreadable, callOf}
 use Rattle.line_values.specs.Values.{number, nthFloat, narrow, vectorFrom, injectionFrom, stateFrom, unkeptFrom, oldSetting, settingFrom, guessesFrom, sphereFrom}
-use Rattle.line_answers.specs.declared.Answer.{Answer}
-use Rattle.line_answers.specs.declared.Answer.the-variants as answer
+use Rattle.line_types.specs.declared.Answer.{Answer}
+use Rattle.line_types.specs.declared.Answer.the-variants as answer
 
 -- ---- the kinds of a field (line_form)
 

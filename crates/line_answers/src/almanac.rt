@@ -1,10 +1,10 @@
 // The calls that need no state: square root, sine and cosine, sidereal time and calendar.
 
-use crate::Answer;
 use crate::places::place_call;
 use calendar::Calendar;
 use line_form::form::Numbers;
 use line_form::form::reads;
+use line_types::Answer;
 use line_values::inner::narrowed;
 use line_values::inner::nth_float;
 ghost use mathlib.Core.Path.{_≡_};

@@ -1,9 +1,9 @@
 // The calls that need the book. An old line is the new one about the Earth, with J, A and K zero, by the old rule, from the acceleration that
 // the rule gives.
 
-use crate::Answer;
 use line_form::form::Numbers;
 use line_form::form::reads;
+use line_types::Answer;
 use line_values::inner::guesses_from;
 use line_values::inner::injection_from;
 use line_values::inner::narrowed;

@@ -1,10 +1,10 @@
 // The calls about a state that need no book: Earth-fixed coordinates, a launch injection and the conic. An old line is the new one about
 // the Earth, by the old rule.
 
-use crate::Answer;
 use crate::flights::book_call;
 use line_form::form::Numbers;
 use line_form::form::reads;
+use line_types::Answer;
 use line_values::inner::narrowed;
 use line_values::inner::nth_float;
 use line_values::inner::sphere_of;

@@ -14,7 +14,7 @@ use Rattle.text_read.specs.declared.Field.{Field}
 use Rattle.text_read.specs.declared.Field.the-variants.{Value, Bad}
 use Rattle.text_read.specs.Fields.{untilSpace, allDigits, valueAfter, sized, readNumber, readDecimal, readHex16}
 use Rattle.line_form.specs.Call.{below32, cap, aboveZero, belowZero, readSigned, startsWith, readPrinted, numberAt, fieldAt, Call, These, Unreadable, ahead, andThen, fieldsFrom, callOf}
-use Rattle.line_answers.specs.declared.Answer.the-variants as answer
+use Rattle.line_types.specs.declared.Answer.the-variants as answer
 use Rattle.line_answers.specs.Calls.{Question, answerOf, questions, answerTo}
 use Rattle.line_laws.specs.Long.{longest, widest, most, allShort}
 

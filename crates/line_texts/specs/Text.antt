@@ -32,10 +32,9 @@ use Rattle.conic.specs.declared.Conic.{Conic}
 use Rattle.conic.specs.declared.Conic.the-variants.{Ellipse, Hyperbola}
 use Rattle.conic.specs.declared.ConicAnswer.{ConicAnswer}
 use Rattle.conic.specs.declared.ConicAnswer.the-variants as conic
-use Rattle.line_form.specs.Spelled.{Item, word, whole, real, lineText, refusedItems}
-use Rattle.line_answers.specs.Calls.{answerTo}
-use Rattle.line_answers.specs.declared.Answer.{Answer}
-use Rattle.line_answers.specs.declared.Answer.the-variants as answer
+use Rattle.line_form.specs.Spelled.{Item, word, whole, real, refusedItems}
+use Rattle.line_types.specs.declared.Answer.{Answer}
+use Rattle.line_types.specs.declared.Answer.the-variants as answer
 
 -- "ELLIPSE"
 abbrev pub ellipseWord : List ℕ
@@ -152,7 +151,3 @@ answerItems (answer.Moved a) = movedItems a
 answerItems (answer.Run a) = runItems a
 answerItems (answer.Flown a) = flownItems a
 answerItems answer.Unreadable = word unreadableWord ∷ []
-
--- the text that `ask` prints for a line
-abbrev pub answerText : List ℕ → List ℕ → List ℕ
-answerText book line = lineText (answerItems (answerTo book line))

@@ -1,4 +1,4 @@
-// The answer to a line, written at a place of a buffer with room for it.
+// The text of an answer, written at a place of a buffer with room for it.
 
 use book::PositionAnswer;
 use calendar::DateAnswer;
@@ -12,13 +12,12 @@ use gravity::Guesses;
 use gravity_stored::InjectionAnswer;
 use hour::HourAnswer;
 use launch::SphereAnswer;
-use line_answers::Answer;
-use line_answers::answer_to;
 use line_form::put::Out;
 use line_form::put::end_line;
 use line_form::put::put_floats;
 use line_form::put::put_numbers;
 use line_form::put::put_refused;
+use line_types::Answer;
 use root::RootAnswer;
 use run::Outcome;
 use run::RunAnswer;
@@ -27,7 +26,7 @@ use state::State;
 use text_write::inner::put_bytes;
 ghost use Prim.Native.Nat.{_+_, _≤_};
 ghost use Rattle.line_form.specs.Spelled.{spaced, lineText, Puts};
-ghost use Rattle.line_texts.specs.Text.{rootItems, sineItems, hourItems, dateItems, dayItems, fixedItems, launchedItems, figureItems, conicItems, positionItems, accelerationItems, coordinateItems, stateItems, injectedItems, movedItems, guessItems, outcomeItems, runItems, flownItems, answerItems, answerText};
+ghost use Rattle.line_texts.specs.Text.{rootItems, sineItems, hourItems, dateItems, dayItems, fixedItems, launchedItems, figureItems, conicItems, positionItems, accelerationItems, coordinateItems, stateItems, injectedItems, movedItems, guessItems, outcomeItems, runItems, flownItems, answerItems};
 
 fn put_root(out: &mut Out, at: usize, answer: RootAnswer) -> usize
     requires { ⌜ at + 512 ≤ 65_536 ⌝ }
@@ -259,19 +258,12 @@ fn put_items(out: &mut Out, at: usize, answer: Answer) -> usize
     }
 }
 
-fn put_line(out: &mut Out, at: usize, answer: Answer) -> usize
+// The line of an answer, and the place behind it.
+pub fn put_line(out: &mut Out, at: usize, answer: Answer) -> usize
     requires { ⌜ at + 512 ≤ 65_536 ⌝ }
     ensures { λ r. ⌜ Puts (now (out .entry)) at (lineText (answerItems answer)) (now (out .exit)) 1 512 r ⌝ }
 {
     let end = put_items(out, at, answer);
     end_line(out, end);
     end
-}
-
-// The line that answers a line, and the place behind it.
-pub fn put_answer(book: &[u8], line: &[u8], out: &mut Out, at: usize) -> usize
-    requires { ⌜ at + 512 ≤ 65_536 ⌝ }
-    ensures { λ r. ⌜ Puts (now (out .entry)) at (answerText (now (book .entry)) (now (line .entry))) (now (out .exit)) 1 512 r ⌝ }
-{
-    put_line(out, at, answer_to(book, line))
 }

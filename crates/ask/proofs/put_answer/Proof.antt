@@ -1,7 +1,7 @@
--- `line_texts::inner::put_answer` meets its contract. Assumes nothing.
+-- `ask::put_answer` meets its contract. Assumes nothing.
 use borrow.Author.Needs.{needs}
-use Rattle.line_texts.proofs.inner.put_answer.Statement.{statement}
-use Rattle.line_texts.proofs.inner.put_answer.Tie as tie
+use Rattle.ask.proofs.put_answer.Statement.{statement}
+use Rattle.ask.proofs.put_answer.Tie as tie
 
 returns : tie.Need-returns
 returns c = rw (← c .before .answer-to .ensures) (c .put-line .ensures)
