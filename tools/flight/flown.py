@@ -47,7 +47,9 @@ def below(x, y, z):
 
 def ground(command, flight, dut, times):
     """Geocentric latitude and eastward longitude of the point below the craft, in degrees, from Earth-fixed coordinates; (None, None)
-    if there are none."""
+    if there are none, or no command to ask."""
+    if not command:
+        return {after: (None, None) for after in times}
     answers = asked(command, [f'turn 0 {dut} {flight.lines[after]}{STILL}' for after in times])
     return {after: below(*answer[:3]) if answer else (None, None) for after, answer in zip(times, answers)}
 
