@@ -2,11 +2,6 @@
 
 use std::process::ExitCode;
 
-/// A limit that differs between processors: what was measured on each, where what was wanted did not come out.
-pub fn by_machine(x86_64: f64, others: f64) -> f64 {
-    if cfg!(target_arch = "x86_64") { x86_64 } else { others }
-}
-
 /// Whether a ratio is too great. It is compared as it is printed, with two decimals.
 #[derive(Default)]
 pub struct Asked {

@@ -5,7 +5,7 @@ use reference::extras::Extras;
 use reference::rule::{Setting, State};
 use reference::strip::{read_order, Order};
 
-use crate::asked::{by_machine, Asked};
+use crate::asked::Asked;
 use crate::books::preceded;
 use crate::clock::Rounds;
 use crate::flight::{timed, Flight, DAY, H, THIRTY_DAYS};
@@ -84,7 +84,7 @@ pub fn table(given: &Given, times: u32) -> Result<Asked, String> {
     let flights = [
         ("with Moon and Sun", given.evening(), 1.06),
         (back.as_str(), given.at_the_back(), 0.32),
-        ("with all five bodies", given.with_all_five(), by_machine(1.45, 1.07)),
+        ("with all five bodies", given.with_all_five(), 0.87),
         ("with Moon and Sun, J, A and K", given.with_terms(), 1.10),
         ("about the Moon, with Earth and Sun", given.about_the_moon(), 1.10),
     ];
