@@ -17,24 +17,24 @@
      belfry_day                     208       200
      belfry_twice_julian_date        16         8
      belfry_hour_angle               16        16
-     belfry_sidereal                 16        64
+     belfry_sidereal                 16        56
      belfry_root                     16         8
      belfry_sine_cosine              16         8
      belfry_book_passes              48        88
      belfry_book_holds               80       136
      belfry_position                 80       120
      belfry_repair                10336     10360
-     belfry_acceleration           1712      1936
-     belfry_run                    3632      3904
-     belfry_single_step            3632      3904
+     belfry_acceleration           1792      2080
+     belfry_run                    3840      4272
+     belfry_single_step            3840      4272
      belfry_earth_fixed             224       200
-     belfry_from_sphere             368       264
+     belfry_from_sphere             368       280
      belfry_conic                   120       232
-     belfry_pull                   1936      2088
-     belfry_inject                 1856      2024
-     belfry_move                   2032      2200
-     belfry_fly                    3328      3544
-     belfry_turn                     16       128
+     belfry_pull                   1904      2168
+     belfry_inject                 1840      2088
+     belfry_move                   2016      2264
+     belfry_fly                    3376      3800
+     belfry_turn                     16       136
      belfry_orbit                   128       232
      belfry_clear                    16         8
      belfry_take                     16        56
