@@ -297,7 +297,7 @@ pub fn acceleration_by(
     AccelerationAnswer::Refused(bodies.refusal)
 }
 
-// The same without known roots. All roots are computed side by side: three, or six if more than two other bodies are
+// The same without known roots. All roots are computed side by side: three, or six if one of the last three bodies is
 // used.
 pub fn acceleration_under(bodies: Sights, setting: Setting, p: Vector) -> AccelerationAnswer
     ensures { λ r. ⌜ r ≡ accelerationBy bodies setting p ⌝ }
