@@ -8,14 +8,14 @@ use Rattle.base.specs.contracts.both as both
 use Rattle.base.specs.contracts.is_finite as is_finite
 use Rattle.base.specs.contracts.unless as unless
 
-pub both_answers_once : OneAnswer both.ended (λ M. both.clauses)
+pub both_answers_once : OneAnswer both.ended (λ M 𝓤 𝓛. both.clauses 𝓛)
 both_answers_once =
     one_answer (λ κs inputs. (inputs.0 && inputs.1.0)) (λ M 𝓤 𝓛 mem run κs inputs g r after. refl)
 
-pub is_finite_answers_once : OneAnswer is_finite.ended (λ M. is_finite.clauses)
+pub is_finite_answers_once : OneAnswer is_finite.ended (λ M 𝓤 𝓛. is_finite.clauses 𝓛)
 is_finite_answers_once =
     one_answer (λ κs inputs. finite inputs.0) (λ M 𝓤 𝓛 mem run κs inputs g r after. refl)
 
-pub unless_answers_once : OneAnswer unless.ended (λ M. unless.clauses)
+pub unless_answers_once : OneAnswer unless.ended (λ M 𝓤 𝓛. unless.clauses 𝓛)
 unless_answers_once =
     one_answer (λ κs inputs. (if not inputs.0 then inputs.1.0 else inputs.1.1.0)) (λ M 𝓤 𝓛 mem run κs inputs g r after. refl)

@@ -12,32 +12,32 @@ use Rattle.c_pane.specs.contracts.pane_of as pane_of
 use Rattle.c_pane.specs.contracts.places_in as places_in
 use Rattle.c_pane.specs.contracts.shown_at as shown_at
 
-pub flown_to_answers_once : OneAnswer flown_to.ended (λ M. flown_to.clauses)
+pub flown_to_answers_once : OneAnswer flown_to.ended (λ M 𝓤 𝓛. flown_to.clauses 𝓛)
 flown_to_answers_once =
     one_answer (λ κs inputs. flown_to inputs.0 inputs.1.0) (λ M 𝓤 𝓛 mem run κs inputs g r after. refl)
 
 abbrev tell_keep : Tell keep.ended (λ κs. Handed Kept)
 tell_keep κs r after = handed r (kept_in after.1.0.now after.1.1.0.now)
 
-pub keep_answers_once : OneOutcome keep.ended (λ M. keep.clauses) (λ κs. Handed Kept) tell_keep
+pub keep_answers_once : OneOutcome keep.ended (λ M 𝓤 𝓛. keep.clauses 𝓛) (λ κs. Handed Kept) tell_keep
 keep_answers_once =
     one_outcome (λ κs. Handed Kept) tell_keep
     (λ κs inputs. left (kept_in inputs.1.0.now inputs.1.1.0.now) inputs.0)
     (λ M 𝓤 𝓛 mem run κs inputs g r after. refl)
 
-pub numbers_in_answers_once : OneAnswer numbers_in.ended (λ M. numbers_in.clauses)
+pub numbers_in_answers_once : OneAnswer numbers_in.ended (λ M 𝓤 𝓛. numbers_in.clauses 𝓛)
 numbers_in_answers_once =
     one_answer (λ κs inputs. numbers_in inputs.0) (λ M 𝓤 𝓛 mem run κs inputs g r after. refl)
 
-pub pane_of_answers_once : OneAnswer pane_of.ended (λ M. pane_of.clauses)
+pub pane_of_answers_once : OneAnswer pane_of.ended (λ M 𝓤 𝓛. pane_of.clauses 𝓛)
 pane_of_answers_once =
     one_answer (λ κs inputs. pane_of inputs.0 inputs.1.0) (λ M 𝓤 𝓛 mem run κs inputs g r after. refl)
 
-pub places_in_answers_once : OneAnswer places_in.ended (λ M. places_in.clauses)
+pub places_in_answers_once : OneAnswer places_in.ended (λ M 𝓤 𝓛. places_in.clauses 𝓛)
 places_in_answers_once =
     one_answer (λ κs inputs. places_in inputs.0) (λ M 𝓤 𝓛 mem run κs inputs g r after. refl)
 
-pub shown_at_answers_once : OneAnswer shown_at.ended (λ M. shown_at.clauses)
+pub shown_at_answers_once : OneAnswer shown_at.ended (λ M 𝓤 𝓛. shown_at.clauses 𝓛)
 shown_at_answers_once =
     one_answer
     (λ κs inputs. frame_at (pane_of inputs.0.now inputs.1.0.now) inputs.1.1.0)

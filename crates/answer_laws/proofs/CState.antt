@@ -8,22 +8,22 @@ use Rattle.c_state.specs.contracts.state_of as state_of
 use Rattle.c_state.specs.contracts.unkept_of as unkept_of
 use Rattle.c_state.specs.contracts.vector_of as vector_of
 
-pub injection_of_answers_once : OneAnswer injection_of.ended (λ M. injection_of.clauses)
+pub injection_of_answers_once : OneAnswer injection_of.ended (λ M 𝓤 𝓛. injection_of.clauses 𝓛)
 injection_of_answers_once =
     one_answer (λ κs inputs. injection_of inputs.0 inputs.1.0 inputs.1.1.0) (λ M 𝓤 𝓛 mem run κs inputs g r after. refl)
 
-pub setting_of_answers_once : OneAnswer setting_of.ended (λ M. setting_of.clauses)
+pub setting_of_answers_once : OneAnswer setting_of.ended (λ M 𝓤 𝓛. setting_of.clauses 𝓛)
 setting_of_answers_once =
     one_answer (λ κs inputs. setting_of inputs.0 inputs.1.0 inputs.1.1.0 inputs.1.1.1.0) (λ M 𝓤 𝓛 mem run κs inputs g r after. refl)
 
-pub state_of_answers_once : OneAnswer state_of.ended (λ M. state_of.clauses)
+pub state_of_answers_once : OneAnswer state_of.ended (λ M 𝓤 𝓛. state_of.clauses 𝓛)
 state_of_answers_once =
     one_answer (λ κs inputs. state_of inputs.0 inputs.1.0 inputs.1.1.0) (λ M 𝓤 𝓛 mem run κs inputs g r after. refl)
 
-pub unkept_of_answers_once : OneAnswer unkept_of.ended (λ M. unkept_of.clauses)
+pub unkept_of_answers_once : OneAnswer unkept_of.ended (λ M 𝓤 𝓛. unkept_of.clauses 𝓛)
 unkept_of_answers_once =
     one_answer (λ κs inputs. unkept_of inputs.0 inputs.1.0 inputs.1.1.0) (λ M 𝓤 𝓛 mem run κs inputs g r after. refl)
 
-pub vector_of_answers_once : OneAnswer vector_of.ended (λ M. vector_of.clauses)
+pub vector_of_answers_once : OneAnswer vector_of.ended (λ M 𝓤 𝓛. vector_of.clauses 𝓛)
 vector_of_answers_once =
     one_answer (λ κs inputs. vector_of inputs.0) (λ M 𝓤 𝓛 mem run κs inputs g r after. refl)

@@ -7,18 +7,18 @@ use Rattle.gravity_bodies.specs.contracts.blank_sight as blank_sight
 use Rattle.gravity_bodies.specs.contracts.centre_place as centre_place
 use Rattle.gravity_bodies.specs.contracts.refusal_of as refusal_of
 
-pub beside_answers_once : OneAnswer beside.ended (λ M. beside.clauses)
+pub beside_answers_once : OneAnswer beside.ended (λ M 𝓤 𝓛. beside.clauses 𝓛)
 beside_answers_once =
     one_answer (λ κs inputs. besides inputs.0 inputs.1.0 inputs.1.1.0) (λ M 𝓤 𝓛 mem run κs inputs g r after. refl)
 
-pub blank_sight_answers_once : OneAnswer blank_sight.ended (λ M. blank_sight.clauses)
+pub blank_sight_answers_once : OneAnswer blank_sight.ended (λ M 𝓤 𝓛. blank_sight.clauses 𝓛)
 blank_sight_answers_once =
     one_answer (λ κs inputs. blank inputs.0 inputs.1.0) (λ M 𝓤 𝓛 mem run κs inputs g r after. refl)
 
-pub centre_place_answers_once : OneAnswer centre_place.ended (λ M. centre_place.clauses)
+pub centre_place_answers_once : OneAnswer centre_place.ended (λ M 𝓤 𝓛. centre_place.clauses 𝓛)
 centre_place_answers_once =
     one_answer (λ κs inputs. place_in inputs.1.0 inputs.0) (λ M 𝓤 𝓛 mem run κs inputs g r after. refl)
 
-pub refusal_of_answers_once : OneAnswer refusal_of.ended (λ M. refusal_of.clauses)
+pub refusal_of_answers_once : OneAnswer refusal_of.ended (λ M 𝓤 𝓛. refusal_of.clauses 𝓛)
 refusal_of_answers_once =
     one_answer (λ κs inputs. refusal_in inputs.0) (λ M 𝓤 𝓛 mem run κs inputs g r after. refl)

@@ -4,6 +4,6 @@ use Rattle.launch.specs.Signed.{signed_of}
 use Rattle.base.proofs.OneAnswer.{OneAnswer, one_answer}
 use Rattle.launch.specs.contracts.signed_of as Signed_of
 
-pub signed_of_answers_once : OneAnswer Signed_of.ended (λ M. Signed_of.clauses)
+pub signed_of_answers_once : OneAnswer Signed_of.ended (λ M 𝓤 𝓛. Signed_of.clauses 𝓛)
 signed_of_answers_once =
     one_answer (λ κs inputs. signed_of inputs.0) (λ M 𝓤 𝓛 mem run κs inputs g r after. refl)

@@ -23,7 +23,7 @@ use Rattle.c_run.specs.contracts.hand_back_whole as hand_back_whole
 abbrev tell_pull : Tell pull.ended (λ κs. Handed (List Float))
 tell_pull κs r after = handed r after.1.1.1.1.1.1.1.1.0.now
 
-pub pull_answers_once : OneOutcome pull.ended (λ M. pull.clauses) (λ κs. Handed (List Float)) tell_pull
+pub pull_answers_once : OneOutcome pull.ended (λ M 𝓤 𝓛. pull.clauses 𝓛) (λ κs. Handed (List Float)) tell_pull
 pull_answers_once =
     one_outcome (λ κs. Handed (List Float)) tell_pull
     (λ κs inputs.
@@ -35,7 +35,7 @@ pull_answers_once =
 abbrev tell_inject : Tell inject.ended (λ κs. Handed (List Float))
 tell_inject κs r after = handed r after.1.1.1.1.1.1.1.1.0.now
 
-pub inject_answers_once : OneOutcome inject.ended (λ M. inject.clauses) (λ κs. Handed (List Float)) tell_inject
+pub inject_answers_once : OneOutcome inject.ended (λ M 𝓤 𝓛. inject.clauses 𝓛) (λ κs. Handed (List Float)) tell_inject
 inject_answers_once =
     one_outcome (λ κs. Handed (List Float)) tell_inject
     (λ κs inputs.
@@ -47,7 +47,7 @@ inject_answers_once =
 abbrev tell_turned : Tell turned.ended (λ κs. Handed (List Float))
 tell_turned κs r after = handed r after.1.1.1.1.1.0.now
 
-pub turned_answers_once : OneOutcome turned.ended (λ M. turned.clauses) (λ κs. Handed (List Float)) tell_turned
+pub turned_answers_once : OneOutcome turned.ended (λ M 𝓤 𝓛. turned.clauses 𝓛) (λ κs. Handed (List Float)) tell_turned
 turned_answers_once =
     one_outcome (λ κs. Handed (List Float)) tell_turned
     (λ κs inputs.
@@ -58,7 +58,7 @@ turned_answers_once =
 abbrev tell_orbit : Tell orbit.ended (λ κs. Handed Both)
 tell_orbit κs r after = handed r (both_in after.1.1.1.1.0.now after.1.1.1.1.1.0.now)
 
-pub orbit_answers_once : OneOutcome orbit.ended (λ M. orbit.clauses) (λ κs. Handed Both) tell_orbit
+pub orbit_answers_once : OneOutcome orbit.ended (λ M 𝓤 𝓛. orbit.clauses 𝓛) (λ κs. Handed Both) tell_orbit
 orbit_answers_once =
     one_outcome (λ κs. Handed Both) tell_orbit
     (λ κs inputs.
@@ -69,13 +69,13 @@ orbit_answers_once =
 abbrev tell_run : Tell hand_back.ended (λ κs. RunMemory)
 tell_run κs r after = let out = after.1 in run_memory r out.0.now out.1.0.now out.1.1.0.now out.1.1.1.0.now
 
-pub hand_back_answers_once : OneOutcome hand_back.ended (λ M. hand_back.clauses) (λ κs. RunMemory) tell_run
+pub hand_back_answers_once : OneOutcome hand_back.ended (λ M 𝓤 𝓛. hand_back.clauses 𝓛) (λ κs. RunMemory) tell_run
 hand_back_answers_once =
     one_outcome (λ κs. RunMemory) tell_run (λ κs inputs. of_run inputs.0) (λ M 𝓤 𝓛 mem run κs inputs g r after. refl)
 
 abbrev tell_flight : Tell hand_back_whole.ended (λ κs. RunMemory)
 tell_flight κs r after = let out = after.1 in run_memory r out.0.now out.1.0.now out.1.1.0.now out.1.1.1.0.now
 
-pub hand_back_whole_answers_once : OneOutcome hand_back_whole.ended (λ M. hand_back_whole.clauses) (λ κs. RunMemory) tell_flight
+pub hand_back_whole_answers_once : OneOutcome hand_back_whole.ended (λ M 𝓤 𝓛. hand_back_whole.clauses 𝓛) (λ κs. RunMemory) tell_flight
 hand_back_whole_answers_once =
     one_outcome (λ κs. RunMemory) tell_flight (λ κs inputs. of_flight inputs.0) (λ M 𝓤 𝓛 mem run κs inputs g r after. refl)

@@ -5,10 +5,10 @@ use Rattle.base.proofs.OneAnswer.{OneAnswer, one_answer}
 use Rattle.pane_live.specs.contracts.after as after
 use Rattle.pane_live.specs.contracts.clear as clear
 
-pub after_answers_once : OneAnswer after.ended (λ M. after.clauses)
+pub after_answers_once : OneAnswer after.ended (λ M 𝓤 𝓛. after.clauses 𝓛)
 after_answers_once =
     one_answer (λ κs inputs. after inputs.0 inputs.1.0) (λ M 𝓤 𝓛 mem run κs inputs g r after. refl)
 
-pub clear_answers_once : OneAnswer clear.ended (λ M. clear.clauses)
+pub clear_answers_once : OneAnswer clear.ended (λ M 𝓤 𝓛. clear.clauses 𝓛)
 clear_answers_once =
     one_answer (λ κs inputs. clear) (λ M 𝓤 𝓛 mem run κs inputs g r after. refl)

@@ -4,6 +4,6 @@ use Rattle.run_checks.specs.Start.{start_refusal}
 use Rattle.base.proofs.OneAnswer.{OneAnswer, one_answer}
 use Rattle.run_checks.specs.contracts.start_refusal as start_refusal
 
-pub start_refusal_answers_once : OneAnswer start_refusal.ended (λ M. start_refusal.clauses)
+pub start_refusal_answers_once : OneAnswer start_refusal.ended (λ M 𝓤 𝓛. start_refusal.clauses 𝓛)
 start_refusal_answers_once =
     one_answer (λ κs inputs. start_refusal inputs.0.now inputs.1.0 inputs.1.1.0 inputs.1.1.1.0 inputs.1.1.1.1.0) (λ M 𝓤 𝓛 mem run κs inputs g r after. refl)

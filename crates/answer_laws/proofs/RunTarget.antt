@@ -4,6 +4,6 @@ use Rattle.run_target.specs.Target.{target_refusal}
 use Rattle.base.proofs.OneAnswer.{OneAnswer, one_answer}
 use Rattle.run_target.specs.contracts.target_refusal as target_refusal
 
-pub target_refusal_answers_once : OneAnswer target_refusal.ended (λ M. target_refusal.clauses)
+pub target_refusal_answers_once : OneAnswer target_refusal.ended (λ M 𝓤 𝓛. target_refusal.clauses 𝓛)
 target_refusal_answers_once =
     one_answer (λ κs inputs. target_refusal inputs.0 inputs.1.0 inputs.1.1.0) (λ M 𝓤 𝓛 mem run κs inputs g r after. refl)

@@ -8,22 +8,22 @@ use Rattle.state_tests.specs.contracts.earth_is_allowed as earth_is_allowed
 use Rattle.state_tests.specs.contracts.is_body as is_Is_body
 use Rattle.state_tests.specs.contracts.is_looked_up as is_looked_up
 
-pub bits_agree_answers_once : OneAnswer bits_agree.ended (λ M. bits_agree.clauses)
+pub bits_agree_answers_once : OneAnswer bits_agree.ended (λ M 𝓤 𝓛. bits_agree.clauses 𝓛)
 bits_agree_answers_once =
     one_answer (λ κs inputs. same_bits inputs.0 inputs.1.0) (λ M 𝓤 𝓛 mem run κs inputs g r after. refl)
 
-pub coefficient_is_allowed_answers_once : OneAnswer coefficient_is_allowed.ended (λ M. coefficient_is_allowed.clauses)
+pub coefficient_is_allowed_answers_once : OneAnswer coefficient_is_allowed.ended (λ M 𝓤 𝓛. coefficient_is_allowed.clauses 𝓛)
 coefficient_is_allowed_answers_once =
     one_answer (λ κs inputs. coefficient_allowed inputs.0) (λ M 𝓤 𝓛 mem run κs inputs g r after. refl)
 
-pub earth_is_allowed_answers_once : OneAnswer earth_is_allowed.ended (λ M. earth_is_allowed.clauses)
+pub earth_is_allowed_answers_once : OneAnswer earth_is_allowed.ended (λ M 𝓤 𝓛. earth_is_allowed.clauses 𝓛)
 earth_is_allowed_answers_once =
     one_answer (λ κs inputs. earth_allowed inputs.0) (λ M 𝓤 𝓛 mem run κs inputs g r after. refl)
 
-pub is_body_answers_once : OneAnswer is_Is_body.ended (λ M. is_Is_body.clauses)
+pub is_body_answers_once : OneAnswer is_Is_body.ended (λ M 𝓤 𝓛. is_Is_body.clauses 𝓛)
 is_body_answers_once =
     one_answer (λ κs inputs. is_body inputs.0) (λ M 𝓤 𝓛 mem run κs inputs g r after. refl)
 
-pub is_looked_up_answers_once : OneAnswer is_looked_up.ended (λ M. is_looked_up.clauses)
+pub is_looked_up_answers_once : OneAnswer is_looked_up.ended (λ M 𝓤 𝓛. is_looked_up.clauses 𝓛)
 is_looked_up_answers_once =
     one_answer (λ κs inputs. looked_up inputs.0 inputs.1.0) (λ M 𝓤 𝓛 mem run κs inputs g r after. refl)

@@ -2,6 +2,8 @@
 // the file of the book. Without one the book has no bytes. The text that it writes for a line is the definition
 // `answer_text`.
 
+#![tactic(auto)]
+
 ghost use Rattle.std.specs.Prelude.{◌+◌, ◌≤◌, length};
 ghost use Rattle.line_form.specs.Spelled.{Puts};
 ghost use Rattle.ask.specs.Text.{answer_text};

@@ -1,5 +1,7 @@
 // What every crate above shares: the limits of time, and the test for a finite float.
 
+#![tactic(auto)]
+
 ghost use Rattle.std.specs.Prelude.{◌≡◌, not, ◌&&◌};
 ghost use Rattle.std.specs.Float.Ieee.Scale.{finite};
 ghost use Rattle.base.specs.Choice.{if◌then◌else◌};

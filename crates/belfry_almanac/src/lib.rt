@@ -2,6 +2,8 @@
 // of a book and the position of a body. They take numbers and the caller's memory. Each returns 0 if the input is
 // accepted, else the refusal number.
 
+#![tactic(auto)]
+
 ghost use Rattle.std.specs.Prelude.{◌≡◌};
 ghost use Rattle.base.specs.Choice.{if◌then◌else◌};
 ghost use Rattle.calendar.specs.Answers.{date_answer, day_answer, julian_answer};

@@ -11,7 +11,7 @@ use Rattle.belfry_book.specs.contracts.belfry_book_holds as belfry_book_holds
 abbrev tell_holds : Tell belfry_book_holds.ended (λ κs. Handed ℕ)
 tell_holds κs r after = handed r after.1.1.0.now
 
-pub belfry_book_holds_answers_once : OneOutcome belfry_book_holds.ended (λ M. belfry_book_holds.clauses) (λ κs. Handed ℕ) tell_holds
+pub belfry_book_holds_answers_once : OneOutcome belfry_book_holds.ended (λ M 𝓤 𝓛. belfry_book_holds.clauses 𝓛) (λ κs. Handed ℕ) tell_holds
 belfry_book_holds_answers_once =
     one_outcome (λ κs. Handed ℕ) tell_holds
     (λ κs inputs. of_holds inputs.1.1.0.now (holds_answer inputs.0.now inputs.1.0.now))

@@ -1,6 +1,8 @@
 // Whether a second book is fuller than a first one, for C and Rust. Returns 0 if the second holds every entry of the
 // first and 104 if not. Returns 1 if one of the two does not pass.
 
+#![tactic(auto)]
+
 ghost use Rattle.std.specs.Prelude.{◌≡◌};
 ghost use Rattle.book_holds.specs.Answer.{holds_answer};
 ghost use Rattle.c_answer.specs.Handed.{handed};

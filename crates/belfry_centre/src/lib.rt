@@ -2,6 +2,8 @@
 // and the caller's memory. Each returns 0 if the input is accepted, else the refusal number. A run that is still
 // going returns 100.
 
+#![tactic(auto)]
+
 ghost use Rattle.std.specs.Prelude.{◌≡◌};
 ghost use Rattle.gravity.specs.Acceleration.{acceleration_answer};
 ghost use Rattle.gravity_stored.specs.Injection.{injection_answer};

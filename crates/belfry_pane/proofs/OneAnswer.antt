@@ -17,14 +17,14 @@ use Rattle.belfry_pane.specs.contracts.belfry_frame_motion as motion_call
 abbrev tell_clear : Tell clear_call.ended (λ κs. Handed Kept)
 tell_clear κs r after = handed r (kept_in after.0.now after.1.0.now)
 
-pub clear_answers_once : OneOutcome clear_call.ended (λ M. clear_call.clauses) (λ κs. Handed Kept) tell_clear
+pub clear_answers_once : OneOutcome clear_call.ended (λ M 𝓤 𝓛. clear_call.clauses 𝓛) (λ κs. Handed Kept) tell_clear
 clear_answers_once =
     one_outcome (λ κs. Handed Kept) tell_clear (λ κs inputs. handed 0 (pane_in clear)) (λ M 𝓤 𝓛 mem run κs inputs g r after. refl)
 
 abbrev tell_take : Tell take_call.ended (λ κs. Handed Kept)
 tell_take κs r after = handed r (kept_in after.1.1.1.0.now after.1.1.1.1.0.now)
 
-pub take_answers_once : OneOutcome take_call.ended (λ M. take_call.clauses) (λ κs. Handed Kept) tell_take
+pub take_answers_once : OneOutcome take_call.ended (λ M 𝓤 𝓛. take_call.clauses 𝓛) (λ κs. Handed Kept) tell_take
 take_answers_once =
     one_outcome (λ κs. Handed Kept) tell_take
     (λ κs inputs.
@@ -36,7 +36,7 @@ take_answers_once =
 abbrev tell_feed : Tell feed_call.ended (λ κs. Handed Kept)
 tell_feed κs r after = handed r (kept_in after.1.1.1.1.0.now after.1.1.1.1.1.0.now)
 
-pub feed_answers_once : OneOutcome feed_call.ended (λ M. feed_call.clauses) (λ κs. Handed Kept) tell_feed
+pub feed_answers_once : OneOutcome feed_call.ended (λ M 𝓤 𝓛. feed_call.clauses 𝓛) (λ κs. Handed Kept) tell_feed
 feed_answers_once =
     one_outcome (λ κs. Handed Kept) tell_feed
     (λ κs inputs.
@@ -49,7 +49,7 @@ feed_answers_once =
 abbrev tell_frame : Tell frame_call.ended (λ κs. FrameMemory)
 tell_frame κs r after = framed r after.1.1.1.0.now after.1.1.1.1.0.now
 
-pub frame_answers_once : OneOutcome frame_call.ended (λ M. frame_call.clauses) (λ κs. FrameMemory) tell_frame
+pub frame_answers_once : OneOutcome frame_call.ended (λ M 𝓤 𝓛. frame_call.clauses 𝓛) (λ κs. FrameMemory) tell_frame
 frame_answers_once =
     one_outcome (λ κs. FrameMemory) tell_frame
     (λ κs inputs. of_frame (frame_at (pane_of inputs.0.now inputs.1.0.now) inputs.1.1.0))
@@ -58,7 +58,7 @@ frame_answers_once =
 abbrev tell_motion : Tell motion_call.ended (λ κs. MotionMemory)
 tell_motion κs r after = in_motion r after.1.1.1.0.now after.1.1.1.1.0.now
 
-pub motion_answers_once : OneOutcome motion_call.ended (λ M. motion_call.clauses) (λ κs. MotionMemory) tell_motion
+pub motion_answers_once : OneOutcome motion_call.ended (λ M 𝓤 𝓛. motion_call.clauses 𝓛) (λ κs. MotionMemory) tell_motion
 motion_answers_once =
     one_outcome (λ κs. MotionMemory) tell_motion
     (λ κs inputs. of_motion (motion_at (pane_of inputs.0.now inputs.1.0.now) inputs.1.1.0))

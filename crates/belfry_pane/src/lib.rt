@@ -2,6 +2,8 @@
 // states, then moment and centre of the older and of the newer. The second has the nine coordinates of each. Memory
 // of zeros is an empty pane.
 
+#![tactic(auto)]
+
 mod frames;
 mod moving;
 

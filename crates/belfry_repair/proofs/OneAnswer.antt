@@ -9,7 +9,7 @@ use Rattle.belfry_repair.specs.contracts.belfry_repair as belfry_repair
 abbrev tell_repair : Tell belfry_repair.ended (λ κs. RepairMemory)
 tell_repair κs r after = repair_memory r after.1.0.now after.1.1.0.now after.1.1.1.0.now
 
-pub belfry_repair_answers_once : OneOutcome belfry_repair.ended (λ M. belfry_repair.clauses) (λ κs. RepairMemory) tell_repair
+pub belfry_repair_answers_once : OneOutcome belfry_repair.ended (λ M 𝓤 𝓛. belfry_repair.clauses 𝓛) (λ κs. RepairMemory) tell_repair
 belfry_repair_answers_once =
     one_outcome (λ κs. RepairMemory) tell_repair
     (λ κs inputs. of_repair inputs.1.1.1.0.now (repair_outcome inputs.0.now inputs.1.0.now inputs.1.1.0.now))

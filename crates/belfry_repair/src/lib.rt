@@ -1,6 +1,8 @@
 // The repair of a damaged book for C and Rust, in the caller's memory. Returns 0 if a book was written, else the
 // refusal number.
 
+#![tactic(auto)]
+
 ghost use Rattle.std.specs.Prelude.{◌≡◌};
 ghost use Rattle.repair_book.specs.Repaired.{repair_outcome};
 ghost use Rattle.belfry_repair.specs.Lent.{mark_of, report_in, repair_memory, of_repair};

@@ -21,7 +21,7 @@ use book_series::inner::{argument_at, series_at, slopes_at, two_series_at};
 use book_series::{Place, TwoPlaces, Velocity};
 
 // What is read from an entry for a moment: the place of its block, the number of floats for an axis, w and L.
-#[derive(Drop)]
+#[derive(Clone, Copy)]
 pub struct Reading {
     pub offset: usize,
     pub n: usize,

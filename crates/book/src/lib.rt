@@ -1,5 +1,7 @@
 // The ephemeris book: its check, the lookup of a body's entry, and the position and velocity of a body.
 
+#![tactic(auto)]
+
 mod calm;
 pub mod inner;
 
@@ -16,13 +18,13 @@ pub use book_series::{Place, Velocity};
 pub const LONGEST_BOOK: usize = 61_440;
 
 // The position of a body, in km from the Earth, and (02, R-5) its velocity, in km/s.
-#[derive(Drop)]
+#[derive(Clone, Copy)]
 pub struct Motion {
     pub place: Place,
     pub velocity: Velocity,
 }
 
-#[derive(Drop)]
+#[derive(Clone, Copy)]
 pub enum PositionAnswer {
     At(Motion),
     Refused(u64),

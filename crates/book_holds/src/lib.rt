@@ -1,6 +1,8 @@
 // Whether a second book holds every entry of a first one with the same coefficients (02, R-12). Both books are in
 // order, so one walk through the two decides it.
 
+#![tactic(auto)]
+
 mod entry;
 
 ghost use Rattle.std.specs.Prelude.{true, ◌≡◌};
@@ -12,7 +14,7 @@ use base_bytes::inner::u32_at;
 use book::book_passes;
 
 // Missing: the first entry of the first book that the second does not hold, counted from 0.
-#[derive(Drop)]
+#[derive(Clone, Copy)]
 pub enum HoldsAnswer {
     Held,
     Missing(usize),

@@ -1,1 +1,3 @@
 // Laws only: a fuller book never changes a figure (02, R-12).
+
+#![tactic(auto)]

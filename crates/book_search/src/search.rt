@@ -11,7 +11,7 @@ use crate::Lookup;
 use base_bytes::inner::{u16_at, u64_at};
 
 // Where a body and a moment are relative to an entry, in the order of the contents.
-#[derive(Drop)]
+#[derive(Clone, Copy)]
 pub enum Stand {
     Past,
     Covered,

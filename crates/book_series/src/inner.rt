@@ -11,7 +11,7 @@ use crate::{Place, TwoPlaces, Velocity};
 use base_bytes::inner::float_at;
 
 // One axis of the series: b(k), b(k+1) of its value and d(k), d(k+1) of its slope.
-#[derive(Drop)]
+#[derive(Clone, Copy)]
 pub struct Axis {
     pub here: f64,
     pub next: f64,
@@ -20,7 +20,7 @@ pub struct Axis {
 }
 
 // The running sums of one body: b(k) of each axis, and b(k+1) with a 1 in the name.
-#[derive(Drop)]
+#[derive(Clone, Copy)]
 pub struct Sums {
     pub x: f64,
     pub x1: f64,

@@ -1,8 +1,10 @@
 // The Chebyshev series of an entry of a book: the position of its body, and its velocity.
 
+#![tactic(auto)]
+
 pub mod inner;
 
-#[derive(Drop)]
+#[derive(Clone, Copy)]
 pub struct Place {
     pub x: f64,
     pub y: f64,
@@ -10,13 +12,13 @@ pub struct Place {
 }
 
 // The positions of two bodies at one moment.
-#[derive(Drop)]
+#[derive(Clone, Copy)]
 pub struct TwoPlaces {
     pub first: Place,
     pub second: Place,
 }
 
-#[derive(Drop)]
+#[derive(Clone, Copy)]
 pub struct Velocity {
     pub x: f64,
     pub y: f64,

@@ -1,5 +1,7 @@
 // The figures of a conic, from numbers and in the caller's memory.
 
+#![tactic(auto)]
+
 ghost use Rattle.std.specs.Prelude.{◌≡◌};
 ghost use Rattle.conic.specs.Conic.{conic_answer};
 ghost use Rattle.c_answer.specs.Handed.{handed, answered};

@@ -1,5 +1,7 @@
 // The Earth-fixed call, and the numbers of an injection as launch crews speak it, in the caller's memory.
 
+#![tactic(auto)]
+
 ghost use Rattle.std.specs.Prelude.{◌≡◌};
 ghost use Rattle.earth_fixed.specs.Fixed.{fixed_answer};
 ghost use Rattle.c_answer.specs.Handed.{handed, answered};

@@ -1,5 +1,7 @@
 // The acceleration and the injection, from numbers and in the caller's memory.
 
+#![tactic(auto)]
+
 ghost use Rattle.std.specs.Prelude.{◌≡◌};
 ghost use Rattle.gravity.specs.Acceleration.{acceleration_answer};
 ghost use Rattle.gravity_stored.specs.Injection.{injection_answer};

@@ -50,7 +50,7 @@ use Rattle.belfry_earth.specs.contracts.belfry_conic as conic
 abbrev tell_date : Tell date.ended (λ κs. Handed (List ℕ))
 tell_date κs r after = handed r after.1.0.now
 
-pub date_answers_once : OneOutcome date.ended (λ M. date.clauses) (λ κs. Handed (List ℕ)) tell_date
+pub date_answers_once : OneOutcome date.ended (λ M 𝓤 𝓛. date.clauses 𝓛) (λ κs. Handed (List ℕ)) tell_date
 date_answers_once =
     one_outcome (λ κs. Handed (List ℕ)) tell_date
     (λ κs inputs. answered inputs.1.0.now (of_date (date_answer inputs.0)))
@@ -59,7 +59,7 @@ date_answers_once =
 abbrev tell_day : Tell day.ended (λ κs. Handed (ℕ))
 tell_day κs r after = handed r after.1.1.1.0.now
 
-pub day_answers_once : OneOutcome day.ended (λ M. day.clauses) (λ κs. Handed (ℕ)) tell_day
+pub day_answers_once : OneOutcome day.ended (λ M 𝓤 𝓛. day.clauses 𝓛) (λ κs. Handed (ℕ)) tell_day
 day_answers_once =
     one_outcome (λ κs. Handed (ℕ)) tell_day
     (λ κs inputs. answered inputs.1.1.1.0.now (of_day (day_answer inputs.0 inputs.1.0 inputs.1.1.0)))
@@ -68,7 +68,7 @@ day_answers_once =
 abbrev tell_twice_julian_date : Tell twice_julian_date.ended (λ κs. Handed (ℕ))
 tell_twice_julian_date κs r after = handed r after.1.0.now
 
-pub twice_julian_date_answers_once : OneOutcome twice_julian_date.ended (λ M. twice_julian_date.clauses) (λ κs. Handed (ℕ)) tell_twice_julian_date
+pub twice_julian_date_answers_once : OneOutcome twice_julian_date.ended (λ M 𝓤 𝓛. twice_julian_date.clauses 𝓛) (λ κs. Handed (ℕ)) tell_twice_julian_date
 twice_julian_date_answers_once =
     one_outcome (λ κs. Handed (ℕ)) tell_twice_julian_date
     (λ κs inputs. answered inputs.1.0.now (of_julian (julian_answer inputs.0)))
@@ -77,7 +77,7 @@ twice_julian_date_answers_once =
 abbrev tell_hour_angle : Tell hour_angle.ended (λ κs. Handed (ℕ))
 tell_hour_angle κs r after = handed r after.1.1.0.now
 
-pub hour_angle_answers_once : OneOutcome hour_angle.ended (λ M. hour_angle.clauses) (λ κs. Handed (ℕ)) tell_hour_angle
+pub hour_angle_answers_once : OneOutcome hour_angle.ended (λ M 𝓤 𝓛. hour_angle.clauses 𝓛) (λ κs. Handed (ℕ)) tell_hour_angle
 hour_angle_answers_once =
     one_outcome (λ κs. Handed (ℕ)) tell_hour_angle
     (λ κs inputs. answered inputs.1.1.0.now (of_hour (hour_answer inputs.0 inputs.1.0)))
@@ -86,7 +86,7 @@ hour_angle_answers_once =
 abbrev tell_root : Tell root.ended (λ κs. Handed (Float))
 tell_root κs r after = handed r after.1.0.now
 
-pub root_answers_once : OneOutcome root.ended (λ M. root.clauses) (λ κs. Handed (Float)) tell_root
+pub root_answers_once : OneOutcome root.ended (λ M 𝓤 𝓛. root.clauses 𝓛) (λ κs. Handed (Float)) tell_root
 root_answers_once =
     one_outcome (λ κs. Handed (Float)) tell_root
     (λ κs inputs. answered inputs.1.0.now (of_root (root_answer inputs.0)))
@@ -95,7 +95,7 @@ root_answers_once =
 abbrev tell_sine_cosine : Tell sine_cosine.ended (λ κs. Handed (List Float))
 tell_sine_cosine κs r after = handed r after.1.0.now
 
-pub sine_cosine_answers_once : OneOutcome sine_cosine.ended (λ M. sine_cosine.clauses) (λ κs. Handed (List Float)) tell_sine_cosine
+pub sine_cosine_answers_once : OneOutcome sine_cosine.ended (λ M 𝓤 𝓛. sine_cosine.clauses 𝓛) (λ κs. Handed (List Float)) tell_sine_cosine
 sine_cosine_answers_once =
     one_outcome (λ κs. Handed (List Float)) tell_sine_cosine
     (λ κs inputs. answered inputs.1.0.now (of_sine_cosine (sine_cosine_answer inputs.0)))
@@ -104,7 +104,7 @@ sine_cosine_answers_once =
 abbrev tell_position : Tell position.ended (λ κs. Handed (List Float))
 tell_position κs r after = handed r after.1.1.1.0.now
 
-pub position_answers_once : OneOutcome position.ended (λ M. position.clauses) (λ κs. Handed (List Float)) tell_position
+pub position_answers_once : OneOutcome position.ended (λ M 𝓤 𝓛. position.clauses 𝓛) (λ κs. Handed (List Float)) tell_position
 position_answers_once =
     one_outcome (λ κs. Handed (List Float)) tell_position
     (λ κs inputs. answered inputs.1.1.1.0.now (of_position (position_answer inputs.0.now inputs.1.0 inputs.1.1.0)))
@@ -113,7 +113,7 @@ position_answers_once =
 abbrev tell_acceleration : Tell acceleration.ended (λ κs. Handed (List Float))
 tell_acceleration κs r after = handed r after.1.1.1.1.1.0.now
 
-pub acceleration_answers_once : OneOutcome acceleration.ended (λ M. acceleration.clauses) (λ κs. Handed (List Float)) tell_acceleration
+pub acceleration_answers_once : OneOutcome acceleration.ended (λ M 𝓤 𝓛. acceleration.clauses 𝓛) (λ κs. Handed (List Float)) tell_acceleration
 acceleration_answers_once =
     one_outcome (λ κs. Handed (List Float)) tell_acceleration
     (λ κs inputs. answered inputs.1.1.1.1.1.0.now
@@ -123,7 +123,7 @@ acceleration_answers_once =
 abbrev tell_from_sphere : Tell from_sphere.ended (λ κs. Handed (List Float))
 tell_from_sphere κs r after = handed r after.1.1.1.1.1.0.now
 
-pub from_sphere_answers_once : OneOutcome from_sphere.ended (λ M. from_sphere.clauses) (λ κs. Handed (List Float)) tell_from_sphere
+pub from_sphere_answers_once : OneOutcome from_sphere.ended (λ M 𝓤 𝓛. from_sphere.clauses 𝓛) (λ κs. Handed (List Float)) tell_from_sphere
 from_sphere_answers_once =
     one_outcome (λ κs. Handed (List Float)) tell_from_sphere
     (λ κs inputs. answered inputs.1.1.1.1.1.0.now (of_sphere (sphere_answer (sphere_of inputs.1.1.1.0.now inputs.1.1.1.1.0.now) inputs.0 inputs.1.0 inputs.1.1.0)))
@@ -132,7 +132,7 @@ from_sphere_answers_once =
 abbrev tell_earth_fixed : Tell earth_fixed.ended (λ κs. Handed (List Float))
 tell_earth_fixed κs r after = handed r after.1.1.1.0.now
 
-pub earth_fixed_answers_once : OneOutcome earth_fixed.ended (λ M. earth_fixed.clauses) (λ κs. Handed (List Float)) tell_earth_fixed
+pub earth_fixed_answers_once : OneOutcome earth_fixed.ended (λ M 𝓤 𝓛. earth_fixed.clauses 𝓛) (λ κs. Handed (List Float)) tell_earth_fixed
 earth_fixed_answers_once =
     one_outcome (λ κs. Handed (List Float)) tell_earth_fixed
     (λ κs inputs. answered inputs.1.1.1.0.now (of_fixed (fixed_answer 0 inputs.1.1.0 (unkept_of inputs.0 1 inputs.1.0.now))))
@@ -141,7 +141,7 @@ earth_fixed_answers_once =
 abbrev tell_sidereal : Tell sidereal.ended (λ κs. Handed (ℕ))
 tell_sidereal κs r after = handed r after.1.1.1.0.now
 
-pub sidereal_answers_once : OneOutcome sidereal.ended (λ M. sidereal.clauses) (λ κs. Handed (ℕ)) tell_sidereal
+pub sidereal_answers_once : OneOutcome sidereal.ended (λ M 𝓤 𝓛. sidereal.clauses 𝓛) (λ κs. Handed (ℕ)) tell_sidereal
 sidereal_answers_once =
     one_outcome (λ κs. Handed (ℕ)) tell_sidereal
     (λ κs inputs. answered inputs.1.1.1.0.now (of_hour (sidereal_answer inputs.0 inputs.1.0 inputs.1.1.0)))
@@ -150,7 +150,7 @@ sidereal_answers_once =
 abbrev tell_turn : Tell turn.ended (λ κs. Handed (List Float))
 tell_turn κs r after = handed r after.1.1.1.1.1.0.now
 
-pub turn_answers_once : OneOutcome turn.ended (λ M. turn.clauses) (λ κs. Handed (List Float)) tell_turn
+pub turn_answers_once : OneOutcome turn.ended (λ M 𝓤 𝓛. turn.clauses 𝓛) (λ κs. Handed (List Float)) tell_turn
 turn_answers_once =
     one_outcome (λ κs. Handed (List Float)) tell_turn
     (λ κs inputs. answered inputs.1.1.1.1.1.0.now (of_fixed (fixed_answer inputs.0 inputs.1.0 (unkept_of inputs.1.1.0 inputs.1.1.1.0 inputs.1.1.1.1.0.now))))
@@ -159,7 +159,7 @@ turn_answers_once =
 abbrev tell_pull : Tell pull.ended (λ κs. Handed (List Float))
 tell_pull κs r after = handed r after.1.1.1.1.1.1.1.1.0.now
 
-pub pull_answers_once : OneOutcome pull.ended (λ M. pull.clauses) (λ κs. Handed (List Float)) tell_pull
+pub pull_answers_once : OneOutcome pull.ended (λ M 𝓤 𝓛. pull.clauses 𝓛) (λ κs. Handed (List Float)) tell_pull
 pull_answers_once =
     one_outcome (λ κs. Handed (List Float)) tell_pull
     (λ κs inputs.
@@ -172,7 +172,7 @@ pull_answers_once =
 abbrev tell_inject : Tell inject.ended (λ κs. Handed (List Float))
 tell_inject κs r after = handed r after.1.1.1.1.1.1.1.1.0.now
 
-pub inject_answers_once : OneOutcome inject.ended (λ M. inject.clauses) (λ κs. Handed (List Float)) tell_inject
+pub inject_answers_once : OneOutcome inject.ended (λ M 𝓤 𝓛. inject.clauses 𝓛) (λ κs. Handed (List Float)) tell_inject
 inject_answers_once =
     one_outcome (λ κs. Handed (List Float)) tell_inject
     (λ κs inputs.
@@ -185,7 +185,7 @@ inject_answers_once =
 abbrev tell_move : Tell move.ended (λ κs. Handed (List Float))
 tell_move κs r after = handed r after.1.1.1.1.1.1.1.1.1.0.now
 
-pub move_answers_once : OneOutcome move.ended (λ M. move.clauses) (λ κs. Handed (List Float)) tell_move
+pub move_answers_once : OneOutcome move.ended (λ M 𝓤 𝓛. move.clauses 𝓛) (λ κs. Handed (List Float)) tell_move
 move_answers_once =
     one_outcome (λ κs. Handed (List Float)) tell_move
     (λ κs inputs.
@@ -199,7 +199,7 @@ abbrev tell_fly : Tell fly.ended (λ κs. RunMemory)
 tell_fly κs r after =
     let out = after.1.1.1.1.1.1.1.1.1.1.1.1 in run_memory r out.0.now out.1.0.now out.1.1.0.now out.1.1.1.0.now
 
-pub fly_answers_once : OneOutcome fly.ended (λ M. fly.clauses) (λ κs. RunMemory) tell_fly
+pub fly_answers_once : OneOutcome fly.ended (λ M 𝓤 𝓛. fly.clauses 𝓛) (λ κs. RunMemory) tell_fly
 fly_answers_once =
     one_outcome (λ κs. RunMemory) tell_fly
     (λ κs inputs.
@@ -213,7 +213,7 @@ fly_answers_once =
 abbrev tell_orbit : Tell orbit.ended (λ κs. Handed Both)
 tell_orbit κs r after = handed r (both_in after.1.1.1.1.0.now after.1.1.1.1.1.0.now)
 
-pub orbit_answers_once : OneOutcome orbit.ended (λ M. orbit.clauses) (λ κs. Handed Both) tell_orbit
+pub orbit_answers_once : OneOutcome orbit.ended (λ M 𝓤 𝓛. orbit.clauses 𝓛) (λ κs. Handed Both) tell_orbit
 orbit_answers_once =
     one_outcome (λ κs. Handed Both) tell_orbit
     (λ κs inputs.
@@ -223,14 +223,14 @@ orbit_answers_once =
 abbrev tell_conic : Tell conic.ended (λ κs. Handed Both)
 tell_conic κs r after = handed r (both_in after.1.1.1.0.now after.1.1.1.1.0.now)
 
-pub conic_answers_once : OneOutcome conic.ended (λ M. conic.clauses) (λ κs. Handed Both) tell_conic
+pub conic_answers_once : OneOutcome conic.ended (λ M 𝓤 𝓛. conic.clauses 𝓛) (λ κs. Handed Both) tell_conic
 conic_answers_once =
     one_outcome (λ κs. Handed Both) tell_conic
     (λ κs inputs.
     answered (both_in inputs.1.1.1.0.now inputs.1.1.1.1.0.now) (of_conic (conic_answer inputs.0 (unkept_of inputs.1.0 1 inputs.1.1.0.now))))
     (λ M 𝓤 𝓛 mem run'' κs inputs g r after. refl)
 
-pub book_passes_answers_once : OneAnswer book_passes.ended (λ M. book_passes.clauses)
+pub book_passes_answers_once : OneAnswer book_passes.ended (λ M 𝓤 𝓛. book_passes.clauses 𝓛)
 book_passes_answers_once =
     one_answer (λ κs inputs. if passes inputs.0.now then 0 else 1) (λ M 𝓤 𝓛 mem run'' κs inputs g r after. refl)
 
@@ -239,7 +239,7 @@ abbrev tell_run : Tell run.ended (λ κs. RunMemory)
 tell_run κs r after =
     let out = after.1.1.1.1.1.1.1.1.1 in run_memory r out.0.now out.1.0.now out.1.1.0.now out.1.1.1.0.now
 
-pub run_answers_once : OneOutcome run.ended (λ M. run.clauses) (λ κs. RunMemory) tell_run
+pub run_answers_once : OneOutcome run.ended (λ M 𝓤 𝓛. run.clauses 𝓛) (λ κs. RunMemory) tell_run
 run_answers_once =
     one_outcome (λ κs. RunMemory) tell_run
     (λ κs inputs.
@@ -254,7 +254,7 @@ abbrev tell_single_step : Tell single_step.ended (λ κs. RunMemory)
 tell_single_step κs r after =
     let out = after.1.1.1.1.1.1.1 in run_memory r out.0.now out.1.0.now out.1.1.0.now out.1.1.1.0.now
 
-pub single_step_answers_once : OneOutcome single_step.ended (λ M. single_step.clauses) (λ κs. RunMemory) tell_single_step
+pub single_step_answers_once : OneOutcome single_step.ended (λ M 𝓤 𝓛. single_step.clauses 𝓛) (λ κs. RunMemory) tell_single_step
 single_step_answers_once =
     one_outcome (λ κs. RunMemory) tell_single_step
     (λ κs inputs.

@@ -1,6 +1,8 @@
 // (02, R-14) The live pane in the caller's memory. Reads a pane there, writes one, and says what it shows at a moment.
 // Also the answer of a run, from the caller's numbers.
 
+#![tactic(auto)]
+
 ghost use Rattle.std.specs.Prelude.{◌≡◌};
 ghost use Rattle.c_answer.specs.Handed.{handed};
 ghost use Rattle.pane_live.specs.Pane.{frame_at};

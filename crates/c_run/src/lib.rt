@@ -1,6 +1,8 @@
 // Converts the guesses and the answer of a run between the caller's memory and the values of the crates below. Also
 // the calls about a state under a book.
 
+#![tactic(auto)]
+
 pub mod calls;
 
 ghost use Rattle.std.specs.Prelude.{◌≡◌};

@@ -1,5 +1,7 @@
 // A setting, a vector, an injection and a state, from the caller's numbers.
 
+#![tactic(auto)]
+
 ghost use Rattle.std.specs.Prelude.{◌≡◌};
 ghost use Rattle.c_state.specs.Groups.{setting_of, vector_of, injection_of, state_of, unkept_of};
 

@@ -1,5 +1,7 @@
 // Dates of the Gregorian calendar from 1950 to 2049, and their days counted from 1950 January 1.
 
+#![tactic(auto)]
+
 ghost use Rattle.std.specs.Prelude.{◌≡◌, ◌+◌, ◌<◌, ◌≤◌};
 ghost use Rattle.calendar.specs.Gregorian.{ymd, is_leap, year_length, days_before_year, is_date, date_of};
 ghost use Rattle.calendar.specs.Answers.{date_answer, day_answer, julian_answer};
@@ -7,26 +9,26 @@ ghost use Rattle.calendar.specs.Answers.{date_answer, day_answer, julian_answer}
 use calendar_lengths::inner::{days_before_month, days_before_year, is_leap, month_length};
 
 // A date.
-#[derive(Drop)]
+#[derive(Clone, Copy)]
 pub struct Calendar {
     pub year: u64,
     pub month: u64,
     pub day: u64,
 }
 
-#[derive(Drop)]
+#[derive(Clone, Copy)]
 pub enum DateAnswer {
     Date(Calendar),
     Refused(u64),
 }
 
-#[derive(Drop)]
+#[derive(Clone, Copy)]
 pub enum DayAnswer {
     Day(u64),
     Refused(u64),
 }
 
-#[derive(Drop)]
+#[derive(Clone, Copy)]
 pub enum JulianAnswer {
     Twice(u64),
     Refused(u64),

@@ -1,5 +1,7 @@
 // (02, R-6) A state moved to another centre, (02, R-8) with the acceleration that the rule gives it there.
 
+#![tactic(auto)]
+
 ghost use Rattle.std.specs.Prelude.{true, ◌≡◌};
 ghost use Rattle.state.specs.State.{centre_allowed};
 ghost use Rattle.book.specs.Passes.{passes};
@@ -14,14 +16,14 @@ use gravity_stored::inner::kept_at;
 use state::{Injection, Setting, State};
 use state_checks::common_refusal;
 
-#[derive(Drop)]
+#[derive(Clone, Copy)]
 pub enum MoveAnswer {
     Moved(State),
     Refused(u64),
 }
 
 // The position and velocity of a body, seen from the Earth, if an entry covers the moment.
-#[derive(Drop)]
+#[derive(Clone, Copy)]
 pub enum Seen {
     Covered(Motion),
     Uncovered,

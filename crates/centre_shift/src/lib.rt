@@ -1,5 +1,7 @@
 // (02, R-6) Position and velocity of a state minus those of a new centre, seen from the old.
 
+#![tactic(auto)]
+
 ghost use Rattle.std.specs.Prelude.{◌≡◌};
 ghost use Rattle.centre_shift.specs.Shift.{offset, velocity_offset, shifted};
 

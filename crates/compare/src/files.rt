@@ -9,13 +9,13 @@ use listing_read::{Verdict, top};
 pub const END: u64 = 0x4000_0000_0000_0000;
 
 // The number of bytes read into a block: 0 at the end of the file.
-#[derive(Drop)]
+#[derive(Clone, Copy)]
 pub struct Got {
     pub n: usize,
     pub failed: bool,
 }
 
-#[derive(Drop)]
+#[derive(Clone, Copy)]
 pub enum Judged {
     Is(Verdict),
     Unread,

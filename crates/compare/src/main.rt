@@ -5,6 +5,8 @@
 // print for the two texts. Every text that is printed here comes from a function with a contract. compare_laws proves
 // that these texts, in this order, make up the whole.
 
+#![tactic(auto)]
+
 mod files;
 mod lines;
 mod states;
@@ -18,7 +20,7 @@ use files::Judged;
 use listing_read::Verdict;
 
 // The result of printing: whether anything was printed, or what could not be read or written.
-#[derive(Drop)]
+#[derive(Clone, Copy)]
 pub enum Printed {
     Done(bool),
     FirstUnread,
@@ -27,7 +29,7 @@ pub enum Printed {
 }
 
 // A listing of the form: its file, and the verdict on it.
-#[derive(Drop)]
+#[derive(Clone, Copy)]
 pub struct Listing {
     pub fd: i32,
     pub verdict: Verdict,

@@ -9,7 +9,7 @@ use compare_blocks::inner::portion;
 use compare_blocks::{go_on, opening};
 
 // A file of which some bytes are read; the last n of them are in its block.
-#[derive(Drop)]
+#[derive(Clone, Copy)]
 struct Source {
     fd: i32,
     read: u64,

@@ -1,6 +1,8 @@
 // Two listings read side by side, a block of each: the report on their states, in portions that fit a caller's
 // buffer.
 
+#![tactic(auto)]
+
 pub mod inner;
 
 ghost use Rattle.std.specs.Prelude.{◌≡◌};
@@ -11,7 +13,7 @@ use listing_scan::Scan;
 
 // The stage of reading a listing: the next state, if it is known; how far its line is read; the place in its block.
 // Also whether the text is over: then no state follows the next.
-#[derive(Drop)]
+#[derive(Clone, Copy)]
 pub struct Reading {
     pub found: Found,
     pub scan: Scan,
@@ -20,7 +22,7 @@ pub struct Reading {
 }
 
 // What the report waits for: more of the first listing, or of the second; or it is over. Otherwise it continues.
-#[derive(Drop)]
+#[derive(Clone, Copy)]
 pub struct Halt {
     pub first: bool,
     pub second: bool,
@@ -28,7 +30,7 @@ pub struct Halt {
 }
 
 // The bytes written, both readings after them, and why no more is written.
-#[derive(Drop)]
+#[derive(Clone, Copy)]
 pub struct Portion {
     pub first: Reading,
     pub second: Reading,

@@ -26,44 +26,44 @@ use Rattle.compare_lines.specs.contracts.place_of as place_of
 use Rattle.compare_blocks.specs.contracts.opening as opening
 use Rattle.compare_blocks.specs.contracts.go_on as go_on
 
-pub place_after_answers_once : OneAnswer place_after.ended (λ M. place_after.clauses)
+pub place_after_answers_once : OneAnswer place_after.ended (λ M 𝓤 𝓛. place_after.clauses 𝓛)
 place_after_answers_once = one_answer (λ κs inputs. placed inputs.0 inputs.1.0) (λ M 𝓤 𝓛 mem run κs inputs g r after. refl)
 
-pub steps_between_answers_once : OneAnswer steps_between.ended (λ M. steps_between.clauses)
+pub steps_between_answers_once : OneAnswer steps_between.ended (λ M 𝓤 𝓛. steps_between.clauses 𝓛)
 steps_between_answers_once = one_answer (λ κs inputs. steps inputs.0 inputs.1.0) (λ M 𝓤 𝓛 mem run κs inputs g r after. refl)
 
-pub side_of_answers_once : OneAnswer side_of.ended (λ M. side_of.clauses)
+pub side_of_answers_once : OneAnswer side_of.ended (λ M 𝓤 𝓛. side_of.clauses 𝓛)
 side_of_answers_once = one_answer (λ κs inputs. side_of inputs.0 inputs.1.0) (λ M 𝓤 𝓛 mem run κs inputs g r after. refl)
 
-pub next_row_answers_once : OneAnswer next_row.ended (λ M. next_row.clauses)
+pub next_row_answers_once : OneAnswer next_row.ended (λ M 𝓤 𝓛. next_row.clauses 𝓛)
 next_row_answers_once = one_answer (λ κs inputs. next_row inputs.0.now inputs.1.0 inputs.1.1.0) (λ M 𝓤 𝓛 mem run κs inputs g r after. refl)
 
-pub last_row_answers_once : OneAnswer last_row.ended (λ M. last_row.clauses)
+pub last_row_answers_once : OneAnswer last_row.ended (λ M 𝓤 𝓛. last_row.clauses 𝓛)
 last_row_answers_once = one_answer (λ κs inputs. row_of (told inputs.0 [])) (λ M 𝓤 𝓛 mem run κs inputs g r after. refl)
 
-pub next_part_answers_once : OneAnswer next_part.ended (λ M. next_part.clauses)
+pub next_part_answers_once : OneAnswer next_part.ended (λ M 𝓤 𝓛. next_part.clauses 𝓛)
 next_part_answers_once = one_answer (λ κs inputs. part_after inputs.0) (λ M 𝓤 𝓛 mem run κs inputs g r after. refl)
 
-pub line_length_answers_once : OneAnswer line_length.ended (λ M. line_length.clauses)
+pub line_length_answers_once : OneAnswer line_length.ended (λ M 𝓤 𝓛. line_length.clauses 𝓛)
 line_length_answers_once = one_answer (λ κs inputs. length (until_feed inputs.0.now)) (λ M 𝓤 𝓛 mem run κs inputs g r after. refl)
 
-pub same_bytes_answers_once : OneAnswer same_bytes.ended (λ M. same_bytes.clauses)
+pub same_bytes_answers_once : OneAnswer same_bytes.ended (λ M 𝓤 𝓛. same_bytes.clauses 𝓛)
 same_bytes_answers_once = one_answer (λ κs inputs. same inputs.0.now inputs.1.0.now) (λ M 𝓤 𝓛 mem run κs inputs g r after. refl)
 
-pub opening_answers_once : OneAnswer opening.ended (λ M. opening.clauses)
+pub opening_answers_once : OneAnswer opening.ended (λ M 𝓤 𝓛. opening.clauses 𝓛)
 opening_answers_once = one_answer (λ κs inputs. opened) (λ M 𝓤 𝓛 mem run κs inputs g r after. refl)
 
-pub go_on_answers_once : OneAnswer go_on.ended (λ M. go_on.clauses)
+pub go_on_answers_once : OneAnswer go_on.ended (λ M 𝓤 𝓛. go_on.clauses 𝓛)
 go_on_answers_once = one_answer (λ κs inputs. going_on inputs.0 inputs.1.0 inputs.1.1.0) (λ M 𝓤 𝓛 mem run κs inputs g r after. refl)
 
-pub line_of_answers_once : OneAnswer Line_of.ended (λ M. Line_of.clauses)
+pub line_of_answers_once : OneAnswer Line_of.ended (λ M 𝓤 𝓛. Line_of.clauses 𝓛)
 line_of_answers_once = one_answer (λ κs inputs. line_of inputs.0 inputs.1.0) (λ M 𝓤 𝓛 mem run κs inputs g r after. refl)
 
-pub wants_first_answers_once : OneAnswer wants_first.ended (λ M. wants_first.clauses)
+pub wants_first_answers_once : OneAnswer wants_first.ended (λ M 𝓤 𝓛. wants_first.clauses 𝓛)
 wants_first_answers_once = one_answer (λ κs inputs. wants_first inputs.0) (λ M 𝓤 𝓛 mem run κs inputs g r after. refl)
 
-pub wants_second_answers_once : OneAnswer wants_second.ended (λ M. wants_second.clauses)
+pub wants_second_answers_once : OneAnswer wants_second.ended (λ M 𝓤 𝓛. wants_second.clauses 𝓛)
 wants_second_answers_once = one_answer (λ κs inputs. wants_second inputs.0) (λ M 𝓤 𝓛 mem run κs inputs g r after. refl)
 
-pub place_of_answers_once : OneAnswer place_of.ended (λ M. place_of.clauses)
+pub place_of_answers_once : OneAnswer place_of.ended (λ M 𝓤 𝓛. place_of.clauses 𝓛)
 place_of_answers_once = one_answer (λ κs inputs. place_of inputs.0) (λ M 𝓤 𝓛 mem run κs inputs g r after. refl)

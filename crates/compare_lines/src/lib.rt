@@ -1,6 +1,8 @@
 // The header and outcome lines of two listings, compared whole and printed if they differ. Lines may have any length:
 // one block of each is read at a time.
 
+#![tactic(auto)]
+
 pub mod inner;
 
 ghost use Rattle.std.specs.Prelude.{◌≡◌};
@@ -10,7 +12,7 @@ use compare_report::Part;
 use listing_read::Verdict;
 
 // A line of a listing: where it starts. A header that is not there counts as -.
-#[derive(Drop)]
+#[derive(Clone, Copy)]
 pub struct Line {
     pub from: u64,
     pub there: bool,
@@ -18,7 +20,7 @@ pub struct Line {
 
 // The stage of the report on two lines: that many bytes are the same in both, that many bytes of the first or the
 // second are printed, or it is done.
-#[derive(Drop)]
+#[derive(Clone, Copy)]
 pub enum Stage {
     Comparing(u64),
     First(u64),
@@ -28,7 +30,7 @@ pub enum Stage {
 
 // The result for two blocks of lines: both lines end and are the same, they differ, or that many bytes are the same
 // and more follow.
-#[derive(Drop)]
+#[derive(Clone, Copy)]
 pub enum Likeness {
     Same,
     Differ,
@@ -36,7 +38,7 @@ pub enum Likeness {
 }
 
 // The stage after some blocks, and how many bytes of them are printed.
-#[derive(Drop)]
+#[derive(Clone, Copy)]
 pub struct Turn {
     pub stage: Stage,
     pub written: usize,

@@ -1,5 +1,7 @@
 // Where two listings differ: which listing has the next state, and the order of the parts of the report.
 
+#![tactic(auto)]
+
 pub mod same;
 
 ghost use Rattle.std.specs.Prelude.{◌≡◌};
@@ -9,7 +11,7 @@ ghost use Rattle.compare_report.specs.Turns.{takes, side_of};
 use listing_read::Found;
 use listing_scan::Row;
 
-#[derive(Drop)]
+#[derive(Clone, Copy)]
 pub enum Component {
     X,
     Y,
@@ -20,14 +22,14 @@ pub enum Component {
 }
 
 // Which listing has the next state in moment order: the first, the second, both, or neither.
-#[derive(Drop)]
+#[derive(Clone, Copy)]
 pub struct Side {
     pub first: bool,
     pub second: bool,
 }
 
 // The parts of a report, in their order. After the end it is over.
-#[derive(Drop)]
+#[derive(Clone, Copy)]
 pub enum Part {
     Header,
     States,

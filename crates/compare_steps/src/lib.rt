@@ -1,5 +1,7 @@
 // Float steps: the distance between two floats, counted in floats.
 
+#![tactic(auto)]
+
 ghost use Rattle.std.specs.Prelude.{◌≡◌};
 ghost use Rattle.compare_steps.specs.Steps.{place, steps};
 

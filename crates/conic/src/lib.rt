@@ -1,5 +1,7 @@
 // The conic that a state would follow about its centre alone.
 
+#![tactic(auto)]
+
 ghost use Rattle.std.specs.Prelude.{◌≡◌};
 ghost use Rattle.conic.specs.Conic.{conic_of, orbit_answer, figures_about, conic_answer};
 
@@ -7,7 +9,7 @@ use conic_checks::{Orbit, refusal_of};
 use conic_formulas::orbit_of;
 use state::State;
 
-#[derive(Drop)]
+#[derive(Clone, Copy)]
 pub enum Conic {
     Ellipse {
         a: f64,
@@ -25,13 +27,13 @@ pub enum Conic {
     },
 }
 
-#[derive(Drop)]
+#[derive(Clone, Copy)]
 pub struct CentredConic {
     pub centre: u64,
     pub conic: Conic,
 }
 
-#[derive(Drop)]
+#[derive(Clone, Copy)]
 pub enum ConicAnswer {
     Figures(CentredConic),
     Refused(u64),

@@ -1,10 +1,12 @@
 // The figures of a conic, and their tests in the right order.
 
+#![tactic(auto)]
+
 ghost use Rattle.std.specs.Prelude.{◌≡◌};
 ghost use Rattle.conic_checks.specs.Refusal.{unfit, ◌before◌, refusal};
 
 // The figures in the order of their tests. `last` is the far distance of an ellipse or the v of a hyperbola.
-#[derive(Drop)]
+#[derive(Clone, Copy)]
 pub struct Orbit {
     pub n: f64,
     pub v2: f64,

@@ -1,5 +1,7 @@
 // The figures of a conic by their formulas.
 
+#![tactic(auto)]
+
 ghost use Rattle.std.specs.Prelude.{◌≡◌};
 ghost use Rattle.conic_formulas.specs.Orbit.{cross, eccentricity, last_figure, orbit};
 

@@ -1,5 +1,7 @@
 // A state in coordinates that turn with the Earth.
 
+#![tactic(auto)]
+
 ghost use Rattle.std.specs.Prelude.{◌≡◌};
 ghost use Rattle.hour.specs.declared.HourAnswer.TheVariants.{Parts};
 ghost use Rattle.hour.specs.Hour.{sidereal_answer};
@@ -10,7 +12,7 @@ use hour::HourAnswer;
 use state::{State, Vector};
 
 // Position in km and velocity in km/s, in axes that turn with the Earth.
-#[derive(Drop)]
+#[derive(Clone, Copy)]
 pub struct EarthFixed {
     pub x: f64,
     pub y: f64,
@@ -20,7 +22,7 @@ pub struct EarthFixed {
     pub vz: f64,
 }
 
-#[derive(Drop)]
+#[derive(Clone, Copy)]
 pub enum FixedAnswer {
     Fixed(EarthFixed),
     Refused(u64),

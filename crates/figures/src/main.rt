@@ -1,6 +1,8 @@
 // Prints document 01's figures for the calendar, the hour angle, the root and sine and cosine, as the library
 // computes them. It reads published square roots from standard input, and prints the library's own next to each.
 
+#![tactic(auto)]
+
 ghost use Rattle.std.specs.Prelude.{◌≤◌, ◌<◌, length};
 
 use calendar::{Calendar, DateAnswer, DayAnswer, JulianAnswer};

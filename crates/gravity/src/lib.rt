@@ -1,6 +1,8 @@
 // The acceleration of a spacecraft about a centre: the pull of the centre, minus what the other bodies give the craft
 // and the centre.
 
+#![tactic(auto)]
+
 pub mod inner;
 
 ghost use Rattle.std.specs.Prelude.{◌≡◌};
@@ -12,7 +14,7 @@ use root::{SixRoots, ThreeRoots};
 use state::{Setting, Vector};
 use state_checks::common_refusal;
 
-#[derive(Drop)]
+#[derive(Clone, Copy)]
 pub enum AccelerationAnswer {
     Is(Vector),
     Refused(u64),
@@ -20,7 +22,7 @@ pub enum AccelerationAnswer {
 
 // (02, R-6) The five bodies other than the centre, in rising number, each seen from the centre with its pull on the
 // centre.
-#[derive(Drop)]
+#[derive(Clone, Copy)]
 pub struct Others {
     pub first: Other,
     pub second: Other,
@@ -30,7 +32,7 @@ pub struct Others {
 }
 
 // For each body other than the Earth, the entry of the book to try first.
-#[derive(Drop)]
+#[derive(Clone, Copy)]
 pub struct Guesses {
     pub moon: u64,
     pub sun: u64,
@@ -42,7 +44,7 @@ pub struct Guesses {
 // What is kept for a moment about a centre: the number of the first body refused (0 if none), the entries found, and
 // the coefficient of the centre. Also the positions of the Earth and the Sun, seen from the centre (02, R-7), and the
 // other bodies.
-#[derive(Drop)]
+#[derive(Clone, Copy)]
 pub struct Sights {
     pub refusal: u64,
     pub entries: Guesses,
@@ -53,7 +55,7 @@ pub struct Sights {
 }
 
 // The last three bodies beside the centre, and the roots that a first position asks for.
-#[derive(Drop)]
+#[derive(Clone, Copy)]
 pub struct LastSeen {
     pub third: Other,
     pub fourth: Other,
@@ -62,14 +64,14 @@ pub struct LastSeen {
 }
 
 // The bodies beside the centre, and the roots that a first position asks for.
-#[derive(Drop)]
+#[derive(Clone, Copy)]
 pub struct OthersSeen {
     pub others: Others,
     pub roots: SixRoots,
 }
 
 // What is kept of a moment, and the roots that a first position asks for.
-#[derive(Drop)]
+#[derive(Clone, Copy)]
 pub struct Seen {
     pub bodies: Sights,
     pub roots: SixRoots,

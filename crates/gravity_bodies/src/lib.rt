@@ -1,5 +1,7 @@
 // The bodies looked up at a moment, seen from the Earth.
 
+#![tactic(auto)]
+
 pub mod inner;
 
 ghost use Rattle.std.specs.Prelude.{◌≡◌};
@@ -10,7 +12,7 @@ ghost use Rattle.base.specs.Checks.{or_later};
 use state::Vector;
 
 // One body looked up at a moment: a refusal number, or its position seen from the Earth.
-#[derive(Drop)]
+#[derive(Clone, Copy)]
 pub struct Sight {
     pub refusal: u64,
     pub entry: usize,
@@ -19,13 +21,13 @@ pub struct Sight {
 }
 
 // The Moon and the Sun, looked up together.
-#[derive(Drop)]
+#[derive(Clone, Copy)]
 pub struct TwoSights {
     pub first: Sight,
     pub second: Sight,
 }
 
-#[derive(Drop)]
+#[derive(Clone, Copy)]
 pub struct Found {
     pub moon: Sight,
     pub sun: Sight,
@@ -35,7 +37,7 @@ pub struct Found {
 }
 
 // (02, R-6) The five bodies other than the centre, in rising number.
-#[derive(Drop)]
+#[derive(Clone, Copy)]
 pub struct Besides {
     pub first: Sight,
     pub second: Sight,

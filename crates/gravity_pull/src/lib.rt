@@ -1,5 +1,7 @@
 // The pull of one body, and sums of pulls.
 
+#![tactic(auto)]
+
 pub mod pulls;
 
 use root::ThreeRoots;
@@ -7,7 +9,7 @@ use root_known::ThreeRooted;
 use state::Vector;
 
 // A sum of pulls, and whether every length so far could be divided by.
-#[derive(Drop)]
+#[derive(Clone, Copy)]
 pub struct Pull {
     pub x: f64,
     pub y: f64,
@@ -16,7 +18,7 @@ pub struct Pull {
 }
 
 // Two pulls, and three more roots that were worked out beside theirs.
-#[derive(Drop)]
+#[derive(Clone, Copy)]
 pub struct FarPulls {
     pub first: Pull,
     pub second: Pull,
@@ -24,7 +26,7 @@ pub struct FarPulls {
 }
 
 // Three pulls, and three more roots that were worked out beside theirs.
-#[derive(Drop)]
+#[derive(Clone, Copy)]
 pub struct ThreeFarPulls {
     pub first: Pull,
     pub second: Pull,
@@ -33,7 +35,7 @@ pub struct ThreeFarPulls {
 }
 
 // Three pulls, and the numbers whose roots they took.
-#[derive(Drop)]
+#[derive(Clone, Copy)]
 pub struct ThreePulls {
     pub first: Pull,
     pub second: Pull,
@@ -42,14 +44,14 @@ pub struct ThreePulls {
 }
 
 // A sum of three pulls, and the numbers whose roots it took.
-#[derive(Drop)]
+#[derive(Clone, Copy)]
 pub struct NearSum {
     pub sum: Pull,
     pub known: ThreeRooted,
 }
 
 // A body other than the centre: its position seen from the centre, and its pull on the centre.
-#[derive(Drop)]
+#[derive(Clone, Copy)]
 pub struct Other {
     pub m: f64,
     pub place: Vector,

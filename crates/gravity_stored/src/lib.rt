@@ -1,6 +1,8 @@
 // (02, R-8) The acceleration stored with a state: turns an injection into a state, and checks whether the stored
 // value is the rule's.
 
+#![tactic(auto)]
+
 pub mod inner;
 
 ghost use Rattle.std.specs.Prelude.{◌≡◌};
@@ -10,7 +12,7 @@ use base::END_OF_TIME;
 use state::{Injection, Setting, State, Vector, carrying};
 use state_checks::common_refusal;
 
-#[derive(Drop)]
+#[derive(Clone, Copy)]
 pub enum InjectionAnswer {
     Injected(State),
     Refused(u64),

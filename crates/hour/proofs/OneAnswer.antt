@@ -12,10 +12,10 @@ use Rattle.hour.proofs.BothRules.{angle_below}
 use Rattle.hour.specs.contracts.hour_angle as hour_angle
 use Rattle.hour.specs.contracts.sidereal as sidereal
 
-pub sidereal_answers_once : OneAnswer sidereal.ended (λ M. sidereal.clauses)
+pub sidereal_answers_once : OneAnswer sidereal.ended (λ M 𝓤 𝓛. sidereal.clauses 𝓛)
 sidereal_answers_once = one_answer (λ κs inputs. sidereal_answer inputs.0 inputs.1.0 inputs.1.1.0) (λ M 𝓤 𝓛 mem run κs inputs g r after. refl)
 
-pub hour_angle_answers_once : OneAnswer hour_angle.ended (λ M. hour_angle.clauses)
+pub hour_angle_answers_once : OneAnswer hour_angle.ended (λ M 𝓤 𝓛. hour_angle.clauses 𝓛)
 hour_angle_answers_once = one_answer (λ κs inputs. hour_answer inputs.0 inputs.1.0) (λ M 𝓤 𝓛 mem run κs inputs g r after. refl)
 
 answer_cases : (a b c d : Bool) (x p : ℕ) → x < circle

@@ -1,5 +1,7 @@
 // The hour angle of a moment, in parts of 10^-10 degree, by document 01's rule or by that of 1982.
 
+#![tactic(auto)]
+
 ghost use Rattle.std.specs.Prelude.{◌≡◌, ◌<◌, ◌≤◌};
 ghost use Rattle.base.specs.Limits.{day_length, last_day};
 ghost use Rattle.hour.specs.Hour.{hour_answer, sidereal_angle, sidereal_answer};
@@ -7,7 +9,7 @@ ghost use Rattle.hour.specs.Hour.{hour_answer, sidereal_angle, sidereal_answer};
 // Rule 0 is document 01's, rule 1 that of 1982.
 pub const LAST_RULE: u64 = 1;
 
-#[derive(Drop)]
+#[derive(Clone, Copy)]
 pub enum HourAnswer {
     Parts(u64),
     Refused(u64),

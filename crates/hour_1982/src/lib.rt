@@ -1,9 +1,11 @@
 // The rule of 1982 for the hour angle, as one fraction rounded down once.
 
+#![tactic(auto)]
+
 pub mod inner;
 
 // whole + first/73,050 + second/73,050²
-#[derive(Drop)]
+#[derive(Clone, Copy)]
 struct Spans {
     whole: u64,
     first: u64,
@@ -11,7 +13,7 @@ struct Spans {
 }
 
 // The same with a third digit.
-#[derive(Drop)]
+#[derive(Clone, Copy)]
 struct DaySpans {
     whole: u64,
     first: u64,

@@ -1,1 +1,3 @@
 // No code: this crate has the one rounding of an hour angle into one circle, and its laws.
+
+#![tactic(auto)]

@@ -1,5 +1,7 @@
 // An injection as launch crews speak it, taken to 1950.0 axes (02, R-4).
 
+#![tactic(auto)]
+
 ghost use Rattle.std.specs.Prelude.{true, ◌&&◌, ◌≡◌, ◌≤◌};
 ghost use Rattle.hour.specs.declared.HourAnswer.TheVariants.{Parts};
 ghost use Rattle.hour.specs.Hour.{sidereal_answer};
@@ -15,14 +17,14 @@ use state::{Injection, Vector};
 const QUARTER: u64 = 900_000_000_000;
 
 // An angle in parts; the flag says whether it is below zero.
-#[derive(Drop)]
+#[derive(Clone, Copy)]
 pub struct Signed {
     pub below: bool,
     pub parts: u64,
 }
 
 // Earth-fixed: radius in km and speed in km/s, angles in parts; longitude is counted eastward, azimuth from the north.
-#[derive(Drop)]
+#[derive(Clone, Copy)]
 pub struct Sphere {
     pub radius: f64,
     pub latitude: Signed,
@@ -32,7 +34,7 @@ pub struct Sphere {
     pub azimuth: u64,
 }
 
-#[derive(Drop)]
+#[derive(Clone, Copy)]
 pub enum SphereAnswer {
     Injected(Injection),
     Refused(u64),

@@ -1,5 +1,7 @@
 // (02, R-4) The turns of an injection as launch crews speak it, one function for each.
 
+#![tactic(auto)]
+
 ghost use Rattle.std.specs.Prelude.{◌≡◌};
 ghost use Rattle.launch_turns.specs.Turns.{place_on, horizontal, tilt, swing, relative, carried, transposed, returned};
 

@@ -1,5 +1,7 @@
 // What ask answers to a line, by the book that it has.
 
+#![tactic(auto)]
+
 mod almanac;
 mod flights;
 mod places;

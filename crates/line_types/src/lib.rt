@@ -1,5 +1,7 @@
 // The answers of ask, one case for each kind. `line_answers` finds the answer to a line, `line_texts` writes it.
 
+#![tactic(auto)]
+
 use book::PositionAnswer;
 use calendar::{DateAnswer, DayAnswer};
 use centre::MoveAnswer;
@@ -13,7 +15,7 @@ use root::RootAnswer;
 use run::RunAnswer;
 use sine::SineCosineAnswer;
 
-#[derive(Drop)]
+#[derive(Clone, Copy)]
 pub enum Answer {
     Root(RootAnswer),
     SineCosine(SineCosineAnswer),

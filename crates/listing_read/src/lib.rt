@@ -1,5 +1,7 @@
 // The reader of listings: the judgement of their lines, block by block.
 
+#![tactic(auto)]
+
 pub mod feed;
 pub mod inner;
 
@@ -14,7 +16,7 @@ use listing_scan::{Line, Row, Scan};
 
 // The stage of reading a listing: before its first line, after the header, after a state of that moment, after the
 // outcome, or not of the form.
-#[derive(Drop)]
+#[derive(Clone, Copy)]
 pub enum Place {
     Top,
     First,
@@ -25,7 +27,7 @@ pub enum Place {
 
 // A listing after some of its bytes: the stage and the scan, the number of the line being read, the states and the
 // bytes so far. Also where the line being read and the last one before it start.
-#[derive(Drop)]
+#[derive(Clone, Copy)]
 pub struct Judge {
     pub place: Place,
     pub scan: Scan,
@@ -37,28 +39,28 @@ pub struct Judge {
 }
 
 // A reading, and its place in the block.
-#[derive(Drop)]
+#[derive(Clone, Copy)]
 pub struct Judged {
     pub judge: Judge,
     pub at: usize,
 }
 
 // The line that is not of the form, or 0; the states; and where the last line starts.
-#[derive(Drop)]
+#[derive(Clone, Copy)]
 pub struct Verdict {
     pub refusal: u64,
     pub rows: u64,
     pub outcome: u64,
 }
 
-#[derive(Drop)]
+#[derive(Clone, Copy)]
 pub enum Found {
     Is(Row),
     None,
 }
 
 // What was found in a block, and where to go on.
-#[derive(Drop)]
+#[derive(Clone, Copy)]
 pub struct Next {
     pub found: Found,
     pub scan: Scan,
@@ -66,7 +68,7 @@ pub struct Next {
 }
 
 // What is known of a line up to its line feed or the end of the block, with that place.
-#[derive(Drop)]
+#[derive(Clone, Copy)]
 pub struct Reached {
     pub scan: Scan,
     pub at: usize,

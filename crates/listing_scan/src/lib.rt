@@ -1,11 +1,13 @@
 // A line of a listing, byte by byte. It is never kept: each byte updates a small value, so a line of any length needs no
 // memory.
 
+#![tactic(auto)]
+
 mod letters;
 pub mod scanning;
 
 // A state as its line has it: its moment, and the bits of its six components.
-#[derive(Drop)]
+#[derive(Clone, Copy)]
 pub struct Row {
     pub moment: u64,
     pub x: u64,
@@ -17,7 +19,7 @@ pub struct Row {
 }
 
 // The kind of a line.
-#[derive(Drop)]
+#[derive(Clone, Copy)]
 pub enum Line {
     Header,
     State(Row),
@@ -27,7 +29,7 @@ pub enum Line {
 }
 
 // The words before numbers. `Steps` is for the number after a refusal, which has no word.
-#[derive(Drop)]
+#[derive(Clone, Copy)]
 pub enum Word {
     Strip,
     Arrived,
@@ -36,7 +38,7 @@ pub enum Word {
 }
 
 // What is known of a line after some of its bytes.
-#[derive(Drop)]
+#[derive(Clone, Copy)]
 pub enum Scan {
     // no byte yet
     Start,

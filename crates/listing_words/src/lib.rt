@@ -1,1 +1,3 @@
 // No code: this crate has the words of listings, reports and tables as bytes. One definition for each word.
+
+#![tactic(auto)]

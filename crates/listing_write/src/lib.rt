@@ -1,5 +1,7 @@
 // The listing that the programs strip and strip144 print: its lines, and the lines of a run in portions.
 
+#![tactic(auto)]
+
 pub mod inner;
 pub mod lines;
 
@@ -8,7 +10,7 @@ use run::Outcome;
 use state::State;
 
 // A place of a run: the state, the guesses, the steps left to the target and the steps done.
-#[derive(Drop)]
+#[derive(Clone, Copy)]
 pub struct Course {
     pub state: State,
     pub entries: Guesses,
@@ -17,7 +19,7 @@ pub struct Course {
 }
 
 // The outcome of a portion, where it ended, and how many bytes it wrote.
-#[derive(Drop)]
+#[derive(Clone, Copy)]
 pub struct Portion {
     pub outcome: Outcome,
     pub course: Course,

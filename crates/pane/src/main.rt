@@ -2,6 +2,8 @@
 // states that it took. The definition `answer_to` (pane_lines) gives the answer to a line, and `line_text` (line_form)
 // how it is written.
 
+#![tactic(auto)]
+
 ghost use Rattle.std.specs.Prelude.{◌+◌, ◌≤◌, length};
 
 use line_form::put::Out;
@@ -13,7 +15,7 @@ use pane_live::Pane;
 const LINE: usize = 1_001;
 
 // The pane, and how many bytes of an unfinished line are kept.
-#[derive(Drop)]
+#[derive(Clone, Copy)]
 struct Standing {
     pane: Pane,
     kept: usize,
@@ -46,7 +48,7 @@ fn with_room(out: &mut Out, at: usize) -> usize
 }
 
 // The pane after a line, and the place after the answer.
-#[derive(Drop)]
+#[derive(Clone, Copy)]
 struct Told {
     pane: Pane,
     end: usize,

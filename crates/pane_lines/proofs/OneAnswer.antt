@@ -4,5 +4,5 @@ use Rattle.base.proofs.OneAnswer.{OneAnswer, one_answer}
 use Rattle.pane_lines.specs.Answers.{answer_to}
 use Rattle.pane_lines.specs.contracts.answer_to as answer_to
 
-pub answer_to_answers_once : OneAnswer answer_to.ended (λ M. answer_to.clauses)
+pub answer_to_answers_once : OneAnswer answer_to.ended (λ M 𝓤 𝓛. answer_to.clauses 𝓛)
 answer_to_answers_once = one_answer (λ κs inputs. answer_to inputs.0 inputs.1.0.now) (λ M 𝓤 𝓛 mem run κs inputs g r after. refl)

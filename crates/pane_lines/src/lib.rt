@@ -1,5 +1,7 @@
 // The live pane's answer to a line.
 
+#![tactic(auto)]
+
 pub mod inner;
 
 ghost use Rattle.std.specs.Prelude.{◌≡◌, ◌+◌, ◌≤◌};
@@ -12,7 +14,7 @@ use line_values::inner::{guesses_from, narrowed, state_from};
 use pane_live::{FrameAnswer, Pane, TakeAnswer};
 use run::{Outcome, RunAnswer};
 
-#[derive(Drop)]
+#[derive(Clone, Copy)]
 pub enum Answer {
     Taken(TakeAnswer),
     Frame(FrameAnswer),
@@ -21,7 +23,7 @@ pub enum Answer {
 }
 
 // The pane after a line, and the answer to it.
-#[derive(Drop)]
+#[derive(Clone, Copy)]
 pub struct Told {
     pub pane: Pane,
     pub answer: Answer,

@@ -6,11 +6,11 @@ use Rattle.pane_live.specs.contracts.take as take_call
 use Rattle.pane_live.specs.contracts.feed as feed_call
 use Rattle.pane_live.specs.contracts.frame as frame_call
 
-pub take_answers_once : OneAnswer take_call.ended (λ M. take_call.clauses)
+pub take_answers_once : OneAnswer take_call.ended (λ M 𝓤 𝓛. take_call.clauses 𝓛)
 take_answers_once = one_answer (λ κs inputs. take inputs.0 inputs.1.0) (λ M 𝓤 𝓛 mem run κs inputs g r after. refl)
 
-pub feed_answers_once : OneAnswer feed_call.ended (λ M. feed_call.clauses)
+pub feed_answers_once : OneAnswer feed_call.ended (λ M 𝓤 𝓛. feed_call.clauses 𝓛)
 feed_answers_once = one_answer (λ κs inputs. feed inputs.0 inputs.1.0) (λ M 𝓤 𝓛 mem run κs inputs g r after. refl)
 
-pub frame_answers_once : OneAnswer frame_call.ended (λ M. frame_call.clauses)
+pub frame_answers_once : OneAnswer frame_call.ended (λ M 𝓤 𝓛. frame_call.clauses 𝓛)
 frame_answers_once = one_answer (λ κs inputs. frame_at inputs.0 inputs.1.0) (λ M 𝓤 𝓛 mem run κs inputs g r after. refl)

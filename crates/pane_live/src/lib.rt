@@ -1,5 +1,7 @@
 // (02, R-14) The live pane: it keeps the last two reached states, and answers each frame with current, late or empty.
 
+#![tactic(auto)]
+
 pub mod inner;
 
 ghost use Rattle.std.specs.Prelude.{◌≡◌, ◌≤◌};
@@ -10,14 +12,14 @@ use run::{Outcome, RunAnswer};
 use state::{State, Vector, position_of};
 
 // None, one, or the older and the newer of two states.
-#[derive(Drop)]
+#[derive(Clone, Copy)]
 pub enum Pane {
     Blank,
     One(State),
     Two(State, State),
 }
 
-#[derive(Drop)]
+#[derive(Clone, Copy)]
 pub enum TakeAnswer {
     Taken(Pane),
     Unchanged,
@@ -25,7 +27,7 @@ pub enum TakeAnswer {
 }
 
 // A position, how late in milliseconds, nothing, or the number of a refusal.
-#[derive(Drop)]
+#[derive(Clone, Copy)]
 pub enum FrameAnswer {
     Current(Vector),
     Late(u64),

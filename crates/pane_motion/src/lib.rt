@@ -1,5 +1,7 @@
 // (02, R-14) A frame of the live pane with velocity: the derivative of the same cubic.
 
+#![tactic(auto)]
+
 ghost use Rattle.std.specs.Prelude.{◌≡◌, ◌≤◌};
 ghost use Rattle.state.specs.State.{position, velocity};
 ghost use Rattle.pane_live.specs.Pane.{between, figure, shown};
@@ -10,14 +12,14 @@ use pane_live::inner::{along_cubic, to_float};
 use state::{State, Vector, position_of, velocity_of};
 
 // Position in km and velocity in km/s, from the centre of the states.
-#[derive(Drop)]
+#[derive(Clone, Copy)]
 pub struct Motion {
     pub position: Vector,
     pub velocity: Vector,
 }
 
 // A motion, how late in milliseconds, nothing, or the number of a refusal.
-#[derive(Drop)]
+#[derive(Clone, Copy)]
 pub enum FrameMotion {
     Current(Motion),
     Late(u64),

@@ -5,6 +5,8 @@
 // No contract can say what a program reads or writes. The new book and the fates come from `repair_book::repair`;
 // this program only passes them on.
 
+#![tactic(auto)]
+
 ghost use Rattle.std.specs.Prelude.{◌≤◌, length};
 
 use libc::{STDERR_FILENO, STDIN_FILENO, STDOUT_FILENO};

@@ -1,5 +1,7 @@
 // Saves what can be saved of a damaged book: writes one that passes, from the entries that can be kept, and reports.
 
+#![tactic(auto)]
+
 mod marks;
 
 ghost use Rattle.std.specs.Prelude.{◌≡◌, ◌≤◌, length};
@@ -28,7 +30,7 @@ pub const OVERLAP: u16 = repair_sort::OVERLAP;
 
 pub const ROOM: u16 = repair_sort::ROOM;
 
-#[derive(Drop)]
+#[derive(Clone, Copy)]
 pub struct Changed {
     pub total: bool,
     pub count: bool,
@@ -36,7 +38,7 @@ pub struct Changed {
     pub offsets: bool,
 }
 
-#[derive(Drop)]
+#[derive(Clone, Copy)]
 pub struct Report {
     // Entries looked at: the number of fates written.
     pub looked: usize,
@@ -46,7 +48,7 @@ pub struct Report {
     pub changed: Changed,
 }
 
-#[derive(Drop)]
+#[derive(Clone, Copy)]
 pub enum RepairAnswer {
     Written(Report),
     Refused(u64),

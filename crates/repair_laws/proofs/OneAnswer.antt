@@ -8,7 +8,7 @@ use Rattle.repair_book.specs.contracts.repair as repair
 abbrev tell_repair : Tell repair.ended (λ κs. Outcome)
 tell_repair κs r after = outcome_of r after.1.0.now after.1.1.0.now
 
-pub repair_answers_once : OneOutcome repair.ended (λ M. repair.clauses) (λ κs. Outcome) tell_repair
+pub repair_answers_once : OneOutcome repair.ended (λ M 𝓤 𝓛. repair.clauses 𝓛) (λ κs. Outcome) tell_repair
 repair_answers_once =
     one_outcome (λ κs. Outcome) tell_repair
     (λ κs inputs. repair_outcome inputs.0.now inputs.1.0.now inputs.1.1.0.now)

@@ -1,5 +1,7 @@
 // The entries of a damaged book: which are looked at, the first reason for dropping one, and the order of the rest.
 
+#![tactic(auto)]
+
 pub mod inner;
 mod order;
 mod reasons;

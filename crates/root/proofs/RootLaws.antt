@@ -164,6 +164,10 @@ positive_root_fits m e M t =
 
 pub root_is : (x : Float) → T (fits binary64 x) → T (positive x) → IsRoot x (root_of x)
 unfolding root_of
+root_is nan t p = elim p [ ]
+root_is (inf _) t p = elim p [ ]
+root_is (fin false zero e) t p = elim p [ ]
+root_is (fin true _ e) t p = elim p [ ]
 root_is (fin false (suc m) e) t p =
     let f = fits_says binary64 false m e t in
     positive_root_is (low binary64) (suc m) e (lit≤ tt) (zero-lt-suc m) f.digits f.least

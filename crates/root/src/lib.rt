@@ -1,32 +1,34 @@
 // The square root of a float, by additions, shifts and comparisons of whole numbers.
 
+#![tactic(auto)]
+
 pub mod inner;
 mod parts;
 
 ghost use Rattle.std.specs.Prelude.{◌≡◌};
 ghost use Rattle.root.specs.Root.{root_answer};
 
-#[derive(Drop)]
+#[derive(Clone, Copy)]
 pub enum RootAnswer {
     Value(f64),
     Refused(u64),
 }
 
-#[derive(Drop)]
+#[derive(Clone, Copy)]
 pub struct ThreeRoots {
     pub a: f64,
     pub b: f64,
     pub c: f64,
 }
 
-#[derive(Drop)]
+#[derive(Clone, Copy)]
 pub struct FiveRoots {
     pub a: f64,
     pub b: f64,
     pub others: ThreeRoots,
 }
 
-#[derive(Drop)]
+#[derive(Clone, Copy)]
 pub struct SixRoots {
     pub first: ThreeRoots,
     pub second: ThreeRoots,

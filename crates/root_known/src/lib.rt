@@ -1,14 +1,16 @@
 // Numbers kept together with their roots, so that a root is computed once.
 
+#![tactic(auto)]
+
 pub mod inner;
 
-#[derive(Drop)]
+#[derive(Clone, Copy)]
 pub struct Rooted {
     pub n: f64,
     pub root: f64,
 }
 
-#[derive(Drop)]
+#[derive(Clone, Copy)]
 pub struct ThreeRooted {
     pub a: Rooted,
     pub b: Rooted,

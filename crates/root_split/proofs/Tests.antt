@@ -51,6 +51,9 @@ above_bits x p h = elim (eq-zero-or-pos (to_bits binary64 x)) [
 ]
 
 pub positive_above : (x : Float) → T (positive x) → lt null x ≡ true
+positive_above nan p = elim p [ ]
+positive_above (inf _) p = elim p [ ]
+positive_above (fin true _ e) p = elim p [ ]
 positive_above (fin false zero e) p = absurd (omega (arith, ltb→lt 0 0 p))
 positive_above (fin false (suc m) e) p = number_above m e
 

@@ -1,4 +1,5 @@
 -- Two floats that fit and have the same value as a fraction are equal. Assumes nothing.
+use lib.Ieee.{nan, inf}
 use mathlib.Core.Path.{◌≡◌, sym, ap, ◌∙◌}
 use mathlib.Core.Bool.{Bool, cond, ◌&&◌}
 use Prim.Native.Nat.{ℕ, suc, ◌+◌, ◌-◌, ◌*◌, ◌/◌, ◌%◌, ◌^◌, ◌≤◌, ◌<◌}
@@ -17,6 +18,8 @@ bits_at f s n = let k = size n - prec f in cond s (top f) 0 + k * hid f + n / 2 
 
 to_bits_at : (f : Format) (x : Float) (s : Bool) (a c : ℕ) → 0 < c → HasValue x s a c → to_bits f x ≡ bits_at f s (a * 2 ^ low f / c)
 unfolding to_bits bits_at
+to_bits_at f nan s a c C v = elim v [ ]
+to_bits_at f (inf _) s a c C v = elim v [ ]
 to_bits_at f (fin t m e) s a c C v =
     ap (λ (b : Bool). bits_at f b (m * up e * 2 ^ low f / down e)) v.0
     ∙ ap (bits_at f s) (div_same (m * up e * 2 ^ low f) (down e) (a * 2 ^ low f) c (down_pos e) C
@@ -33,12 +36,16 @@ value_unique f x y s a c b d p q C D v w e =
 
 -- two fractions that one float equals
 pub value_cross : (x : Float) (s : Bool) (a c b d : ℕ) → HasValue x s a c → HasValue x s b d → a * d ≡ b * c
+value_cross nan s a c b d v w = elim v [ ]
+value_cross (inf _) s a c b d v w = elim v [ ]
 value_cross (fin t m e) s a c b d v w =
     eq_of_mul-eq-mul_right (down e) (down_pos e) (a * d) (b * c)
     (mul_right_comm a d (down e) ∙ ap (λ (z : ℕ). z * d) (sym v.1) ∙ mul_right_comm (m * up e) c d ∙ ap (λ (z : ℕ). z * c) w.1 ∙ mul_right_comm b (down e) c)
 
 -- a float's value by another fraction
 pub rescale : (x : Float) (s : Bool) (a c b d : ℕ) → 0 < c → a * d ≡ b * c → HasValue x s a c → HasValue x s b d
+rescale nan s a c b d C h v = elim v [ ]
+rescale (inf _) s a c b d C h v = elim v [ ]
 rescale (fin t m e) s a c b d C h v = (
   v.0,
   eq_of_mul-eq-mul_right c C (m * up e * d) (b * down e)

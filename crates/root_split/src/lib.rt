@@ -1,18 +1,20 @@
 // A float taken apart for its root: its digits, and half its exponent.
 
+#![tactic(auto)]
+
 ghost use Rattle.std.specs.Prelude.{◌≡◌, ◌+◌, ◌*◌, ◌^◌, ◌≤◌, ◌<◌};
 ghost use Rattle.root_split.specs.Parts.{Split, Room, Raised, Opened};
 
 use root_digits::LEADING;
 
-#[derive(Drop)]
+#[derive(Clone, Copy)]
 pub struct Parts {
     pub m: u64,
     pub half: u64,
 }
 
 // digits·2^exponent.
-#[derive(Drop)]
+#[derive(Clone, Copy)]
 struct Scaled {
     digits: u64,
     exponent: u64,

@@ -1,5 +1,7 @@
 // The motion of a spacecraft: steps of a fixed length under a book of bodies, run in portions.
 
+#![tactic(auto)]
+
 pub mod inner;
 mod walking;
 
@@ -11,14 +13,14 @@ use gravity::Guesses;
 use state::{Setting, State};
 pub use step_end::Stepped;
 
-#[derive(Drop)]
+#[derive(Clone, Copy)]
 pub enum Outcome {
     Arrived,
     Going,
     Refused(u64),
 }
 
-#[derive(Drop)]
+#[derive(Clone, Copy)]
 pub struct RunAnswer {
     pub outcome: Outcome,
     pub steps: u32,

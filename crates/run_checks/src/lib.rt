@@ -1,5 +1,7 @@
 // The checks before a run's first step.
 
+#![tactic(auto)]
+
 ghost use Rattle.std.specs.Prelude.{◌≡◌};
 ghost use Rattle.run_checks.specs.Start.{inputs_refusal, start_refusal};
 

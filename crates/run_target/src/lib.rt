@@ -1,5 +1,7 @@
 // The way from a moment to a target in steps of one length.
 
+#![tactic(auto)]
+
 ghost use Rattle.std.specs.Prelude.{◌≡◌, ◌&&◌};
 ghost use Rattle.base.specs.Choice.{◌≤?◌};
 ghost use Rattle.run_target.specs.Target.{step_allowed, within_steps, target_refusal};

@@ -1,5 +1,7 @@
 // Sine and cosine of an angle in parts of 10^-10 degree, by octants and two polynomials.
 
+#![tactic(auto)]
+
 pub mod inner;
 
 ghost use Rattle.std.specs.Prelude.{◌≡◌};
@@ -7,13 +9,13 @@ ghost use Rattle.sine.specs.Sine.{sine_cosine_answer};
 
 use base::CIRCLE;
 
-#[derive(Drop)]
+#[derive(Clone, Copy)]
 pub struct SineCosine {
     pub sine: f64,
     pub cosine: f64,
 }
 
-#[derive(Drop)]
+#[derive(Clone, Copy)]
 pub enum SineCosineAnswer {
     Both(SineCosine),
     Refused(u64),

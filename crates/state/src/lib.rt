@@ -1,12 +1,14 @@
 // The state of a spacecraft, the setting under which it moves, and the tests of both.
 
+#![tactic(auto)]
+
 ghost use Rattle.std.specs.Prelude.{◌≡◌};
 ghost use Rattle.state.specs.State.{position, velocity, acceleration, starting_position, carrying, same_vector, n, finite_vector, finite_state, finite_injection, coefficients_allowed, terms_allowed, setting_allowed, coefficient_of, centre_allowed, used};
 
 use state_tests::{bits_agree, coefficient_is_allowed, earth_is_allowed};
 pub use state_tests::{is_body, is_looked_up};
 
-#[derive(Drop)]
+#[derive(Clone, Copy)]
 pub struct Vector {
     pub x: f64,
     pub y: f64,
@@ -15,7 +17,7 @@ pub struct Vector {
 
 // A moment, with the position in km and the velocity in km/s. Both are seen from a centre: (02, R-6) the number of a
 // body. (02, R-8) The acceleration about it, in km/s².
-#[derive(Drop)]
+#[derive(Clone, Copy)]
 pub struct State {
     pub moment: u64,
     pub centre: u64,
@@ -31,7 +33,7 @@ pub struct State {
 }
 
 // (02, R-8) A state that has no acceleration yet.
-#[derive(Drop)]
+#[derive(Clone, Copy)]
 pub struct Injection {
     pub moment: u64,
     pub centre: u64,
@@ -45,7 +47,7 @@ pub struct Injection {
 
 // The gravitational coefficients of the bodies 1 to 6 in km³/s², and DUT in milliseconds. (02, R-7) J and A in km for
 // the oblate Earth, and K in km³/s² for sunlight. (02, R-9) The rule of the hour angle.
-#[derive(Drop)]
+#[derive(Clone, Copy)]
 pub struct Setting {
     pub earth: f64,
     pub moon: f64,

@@ -4,6 +4,6 @@ use Rattle.base.proofs.OneAnswer.{OneAnswer, one_answer}
 use Rattle.state_checks.specs.Common.{common_refusal}
 use Rattle.state_checks.specs.contracts.common_refusal as common
 
-pub common_refusal_answers_once : OneAnswer common.ended (λ M. common.clauses)
+pub common_refusal_answers_once : OneAnswer common.ended (λ M 𝓤 𝓛. common.clauses 𝓛)
 common_refusal_answers_once =
     one_answer (λ κs i. common_refusal i.0.now i.1.0 i.1.1.0 i.1.1.1.0 i.1.1.1.1.0) (λ M 𝓤 𝓛 mem run κs inputs g r after. refl)

@@ -1,5 +1,7 @@
 // The first checks of acceleration, injection, move and run.
 
+#![tactic(auto)]
+
 ghost use Rattle.std.specs.Prelude.{◌≡◌};
 ghost use Rattle.state_checks.specs.Common.{common_refusal};
 

@@ -1,6 +1,8 @@
 // Tests of single numbers: equal bits of two floats, an allowed coefficient, the number of a body, and whether a body
 // is looked up.
 
+#![tactic(auto)]
+
 ghost use Rattle.std.specs.Prelude.{◌≡◌};
 ghost use Rattle.state_tests.specs.Allowed.{same_bits, coefficient_allowed, earth_allowed, is_body, looked_up};
 

@@ -1,5 +1,7 @@
 // The sums of a step: its length in seconds, a point along a slope, and the weighted slopes of four stages.
 
+#![tactic(auto)]
+
 ghost use Rattle.std.specs.Prelude.{◌≡◌};
 ghost use Rattle.step_sums.specs.Slopes.{step_h, along, weigh, weighed, half, sixth};
 

@@ -1,5 +1,7 @@
 // The program strip144: the listing of an order of 144 bytes, with J, A and K (02, R-7), and a book.
 
+#![tactic(auto)]
+
 fn main() {
     strip_lines::strip(strip_order::Form::Whole);
 }

@@ -6,6 +6,8 @@
 // that is printed here. The laws of listing_write (proofs/Whole.antt) say that these texts, in this order, make up
 // the whole.
 
+#![tactic(auto)]
+
 mod telling;
 
 ghost use Rattle.std.specs.Prelude.{◌≡◌, ◌≤◌, length};

@@ -1,6 +1,8 @@
 // The orders that the programs strip and strip144 read: document 01's of 120 bytes, and (02, R-7) the same with J, A
 // and K after it.
 
+#![tactic(auto)]
+
 mod bytes;
 
 ghost use Rattle.std.specs.Prelude.{◌≡◌, ◌≤◌, length};
@@ -11,21 +13,21 @@ use bytes::float_at;
 use state::{Injection, Setting};
 
 // The form of the order at the start of an input: `Plain` has 120 bytes, `Whole` 144.
-#[derive(Drop)]
+#[derive(Clone, Copy)]
 pub enum Form {
     Plain,
     Whole,
 }
 
 // The setting's last three floats: J and A of the Earth's oblateness, K of the sunlight.
-#[derive(Drop)]
+#[derive(Clone, Copy)]
 pub struct Terms {
     pub j: f64,
     pub a: f64,
     pub k: f64,
 }
 
-#[derive(Drop)]
+#[derive(Clone, Copy)]
 pub struct Order {
     pub setting: Setting,
     pub injection: Injection,
@@ -33,7 +35,7 @@ pub struct Order {
     pub target: u64,
 }
 
-#[derive(Drop)]
+#[derive(Clone, Copy)]
 pub enum OrderAnswer {
     Is(Order),
     Refused(u64),

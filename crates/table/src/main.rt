@@ -5,6 +5,8 @@
 // write for the text that it reads. Every text that is written here comes from a function with a contract. table_laws
 // proves that these texts, in this order, make up the whole.
 
+#![tactic(auto)]
+
 ghost use Rattle.std.specs.Prelude.{◌≤◌, length};
 ghost use Rattle.table_blocks.specs.Steps.{Stands};
 
@@ -14,7 +16,7 @@ use table_blocks::{Standing, opening};
 use table_rows::inner::put_heading;
 
 // The stage of reading, and whether all rows so far were written.
-#[derive(Drop)]
+#[derive(Clone, Copy)]
 struct Printed {
     standing: Standing,
     whole: bool,

@@ -1,5 +1,7 @@
 // The table of a listing, made byte by byte. The first refused line decides, and the rows before it are written.
 
+#![tactic(auto)]
+
 mod feed;
 pub mod inner;
 
@@ -14,28 +16,28 @@ use table_rows::has_large;
 
 // The stage of reading a listing: a place of the form, with a scan of the line of that number; or refused, with a
 // number and a line.
-#[derive(Drop)]
+#[derive(Clone, Copy)]
 pub enum Standing {
     Going(Place, Scan, u64),
     Refused(u64, u64),
 }
 
 // The stage of reading, and its place in the block.
-#[derive(Drop)]
+#[derive(Clone, Copy)]
 pub struct Ahead {
     pub standing: Standing,
     pub at: usize,
 }
 
 // The place after what was written.
-#[derive(Drop)]
+#[derive(Clone, Copy)]
 pub struct Step {
     pub standing: Standing,
     pub next: usize,
 }
 
 // The bytes written, and the place in the block after them.
-#[derive(Drop)]
+#[derive(Clone, Copy)]
 pub struct Portion {
     pub standing: Standing,
     pub at: usize,
@@ -43,7 +45,7 @@ pub struct Portion {
 }
 
 // The refusal of a whole text, or 0 and 0, and the place after what was written.
-#[derive(Drop)]
+#[derive(Clone, Copy)]
 pub struct End {
     pub number: u64,
     pub line: u64,

@@ -1,5 +1,7 @@
 // A state of a listing as a row of the table.
 
+#![tactic(auto)]
+
 pub mod inner;
 
 ghost use Rattle.std.specs.Prelude.{◌≡◌};

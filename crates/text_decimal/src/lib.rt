@@ -1,5 +1,7 @@
 // A float as a decimal numeral of three or six places, rounded to nearest.
 
+#![tactic(auto)]
+
 pub mod inner;
 
 ghost use Rattle.std.specs.Prelude.{◌≡◌};
@@ -8,7 +10,7 @@ ghost use Rattle.std.specs.Float.Ieee.{of_bits};
 ghost use Rattle.text_decimal.specs.Numeral.{is_large};
 
 // How many places follow the point.
-#[derive(Drop)]
+#[derive(Clone, Copy)]
 pub enum Places {
     Three,
     Six,

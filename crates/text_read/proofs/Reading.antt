@@ -1,5 +1,5 @@
 -- How far a field is read: what the rest of it still has to say. Assumes nothing.
-use Prim.Native.Nat.{ℕ, suc, ◌+◌, ◌-◌, ◌*◌, ◌/◌, ◌<◌, ◌≤◌}
+use Prim.Native.Nat.{ℕ, zero, suc, ◌+◌, ◌-◌, ◌*◌, ◌/◌, ◌<◌, ◌≤◌}
 use mathlib.Core.Bool.{and-false}
 use mathlib.Core.List.{List, [], ◌∷◌}
 use mathlib.Core.Path.{◌≡◌, refl, ◌∙◌}
@@ -40,6 +40,7 @@ one_more base f rest n count b r h = record { digits = r.digits ∙ rw (lt-ltb (
 grows : (base : ℕ) → 1 ≤ base → (n : ℕ) (rest : List ℕ) → n ≤ value_after base n rest
 unfolding value_after
 grows base one n [] = le_refl n
+grows zero one n (b ∷ rest) = elim one [ ]
 grows (suc k) one n (b ∷ rest) = le_trans (omega arith) (grows (suc k) one (suc k * n + digit_value b) rest)
 
 module _ (base least most : ℕ) (f : List ℕ) (at : ℕ) where

@@ -1,5 +1,7 @@
 // Numbers read from bytes, and the bits of floats.
 
+#![tactic(auto)]
+
 ghost use Rattle.std.specs.Prelude.{◌≡◌, ◌≤◌};
 ghost use Rattle.std.specs.Float.{binary64};
 ghost use Rattle.std.specs.Float.Ieee.{of_bits};
@@ -7,14 +9,14 @@ ghost use Rattle.text_read.specs.Fields.{between, digit_value, sized, read_numbe
 ghost use Rattle.text_read.specs.Patterns.{bits_of};
 
 // A number that was read, with the place after it.
-#[derive(Drop)]
+#[derive(Clone, Copy)]
 pub enum Field {
     Value(u64, usize),
     Bad,
 }
 
 // The bits of a float. For a NaN the contract does not say which bits.
-#[derive(Drop)]
+#[derive(Clone, Copy)]
 pub enum Bits {
     Pattern(u64),
     NaN,

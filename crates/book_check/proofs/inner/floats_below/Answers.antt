@@ -1,0 +1,21 @@
+-- `book_check::inner::floats_below` meets its contract. The invariant: the floats before k are below the limit. Assumes nothing.
+use native.Mathlib.Omega.{arith}
+use borrow.Author.Rules.{rules}
+use borrow.Author.Tests.{not-true, not-false}
+use Prim.Native.Nat.{◌≤◌, ◌-◌}
+use mathlib.Core.Bool.{true}
+use mathlib.Core.Path.{◌≡◌, refl, sym}
+use Rattle.book_check.specs.Check.{floats_below}
+use native.Mathlib.Numerals.{add-one}
+use native.Mathlib.Nat.{le_antisymm}
+use Rattle.base.proofs.Bools.{both, is_false, clash}
+use Rattle.book_check.proofs.Below.{every}
+use mathlib.Core.Bool.{not}
+use mathlib.Core.Path.{ap}
+use Rattle.book_check.proofs.inner.floats_below.Goals as goal
+
+pub returns-then-not-bits_below : goal.returns-then-not-bits_below
+returns-then-not-bits_below c = sym (is_false _ (λ h. clash (every _ _ h c.loop-k.k c.loop-k-test.true) (rw (
+  ← c.u64_at.ensures,
+  ← c.bits_below.ensures,
+) (c.if-not-bits_below.true))))

@@ -1,0 +1,9 @@
+-- `book_series::inner::argument_at` meets its contract: the numerator is small with either sign, so each cast is exact. Assumes nothing.
+use borrow.Author.Rules.{rules}
+use Rattle.book_series.specs.Series.{argument}
+use Rattle.book_series.proofs.Numerator.{span_back, span_in_float, twice_fits, numerator_fits, numerator_in_float, numerator_back, worked_out, as_written}
+use Rattle.book_series.proofs.inner.argument_at.Goals as goal
+
+pub returns : goal.returns
+unfolding argument
+returns c = rw (worked_out c.requires, numerator_back c.requires, span_back c.requires, as_written c.requires)

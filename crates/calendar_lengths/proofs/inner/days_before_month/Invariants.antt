@@ -1,0 +1,14 @@
+-- `calendar_lengths::inner::days_before_month` meets its contract. The invariant: days are those of the months before m. Assumes nothing.
+use mathlib.Core.Path.{◌≡◌, ap, ◌∙◌}
+use Prim.Native.Nat.{◌-◌, ◌≤◌}
+use borrow.Author.Rules.{rules}
+use native.Mathlib.Omega.{arith}
+use Rattle.calendar_lengths.specs.Lengths.{days_before_month}
+use Rattle.calendar_lengths.proofs.Lengths.{january_starts, next_month, month_ends}
+use Rattle.calendar_lengths.proofs.inner.days_before_month.Given as goal
+
+abbrev pub invariant-loop-m : goal.invariant-loop-m
+invariant-loop-m l = (1 ≤ l.m) × (l.m ≤ l.month) × (l.days ≡ days_before_month l.leap l.m)
+
+abbrev pub decreases-loop-m : goal.decreases-loop-m
+decreases-loop-m l = l.month - l.m

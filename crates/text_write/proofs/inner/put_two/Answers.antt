@@ -1,0 +1,9 @@
+-- `text_write::inner::put_two` meets its contract: one digit after the other. Assumes nothing.
+use native.Mathlib.Omega.{arith}
+use lib.ListN.{length-set}
+use Rattle.text_write.proofs.Digits.{digit_fits, two_digits}
+use borrow.Author.Rules.{rules}
+use Rattle.text_write.proofs.inner.put_two.Goals as goal
+
+pub returns : goal.returns
+returns c = rw (c.digit_byte.ensures, c.digit_byte-2.ensures) (two_digits _ c.args.n _ c.args.out.now c.requires.2)
