@@ -221,21 +221,21 @@ rows_before p n (l ∷ ls) h = go (eqb (refusal_at (placed p l) (row_of l)) 0) r
 -- ---- of a text
 
 module _ (text : List ℕ) where
-  refusal_of : refusal_of (table_of text) ≡ refusal_in text
+  refusal_of_lem : refusal_of (table_of text) ≡ refusal_in text
   unfolding table_of form_refusal
-  refusal_of = first_decides Top 1 (kinds_of text) (omega arith) (all_in_range text)
+  refusal_of_lem = first_decides Top 1 (kinds_of text) (omega arith) (all_in_range text)
 
   -- "what R-1 refuses is 13, a magnitude of 10^12 or more 17, each with its line; the first such line decides"
   pub told_first : told text ≡ refusal_text (refusal_in text).number (refusal_in text).line
   unfolding told
-  told_first = ap (λ (t : Table). refusal_text t.number t.line) refusal_of
+  told_first = ap (λ (t : Table). refusal_text t.number t.line) refusal_of_lem
 
   -- "and rows before it have been written"
   pub written_before : written text ≡ heading ++ rows_text (rows_of (lines_before (refusal_in text).line 1 (kinds_of text)))
   unfolding written table_of
   written_before =
       ap (λ (x : List ℕ). heading ++ x) (rows_before Top 1 (kinds_of text) (omega arith))
-      ∙ ap (λ (n : ℕ). heading ++ rows_text (rows_of (lines_before n 1 (kinds_of text)))) (line_of refusal_of)
+      ∙ ap (λ (n : ℕ). heading ++ rows_text (rows_of (lines_before n 1 (kinds_of text)))) (line_of refusal_of_lem)
     where
       line_of : refusal_of (table_of text) ≡ refusal_in text → (table_of text).line ≡ (refusal_in text).line
       line_of e = ap (λ (t : Table). t.line) e

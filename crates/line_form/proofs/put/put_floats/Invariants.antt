@@ -13,11 +13,11 @@ use Rattle.line_form.proofs.Spelling.{no_items, row_on}
 use borrow.Author.Rules.{rules}
 use Rattle.line_form.proofs.put.put_floats.Given as goal
 
-record Going (out₀ : List ℕ) (from : ℕ) (row : List Float) (i-end : ℕ) (out : List ℕ) (at i : ℕ) : Type 0 where
-  before : i ≤ i-end
-  end : i-end ≡ length row
-  room : Between from i (17 * i) at
-  wrote : Wrote out₀ from (spaced (reals (take i row))) out at
+pub record Going (out₀ : List ℕ) (from : ℕ) (row : List Float) (i-end : ℕ) (out : List ℕ) (at i : ℕ) : Type 0 where
+  pub before : i ≤ i-end
+  pub end : i-end ≡ length row
+  pub room : Between from i (17 * i) at
+  pub wrote : Wrote out₀ from (spaced (reals (take i row))) out at
 
 abbrev pub invariant-loop-i : goal.invariant-loop-i
 invariant-loop-i l = Going l.initial.out l.from l.row l.i-end l.out l.at l.i

@@ -44,7 +44,7 @@ loop-k-preserved c = let x = c.args in
         l.invariant.2,
       ),
       block_written x.input.now x.kept.now
-          c.requires.0 l.k (omega arith) x.out-1.now
+          c.requires.0 l.k (omega arith) x.out.now
           (omega arith) l.invariant.2 l.invariant.3
           (rw (c.size_of-size.ensures.0, c.offset_of.ensures.0) at c.copy.ensures),
     )

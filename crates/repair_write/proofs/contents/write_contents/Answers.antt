@@ -35,6 +35,6 @@ loop-k-preserved c = let x = c.args in
       c.write_entry.auto.out ∙ l.invariant.1,
       omega (arith, place_further x.input.now x.kept.now c.requires.0 l.k (omega arith), l.invariant.2),
       entry_written x.input.now x.kept.now
-          c.requires.0 l.k (omega arith) x.out-1.now
+          c.requires.0 l.k (omega arith) x.out.now
           (omega arith) l.invariant.2 l.invariant.3 c.write_entry.ensures,
     )

@@ -16,7 +16,7 @@ returns c = let x = c.args in
     let next = le32_length x.place in
     let rest = part_length b (entry_at x.i + 8) 16 (omega arith) in
     let both = length-append (part b (entry_at x.i) 4) (le32 x.place) in
-    joined x.out-1.now (part b (entry_at x.i) 4 ++ le32 x.place) (part b (entry_at x.i + 8) 16) x.at (x.at + 8)
-    (joined x.out-1.now (part b (entry_at x.i) 4) (le32 x.place) x.at (x.at + 4)
+    joined x.out.now (part b (entry_at x.i) 4 ++ le32 x.place) (part b (entry_at x.i + 8) 16) x.at (x.at + 8)
+    (joined x.out.now (part b (entry_at x.i) 4) (le32 x.place) x.at (x.at + 4)
     c.copy.ensures
     c.put_u32.ensures (omega arith) (omega arith)) c.copy-2.ensures (omega arith) (omega arith)

@@ -14,7 +14,7 @@ unfolding book_anew
 returns c = let x = c.args in
     let b = x.input.now in
     let kept = x.kept.now in
-    let out = x.out-1.now in
+    let out = x.out.now in
     let n = length kept in
     let contents = contents_anew b (entry_at n) kept in
     let sound = c.requires.0 in

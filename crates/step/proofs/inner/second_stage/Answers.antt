@@ -1,0 +1,33 @@
+-- `step::inner::second_stage` meets its contract. Assumes nothing.
+use Prim.Native.Nat.{◌+◌, ◌/◌}
+use Rattle.state.specs.State.{position, velocity, acceleration}
+use Rattle.gravity.specs.Acceleration.{acceleration_at}
+use Rattle.step.specs.Step.{along, half, keeping}
+use Rattle.step.specs.Stages.{stage3}
+use Rattle.step.specs.Entries.{entries_after}
+use Rattle.step.proofs.Answered.{answered, goes_on, leaves}
+use borrow.Author.Rules.{rules}
+use Rattle.step.proofs.inner.second_stage.Goals as goal
+
+pub returns-in-Is : goal.returns-in-Is
+returns-in-Is c = let x = c.args in
+    let b = x.book.now in
+    let acc = acceleration_at b x.setting x.s.centre in
+    let P2 = along (position x.s) (half x.h) (velocity x.s) in
+    goes_on (acc (x.s.moment + x.h / 2) P2) _ (stage3 acc (keeping acc) x.h x.s (acceleration x.s)) (entries_after b x.setting x.h x.s) _
+    (answered b x.setting x.s.centre
+    c.requires.1.1 (x.s.moment + x.h / 2) P2 _ _ _ _ (rw
+    (c.toward-p2.ensures, c.velocity_of.ensures, c.half_of.ensures, c.position_of.ensures))
+    c.seen_at-seen.ensures.0 c.acceleration_by-answer.ensures c.in-Is.is)
+    c.third_stage.ensures
+
+pub returns-in-Refused : goal.returns-in-Refused
+returns-in-Refused c = let x = c.args in
+    let b = x.book.now in
+    let acc = acceleration_at b x.setting x.s.centre in
+    let P2 = along (position x.s) (half x.h) (velocity x.s) in
+    leaves (acc (x.s.moment + x.h / 2) P2) _ (stage3 acc (keeping acc) x.h x.s (acceleration x.s)) (entries_after b x.setting x.h x.s)
+    (answered b x.setting x.s.centre c.requires.1.1
+    (x.s.moment + x.h / 2) P2 _ _ _ _ (rw
+    (c.toward-p2.ensures, c.velocity_of.ensures, c.half_of.ensures, c.position_of.ensures))
+    c.seen_at-seen.ensures.0 c.acceleration_by-answer.ensures c.in-Refused.is)

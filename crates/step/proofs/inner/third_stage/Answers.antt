@@ -1,0 +1,33 @@
+-- `step::inner::third_stage` meets its contract. Assumes nothing.
+use Prim.Native.Nat.{◌+◌, ◌/◌}
+use Rattle.state.specs.State.{position, acceleration}
+use Rattle.gravity.specs.Acceleration.{acceleration_at}
+use Rattle.step.specs.Step.{along, half, keeping}
+use Rattle.step.specs.Stages.{stage4, velocity2}
+use Rattle.step.specs.Entries.{entries_after}
+use Rattle.step.proofs.Answered.{answered, goes_on, leaves}
+use borrow.Author.Rules.{rules}
+use Rattle.step.proofs.inner.third_stage.Goals as goal
+
+pub returns-in-Is : goal.returns-in-Is
+returns-in-Is c = let x = c.args in
+    let b = x.book.now in
+    let acc = acceleration_at b x.setting x.s.centre in
+    let P3 = along (position x.s) (half x.h) (velocity2 x.h x.s (acceleration x.s)) in
+    goes_on (acc (x.s.moment + x.h / 2) P3) _ (stage4 acc (keeping acc) x.h x.s (acceleration x.s) x.a2) (entries_after b x.setting x.h x.s) _
+    (answered b x.setting x.s.centre
+    c.requires.ready.1.1 (x.s.moment + x.h / 2) P3 _ _ _ _ (rw
+    (c.toward-p3.ensures, c.position_of.ensures, c.toward-v2.ensures, c.acceleration_of.ensures, c.velocity_of.ensures, c.half_of-half.ensures))
+    c.requires.bodies_value c.acceleration_under-answer.ensures c.in-Is.is)
+    c.fourth_stage.ensures
+
+pub returns-in-Refused : goal.returns-in-Refused
+returns-in-Refused c = let x = c.args in
+    let b = x.book.now in
+    let acc = acceleration_at b x.setting x.s.centre in
+    let P3 = along (position x.s) (half x.h) (velocity2 x.h x.s (acceleration x.s)) in
+    leaves (acc (x.s.moment + x.h / 2) P3) _ (stage4 acc (keeping acc) x.h x.s (acceleration x.s) x.a2) (entries_after b x.setting x.h x.s)
+    (answered b x.setting x.s.centre c.requires.ready.1.1
+    (x.s.moment + x.h / 2) P3 _ _ _ _ (rw
+    (c.toward-p3.ensures, c.position_of.ensures, c.toward-v2.ensures, c.acceleration_of.ensures, c.velocity_of.ensures, c.half_of-half.ensures))
+    c.requires.bodies_value c.acceleration_under-answer.ensures c.in-Refused.is)
