@@ -35,6 +35,8 @@ same_field zero t u h = h
 same_field (suc i) t u h = let g : 2 ^ 52 + t < 2 ^ 52 + u = omega arith in mul-lt-mul_of_pos_right g (pow_pos i)
 
 higher_field : (f g t u : ℕ) → f < g → t < 2 ^ 52 → size f t < size g u
+higher_field zero zero t u h l = elim h [ ]
+higher_field (suc i) zero t u h l = elim h [ ]
 higher_field zero (suc j) t u h l =
     let p : 1 ≤ 2 ^ j = pow_pos j in
     let q : (2 ^ 52 + u) * 1 ≤ (2 ^ 52 + u) * 2 ^ j = mul-le-mul (le_of_eq refl) p in
@@ -95,6 +97,10 @@ same_test x y a b c k C K e f = go (ltb a b) refl
 
 lt_is : (x y : Float) (s t : Bool) (a b c : ℕ) → 0 < c → HasValue x s a c → HasValue y t b c → lt x y ≡ below s a t b
 unfolding lt
+lt_is nan y s t a b c C v w = elim v [ ]
+lt_is (inf _) y s t a b c C v w = elim v [ ]
+lt_is (fin p m e) nan s t a b c C v w = elim w [ ]
+lt_is (fin p m e) (inf _) s t a b c C v w = elim w [ ]
 lt_is (fin p m e) (fin q n d) s t a b c C v w =
     let k = down e * down d in
     let K : 0 < k = mul-pos (down_pos e) (down_pos d) in

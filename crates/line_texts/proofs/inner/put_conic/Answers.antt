@@ -1,0 +1,17 @@
+-- `line_texts::inner::put_conic` meets its contract. Assumes nothing.
+use native.Mathlib.Omega.{arith}
+use Rattle.line_form.proofs.Spelling.{widened}
+use borrow.Author.Rules.{rules}
+use Rattle.line_texts.proofs.inner.put_conic.Goals as goal
+
+pub put_figures-requires : goal.put_figures-requires
+put_figures-requires c = search rules
+
+pub put_refused-requires : goal.put_refused-requires
+put_refused-requires c = search rules
+
+pub returns-in-Figures : goal.returns-in-Figures
+returns-in-Figures c = rw c.in-Figures.is c.put_figures.ensures
+
+pub returns-in-Refused : goal.returns-in-Refused
+returns-in-Refused c = rw c.in-Refused.is (widened c.put_refused.ensures (omega arith) (omega arith))

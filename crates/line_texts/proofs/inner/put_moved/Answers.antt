@@ -1,0 +1,17 @@
+-- `line_texts::inner::put_moved` meets its contract. Assumes nothing.
+use native.Mathlib.Omega.{arith}
+use Rattle.line_form.proofs.Spelling.{widened}
+use borrow.Author.Rules.{rules}
+use Rattle.line_texts.proofs.inner.put_moved.Goals as goal
+
+pub put_state-requires : goal.put_state-requires
+put_state-requires c = search rules
+
+pub put_refused-requires : goal.put_refused-requires
+put_refused-requires c = search rules
+
+pub returns-in-Moved : goal.returns-in-Moved
+returns-in-Moved c = rw c.in-Moved.is (widened c.put_state.ensures (omega arith) (omega arith))
+
+pub returns-in-Refused : goal.returns-in-Refused
+returns-in-Refused c = rw c.in-Refused.is (widened c.put_refused.ensures (omega arith) (omega arith))

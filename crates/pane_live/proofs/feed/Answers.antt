@@ -1,0 +1,8 @@
+-- `pane_live::feed` meets its contract. Assumes nothing.
+use Rattle.pane_live.specs.Pane.{feed}
+use Rattle.std.proofs.Common.{rules}
+use Rattle.pane_live.proofs.feed.Goals as goal
+
+pub returns : goal.returns
+unfolding feed
+returns c = c.feed_by.ensures
