@@ -1,6 +1,5 @@
 -- `book::book_passes` meets its contract: what the first tests refuse does not pass. Assumes nothing.
 use native.Mathlib.Omega.{arith}
-use borrow.Author.Rules.{rules}
 use mathlib.Core.Path.{sym}
 use Rattle.book_check.proofs.Passing.{passing, contents_inside}
 use Rattle.base.proofs.Bools.{is_false}

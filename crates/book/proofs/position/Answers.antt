@@ -1,12 +1,8 @@
 -- `book::position` meets its contract, by the tests in its order. Assumes nothing.
 use native.Mathlib.Omega.{arith}
-use borrow.Author.Rules.{rules}
-use borrow.Author.Tests.{not-true, not-false, lt-ltb, le-ltb}
-use mathlib.Core.Path.{sym, ◌∙◌}
+use borrow.Author.Tests.{lt-ltb, le-ltb}
 use Rattle.base.specs.Limits.{end_of_time}
 use Rattle.book.specs.Position.{position_answer}
-use mathlib.Core.Bool.{not}
-use mathlib.Core.Path.{ap}
 use Rattle.book.proofs.position.Goals as goal
 
 pub returns-then-not-book_passes : goal.returns-then-not-book_passes

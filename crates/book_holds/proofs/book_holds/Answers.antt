@@ -1,6 +1,4 @@
 -- `book_holds::book_holds` meets its contract: both books are checked, and the walk decides. Assumes nothing.
-use borrow.Author.Rules.{rules}
-use mathlib.Core.Path.{sym, ◌∙◌}
 use Rattle.book_holds.specs.Answer.{holds_answer}
 use Rattle.book_holds.proofs.book_holds.Goals as goal
 

@@ -1,9 +1,6 @@
 -- `calendar::date_in_year` meets its contract. The invariant: the elapsed days reach to the month, or past it by the rest. Assumes nothing.
-use Prim.Native.Nat.{◌-◌, ◌<◌}
-use borrow.Author.Rules.{rules}
-use native.Mathlib.Omega.{arith}
-use Rattle.calendar_lengths.proofs.Lengths.{year_at_most}
-use Rattle.calendar.proofs.MonthSearch.{Reached, start, not_december, onward, reached}
+use Prim.Native.Nat.{◌-◌}
+use Rattle.calendar.proofs.MonthSearch.{Reached}
 use Rattle.calendar.proofs.date_in_year.Given as goal
 
 abbrev pub invariant-loop-length : goal.invariant-loop-length

@@ -3,7 +3,6 @@ use mathlib.Core.Path.{sym, ◌∙◌}
 use borrow.Author.Tests.{eq-eqb, ne_eqb}
 use Rattle.book.proofs.Found.{covered}
 use Rattle.centre.specs.Move.{motion_of}
-use borrow.Author.Rules.{rules}
 use Rattle.centre.proofs.motion_of.Goals as goal
 
 pub returns-then-number-eq1 : goal.returns-then-number-eq1

@@ -1,6 +1,5 @@
 -- `centre::move_by` meets its contract. Assumes nothing.
 use Rattle.centre.specs.Move.{shifted}
-use borrow.Author.Rules.{rules}
 use Rattle.centre.proofs.move_by.Goals as goal
 
 pub kept_or_7-requires : goal.kept_or_7-requires

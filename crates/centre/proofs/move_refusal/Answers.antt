@@ -1,6 +1,5 @@
 -- `centre::move_refusal` meets its contract. Assumes nothing.
 use Rattle.centre.specs.Move.{move_refusal}
-use borrow.Author.Rules.{rules}
 use Rattle.centre.proofs.move_refusal.Goals as goal
 
 pub returns : goal.returns

@@ -3,7 +3,6 @@ use mathlib.Core.Path.{sym, ◌∙◌}
 use borrow.Author.Tests.{ne_eqb}
 use Rattle.centre.specs.Move.{move_answer}
 use Rattle.centre.proofs.Moves.{may_move}
-use borrow.Author.Rules.{rules}
 use Rattle.centre.proofs.move_to.Goals as goal
 
 pub moved-requires : goal.moved-requires

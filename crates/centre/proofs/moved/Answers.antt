@@ -1,7 +1,6 @@
 -- `centre::moved` meets its contract. Assumes nothing.
 use borrow.Author.Tests.{eq-eqb, ne_eqb}
 use Rattle.centre.specs.Move.{move_of}
-use borrow.Author.Rules.{rules}
 use Rattle.centre.proofs.moved.Goals as goal
 
 pub returns-then-s-centre : goal.returns-then-s-centre

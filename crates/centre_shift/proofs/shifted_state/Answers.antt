@@ -1,6 +1,5 @@
 -- `centre_shift::shifted_state` meets its contract. Assumes nothing.
 use Rattle.centre_shift.specs.Shift.{shifted}
-use borrow.Author.Rules.{rules}
 use Rattle.centre_shift.proofs.shifted_state.Goals as goal
 
 pub returns : goal.returns

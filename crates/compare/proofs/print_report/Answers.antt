@@ -1,5 +1,5 @@
 -- `compare::print_report` is safe and ends after its four parts. Assumes nothing.
-use Rattle.std.proofs.Common.{◌≤◌, arith}
+use Rattle.std.proofs.Common.{arith}
 use Rattle.compare.proofs.print_report.Goals as goal
 
 pub loop-parts_left-init : goal.loop-parts_left-init

@@ -1,5 +1,5 @@
 -- `compare::print_report` is safe and ends after its four parts. Assumes nothing.
-use Rattle.std.proofs.Common.{◌≤◌, arith}
+use Rattle.std.proofs.Common.{◌≤◌}
 use Rattle.compare.proofs.print_report.Given as goal
 
 abbrev pub invariant-loop-parts_left : goal.invariant-loop-parts_left

@@ -1,7 +1,6 @@
 -- `compare_blocks::next_block` meets its contract. Assumes nothing.
 use borrow.Author.Tests.{lt-ltb, le-ltb}
 use Rattle.compare_blocks.specs.Sides.{onward}
-use borrow.Author.Rules.{rules}
 use Rattle.compare_blocks.proofs.next_block.Goals as goal
 
 pub returns-then-n-gt0 : goal.returns-then-n-gt0

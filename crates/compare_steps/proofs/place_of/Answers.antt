@@ -1,7 +1,6 @@
 -- `compare_steps::place_of` meets its contract. Assumes nothing.
 use borrow.Author.Tests.{lt-ltb, le-ltb}
 use Rattle.compare_steps.specs.Steps.{place}
-use borrow.Author.Rules.{rules}
 use Rattle.compare_steps.proofs.place_of.Goals as goal
 
 pub returns-then-bits-lt9223372036854775808 : goal.returns-then-bits-lt9223372036854775808

@@ -1,7 +1,6 @@
 -- `compare_steps::steps_between` meets its contract. Assumes nothing.
 use borrow.Author.Tests.{lt-ltb, le-ltb}
 use Rattle.compare_steps.specs.Steps.{steps}
-use borrow.Author.Rules.{rules}
 use Rattle.compare_steps.proofs.steps_between.Goals as goal
 
 pub returns-then-p-q : goal.returns-then-p-q

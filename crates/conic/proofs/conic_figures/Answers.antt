@@ -1,7 +1,6 @@
 -- `conic::conic_figures` meets its contract. Assumes nothing.
 use mathlib.Core.Path.{sym, ◌∙◌}
 use Rattle.conic.specs.Conic.{conic_answer}
-use borrow.Author.Rules.{rules}
 use Rattle.conic.proofs.conic_figures.Goals as goal
 
 pub returns-then-m : goal.returns-then-m

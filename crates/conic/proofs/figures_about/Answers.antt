@@ -1,7 +1,6 @@
 -- `conic::figures_about` meets its contract. Assumes nothing.
 use mathlib.Core.Path.{sym, ◌∙◌}
 use Rattle.conic.specs.Conic.{figures_about}
-use borrow.Author.Rules.{rules}
 use Rattle.conic.proofs.figures_about.Goals as goal
 
 pub returns-then-state_is_finite : goal.returns-then-state_is_finite

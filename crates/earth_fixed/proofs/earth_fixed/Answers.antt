@@ -3,7 +3,6 @@ use mathlib.Core.Path.{sym, ◌∙◌}
 use Rattle.earth_fixed.proofs.Answers.{about-earth}
 use borrow.Author.Tests.{le-leb, lt-leb, ne_eqb}
 use Rattle.earth_fixed.specs.Fixed.{fixed_answer}
-use borrow.Author.Rules.{rules}
 use Rattle.earth_fixed.proofs.earth_fixed.Goals as goal
 
 pub returns-then-dut-gt-LONGEST_DUT : goal.returns-then-dut-gt-LONGEST_DUT

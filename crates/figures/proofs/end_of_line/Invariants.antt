@@ -1,6 +1,5 @@
 -- `figures::end_of_line` meets its contract. Assumes nothing.
 use Prim.Native.Nat.{◌≤◌, ◌-◌}
-use native.Mathlib.Omega.{arith}
 use lib.ListN.{length}
 use Rattle.figures.proofs.end_of_line.Given as goal
 

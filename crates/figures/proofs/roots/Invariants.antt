@@ -1,6 +1,5 @@
 -- `figures::roots` meets its contract: each turn passes a line. Assumes nothing.
 use Prim.Native.Nat.{◌-◌}
-use native.Mathlib.Omega.{arith}
 use lib.ListN.{length}
 use Rattle.figures.proofs.roots.Given as goal
 

@@ -3,7 +3,6 @@ use mathlib.Core.Path.{sym, ◌∙◌}
 use borrow.Author.Tests.{ne_eqb}
 use Rattle.state_checks.proofs.Passed.{passed}
 use Rattle.gravity.specs.Acceleration.{acceleration_answer}
-use borrow.Author.Rules.{rules}
 use Rattle.gravity.proofs.acceleration.Goals as goal
 
 pub rule-requires : goal.rule-requires

@@ -1,6 +1,5 @@
 -- `gravity_bodies::beside` meets its contract. Assumes nothing.
 use Rattle.gravity_bodies.specs.Looked.{besides}
-use borrow.Author.Rules.{rules}
 use Rattle.gravity_bodies.proofs.beside.Goals as goal
 
 pub returns : goal.returns

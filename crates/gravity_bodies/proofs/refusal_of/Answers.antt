@@ -1,6 +1,5 @@
 -- `gravity_bodies::refusal_of` meets its contract. Assumes nothing.
 use Rattle.gravity_bodies.specs.Looked.{refusal_of, refusal_in}
-use borrow.Author.Rules.{rules}
 use Rattle.gravity_bodies.proofs.refusal_of.Goals as goal
 
 pub returns : goal.returns

@@ -3,7 +3,6 @@ use mathlib.Core.Path.{sym, ◌∙◌}
 use borrow.Author.Tests.{ne_eqb}
 use Rattle.gravity_stored.specs.Injection.{injection_answer}
 use Rattle.gravity_stored.proofs.Checked.{injectable}
-use borrow.Author.Rules.{rules}
 use Rattle.gravity_stored.proofs.inject.Goals as goal
 
 pub kept_at-requires : goal.kept_at-requires

@@ -1,6 +1,5 @@
 -- `gravity_stored::injection_refusal` meets its contract. Assumes nothing.
 use Rattle.gravity_stored.specs.Injection.{injection_refusal}
-use borrow.Author.Rules.{rules}
 use Rattle.gravity_stored.proofs.injection_refusal.Goals as goal
 
 pub returns : goal.returns

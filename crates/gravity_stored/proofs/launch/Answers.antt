@@ -1,6 +1,5 @@
 -- `gravity_stored::launch` meets its contract. Assumes nothing.
 use Rattle.gravity_stored.specs.Injection.{launched}
-use borrow.Author.Rules.{rules}
 use Rattle.gravity_stored.proofs.launch.Goals as goal
 
 pub returns : goal.returns

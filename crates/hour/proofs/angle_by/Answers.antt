@@ -1,7 +1,6 @@
 -- `hour::angle_by` meets its contract: one rule in each branch. Assumes nothing.
 use mathlib.Core.Path.{◌≡◌, ap, ◌∙◌, sym}
 use Prim.Native.Nat.{ℕ}
-use borrow.Author.Rules.{rules}
 use native.Mathlib.Omega.{arith}
 use Rattle.hour.specs.Hour.{sidereal_angle}
 use Rattle.hour.proofs.angle_by.Goals as goal

@@ -1,5 +1,4 @@
 -- `launch::fixed_place` meets its contract: the sine takes each angle. Assumes nothing.
-use Rattle.launch.proofs.Angles.{angles, within_circle}
 use Rattle.launch.specs.Sphere.{place_of}
 use Rattle.launch.proofs.fixed_place.Goals as goal
 

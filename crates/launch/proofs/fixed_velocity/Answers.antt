@@ -1,5 +1,4 @@
 -- `launch::fixed_velocity` meets its contract: the sine takes each angle. Assumes nothing.
-use Rattle.launch.proofs.Angles.{angles, within_circle}
 use Rattle.launch.specs.Sphere.{velocity_of}
 use Rattle.launch.proofs.fixed_velocity.Goals as goal
 

@@ -1,6 +1,5 @@
 -- `launch::from_sphere` meets its contract. Assumes nothing.
 use mathlib.Core.Path.{sym, ◌∙◌}
-use borrow.Author.Rules.{rules}
 use Rattle.launch.specs.Sphere.{sphere_answer}
 use Rattle.launch.proofs.from_sphere.Goals as goal
 

@@ -1,6 +1,6 @@
 -- `launch::injection` meets its contract, by the checks in their order. Assumes nothing.
 use mathlib.Core.Path.{◌≡◌, sym, ◌∙◌}
-use Rattle.launch.proofs.Checks.{checks, angles_pass, refused, accepted, not_finite}
+use Rattle.launch.proofs.Checks.{checks, refused, accepted, not_finite}
 use Rattle.launch.proofs.injection.Goals as goal
 
 pub returns-then-injection_is_finite : goal.returns-then-injection_is_finite

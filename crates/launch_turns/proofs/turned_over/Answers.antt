@@ -1,6 +1,5 @@
 -- `launch_turns::turned_over` meets its contract. Assumes nothing.
 use mathlib.Core.Path.{refl}
-use borrow.Author.Rules.{rules}
 use Rattle.launch_turns.specs.Turns.{transposed}
 use Rattle.launch_turns.proofs.turned_over.Goals as goal
 

@@ -2,7 +2,6 @@
 use mathlib.Core.Path.{sym, ◌∙◌}
 use Rattle.line_form.proofs.Reading.{is_call, no_call}
 use Rattle.pane_lines.proofs.Lines.{takes, frames, clears, others}
-use borrow.Author.Rules.{rules}
 use Rattle.pane_lines.proofs.answer_to.Goals as goal
 
 pub returns-then-reads : goal.returns-then-reads

@@ -1,6 +1,5 @@
 -- `pane_live::feed` meets its contract. Assumes nothing.
 use Rattle.pane_live.specs.Pane.{feed}
-use Rattle.std.proofs.Common.{rules}
 use Rattle.pane_live.proofs.feed.Goals as goal
 
 pub returns : goal.returns

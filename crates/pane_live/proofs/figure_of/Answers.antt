@@ -1,5 +1,5 @@
 -- `pane_live::figure_of` meets its contract. Assumes nothing.
-use Rattle.std.proofs.Common.{arith, rules, eq-eqb, ne_eqb}
+use Rattle.std.proofs.Common.{eq-eqb, ne_eqb}
 use Rattle.pane_live.specs.Pane.{figure}
 use Rattle.pane_live.proofs.figure_of.Goals as goal
 

@@ -1,6 +1,5 @@
 -- `pane_live::frame` meets its contract. Assumes nothing.
 use Rattle.pane_live.specs.Pane.{frame_at}
-use Rattle.std.proofs.Common.{rules}
 use Rattle.pane_live.proofs.frame.Goals as goal
 
 pub returns-in-Blank : goal.returns-in-Blank

@@ -1,5 +1,5 @@
 -- `pane_live::frame_between` meets its contract. Assumes nothing.
-use Rattle.std.proofs.Common.{arith, rules, le-ltb, lt-ltb}
+use Rattle.std.proofs.Common.{rules, le-ltb, lt-ltb}
 use Rattle.pane_live.proofs.frame_between.Goals as goal
 
 pub overflow_sub-result : goal.overflow_sub-result

@@ -1,5 +1,5 @@
 -- `pane_live::place_between` meets its contract. Assumes nothing.
-use Rattle.std.proofs.Common.{◌≡◌, refl, rules}
+use Rattle.std.proofs.Common.{◌≡◌, refl}
 use lib.Ieee.{binary64, of_bits, of_int, round}
 use Rattle.base.specs.Floats.{whole}
 use Rattle.pane_live.specs.Pane.{between}

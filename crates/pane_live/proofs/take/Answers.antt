@@ -1,6 +1,5 @@
 -- `pane_live::take` meets its contract. Assumes nothing.
 use Rattle.pane_live.specs.Pane.{take}
-use Rattle.std.proofs.Common.{rules}
 use Rattle.pane_live.proofs.take.Goals as goal
 
 pub returns-in-Blank : goal.returns-in-Blank

@@ -1,6 +1,5 @@
 -- `pane_motion::frame_motion` meets its contract. Assumes nothing.
 use Rattle.pane_motion.specs.Motion.{motion_at}
-use borrow.Author.Rules.{rules}
 use Rattle.pane_motion.proofs.frame_motion.Goals as goal
 
 pub returns-in-Blank : goal.returns-in-Blank

@@ -4,7 +4,6 @@ use lib.Ieee.{binary64, of_bits, of_int, round}
 use Rattle.base.specs.Floats.{whole}
 use Rattle.pane_live.specs.Pane.{between}
 use Rattle.pane_motion.specs.Motion.{rate_between}
-use borrow.Author.Rules.{rules}
 use Rattle.pane_motion.proofs.motion_along.Goals as goal
 
 thousand : of_bits binary64 0x408f_4000_0000_0000 ≡ whole 1000

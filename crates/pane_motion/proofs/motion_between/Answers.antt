@@ -1,9 +1,7 @@
 -- `pane_motion::motion_between` meets its contract. Assumes nothing.
 use borrow.Author.Tests.{lt-ltb, le-ltb}
-use native.Mathlib.Omega.{arith}
 use Rattle.pane_live.specs.Pane.{frame_at}
 use Rattle.pane_motion.specs.Motion.{motion_at}
-use borrow.Author.Rules.{rules}
 use Rattle.pane_motion.proofs.motion_between.Goals as goal
 
 pub returns-then-b-t : goal.returns-then-b-t

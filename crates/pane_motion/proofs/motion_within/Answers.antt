@@ -2,7 +2,6 @@
 use borrow.Author.Tests.{eq-eqb, ne_eqb}
 use Rattle.pane_live.specs.Pane.{figure}
 use Rattle.pane_motion.specs.Motion.{frame_velocity}
-use borrow.Author.Rules.{rules}
 use Rattle.pane_motion.proofs.motion_within.Goals as goal
 
 pub returns-then-t-a : goal.returns-then-t-a

@@ -1,6 +1,4 @@
 -- `repair::tell_fates` is safe and ends. Assumes nothing.
-use native.Mathlib.Omega.{arith}
-use borrow.Author.Rules.{rules}
 use Prim.Native.Nat.{◌-◌, ◌≤◌}
 use Rattle.repair.proofs.tell_fates.Given as goal
 

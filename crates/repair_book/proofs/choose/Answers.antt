@@ -1,11 +1,10 @@
 -- `repair_book::choose` meets its contract: the entries in order, going forward. Assumes nothing.
 use native.Mathlib.Omega.{arith}
-use mathlib.Core.Path.{sym, ◌∙◌}
+use mathlib.Core.Path.{◌∙◌}
 use Prim.Native.Nat.{◌≤◌}
 use lib.Seq.{length-take-le}
 use Rattle.repair_sort.proofs.Sounds.{ordered_length, ordered_sound}
 use Rattle.repair_book.proofs.Chosen.{from_none}
-use borrow.Author.Rules.{rules}
 use Rattle.repair_book.proofs.choose.Goals as goal
 
 pub go_forward-requires : goal.go_forward-requires

@@ -1,12 +1,9 @@
 -- `repair_book::mend_by` meets its contract: the entries chosen, the book of them written, the report. Assumes nothing.
-use native.Mathlib.Omega.{arith}
-use mathlib.Core.Path.{◌≡◌, sym, ap, ◌∙◌}
+use mathlib.Core.Path.{◌≡◌, ap, ◌∙◌}
 use lib.ListN.{length, take}
-use lib.Seq.{length-take-le}
 use Rattle.repair_choose.specs.Forward.{Sofar}
 use Rattle.repair_book.specs.Repaired.{room_of, kept_of}
 use Rattle.repair_book.proofs.Chosen.{kept_of_lem}
-use borrow.Author.Rules.{rules}
 use Rattle.repair_book.proofs.mend_by.Goals as goal
 
 pub returns : goal.returns

@@ -1,9 +1,6 @@
 -- `repair_book::repair` meets its contract: refused, or mended. Assumes nothing.
-use native.Mathlib.Omega.{arith}
 use mathlib.Core.Path.{sym, ◌∙◌}
-use lib.ListN.{length}
-use Rattle.repair_book.proofs.Refusals.{refused_none, none_refused, refused_by_lem}
-use borrow.Author.Rules.{rules}
+use Rattle.repair_book.proofs.Refusals.{none_refused, refused_by_lem}
 use Rattle.repair_book.proofs.repair.Goals as goal
 
 pub returns-then-refusal-eq0 : goal.returns-then-refusal-eq0

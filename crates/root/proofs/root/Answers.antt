@@ -1,6 +1,5 @@
 -- `root::root` meets its contract. Assumes nothing.
 use mathlib.Core.Path.{sym, ap, ◌∙◌}
-use borrow.Author.Rules.{rules}
 use Rattle.root.specs.declared.RootAnswer.TheVariants.{Value}
 use Rattle.root.proofs.Signs.{not_refused, refused_negative, refused_infinite}
 use Rattle.root.proofs.root.Goals as goal

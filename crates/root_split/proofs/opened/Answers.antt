@@ -10,12 +10,11 @@ use lib.Ieee.{Float, binary64, low, of_bits, to_bits, fits, lt}
 use lib.Ieee.Bits.{of_bits-to_bits}
 use lib.Ieee.Exact.{HasValue}
 use lib.Ieee.Positive.{positive}
-use borrow.Author.Rules.{rules}
 use Rattle.root_split.specs.Parts.{Split, Opened}
 use Rattle.root_digits.proofs.Powers.{four_pow}
 use Rattle.root_split.proofs.Values.{rescale}
 use Rattle.root_split.proofs.Fields.{subnormal_value, normal_value, none_above}
-use Rattle.root_split.proofs.Tests.{above_no_nan, above_bits, positive_above}
+use Rattle.root_split.proofs.Tests.{above_bits, positive_above}
 use Rattle.root_split.proofs.opened.Goals as goal
 
 -- a of the smallest floats, 2^-l, in units of 4^-l

@@ -4,7 +4,6 @@ use Prim.Native.Nat.{ℕ, suc, ◌+◌, ◌*◌, ◌^◌}
 use native.Mathlib.Nat.{add-mul, mul-add, two-pow-succ}
 use native.Mathlib.Omega.{arith}
 use lib.Pow.{pow-add}
-use borrow.Author.Rules.{rules}
 use Rattle.root_digits.proofs.Powers.{four_pow}
 use Rattle.root_split.proofs.split.Goals as goal
 

@@ -3,7 +3,6 @@ use mathlib.Core.Path.{sym, ◌∙◌}
 use borrow.Author.Tests.{ne_eqb}
 use Rattle.run.specs.Run.{run_answer}
 use Rattle.run.proofs.Start.{may_walk}
-use borrow.Author.Rules.{rules}
 use Rattle.run.proofs.run.Goals as goal
 
 pub walk_on-requires : goal.walk_on-requires

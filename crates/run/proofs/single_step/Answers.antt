@@ -1,7 +1,6 @@
 -- `run::single_step` meets its contract. Assumes nothing.
 use mathlib.Core.Path.{◌∙◌}
 use Rattle.run.proofs.Start.{late}
-use borrow.Author.Rules.{rules}
 use Rattle.run.proofs.single_step.Goals as goal
 
 pub returns : goal.returns

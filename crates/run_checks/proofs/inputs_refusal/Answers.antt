@@ -1,6 +1,5 @@
 -- `run_checks::inputs_refusal` meets its contract. Assumes nothing.
 use Rattle.run_checks.specs.Start.{inputs_refusal}
-use borrow.Author.Rules.{rules}
 use Rattle.run_checks.proofs.inputs_refusal.Goals as goal
 
 pub returns : goal.returns

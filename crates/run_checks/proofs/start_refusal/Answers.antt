@@ -3,7 +3,6 @@ use mathlib.Core.Path.{sym, ◌∙◌}
 use borrow.Author.Tests.{ne_eqb}
 use Rattle.run_checks.specs.Start.{start_refusal}
 use Rattle.run_checks.proofs.Passed.{opened}
-use borrow.Author.Rules.{rules}
 use Rattle.run_checks.proofs.start_refusal.Goals as goal
 
 pub stored_refusal-stored-requires : goal.stored_refusal-stored-requires

@@ -1,7 +1,6 @@
 -- `run_target::target_refusal` meets its contract. Assumes nothing.
 use Rattle.run_target.specs.Target.{target_refusal}
 use Rattle.run_target.proofs.Order.{last_two}
-use borrow.Author.Rules.{rules}
 use Rattle.run_target.proofs.target_refusal.Goals as goal
 
 pub returns : goal.returns

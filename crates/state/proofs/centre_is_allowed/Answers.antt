@@ -1,6 +1,5 @@
 -- `state::centre_is_allowed` meets its contract. Assumes nothing.
 use Rattle.state.specs.State.{centre_allowed}
-use borrow.Author.Rules.{rules}
 use Rattle.state.proofs.centre_is_allowed.Goals as goal
 
 pub returns : goal.returns

@@ -2,7 +2,6 @@
 use mathlib.Core.Path.{sym, ◌∙◌}
 use borrow.Author.Tests.{le-leb, lt-leb}
 use Rattle.state.specs.State.{setting_allowed}
-use borrow.Author.Rules.{rules}
 use Rattle.state.proofs.setting_is_allowed.Goals as goal
 
 pub returns-then-s-le-LONGEST_DUT : goal.returns-then-s-le-LONGEST_DUT

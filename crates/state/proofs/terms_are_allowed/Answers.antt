@@ -1,10 +1,8 @@
 -- `state::terms_are_allowed` meets its contract. Assumes nothing.
-use mathlib.Core.Path.{sym, ◌∙◌}
+use mathlib.Core.Path.{sym, ◌∙◌, ap}
 use borrow.Author.Tests.{not-true, not-false}
 use Rattle.state.specs.State.{terms_allowed}
-use borrow.Author.Rules.{rules}
 use mathlib.Core.Bool.{not}
-use mathlib.Core.Path.{ap}
 use Rattle.state.proofs.terms_are_allowed.Goals as goal
 
 pub returns-then-not-coefficient_is_allowed : goal.returns-then-not-coefficient_is_allowed

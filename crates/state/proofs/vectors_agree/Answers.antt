@@ -1,7 +1,6 @@
 -- `state::vectors_agree` meets its contract. Assumes nothing.
 use mathlib.Core.Path.{sym, ◌∙◌}
 use Rattle.state.specs.State.{same_vector}
-use borrow.Author.Rules.{rules}
 use Rattle.state.proofs.vectors_agree.Goals as goal
 
 pub returns-then-bits_agree-2 : goal.returns-then-bits_agree-2

@@ -1,6 +1,5 @@
 -- `state_checks::common_refusal` meets its contract. Assumes nothing.
 use Rattle.state_checks.specs.Common.{common_refusal}
-use borrow.Author.Rules.{rules}
 use Rattle.state_checks.proofs.common_refusal.Goals as goal
 
 pub returns : goal.returns

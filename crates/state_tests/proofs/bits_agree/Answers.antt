@@ -4,7 +4,6 @@ use mathlib.Core.Path.{◌≡◌, sym, ◌∙◌}
 use lib.Dec.{T}
 use lib.Ieee.{Float, nan, inf, fin, is_nan}
 use lib.Ieee.Scale.{finite}
-use borrow.Author.Rules.{rules}
 use Rattle.state_tests.proofs.bits_agree.Goals as goal
 
 number : (x : Float) → finite x ≡ true → T (not (is_nan x))

@@ -1,7 +1,6 @@
 -- `step_sums::half_of` meets its contract. Assumes nothing.
 use lib.Ieee.{of_bits, round}
 use Rattle.step_sums.specs.Slopes.{half}
-use borrow.Author.Rules.{rules}
 use Rattle.step_sums.proofs.half_of.Goals as goal
 
 pub returns : goal.returns

@@ -2,7 +2,6 @@
 use mathlib.Core.Path.{refl}
 use lib.Ieee.{of_bits, of_int, round}
 use Rattle.step_sums.specs.Slopes.{step_h}
-use borrow.Author.Rules.{rules}
 use Rattle.step_sums.proofs.seconds.Goals as goal
 
 pub returns : goal.returns

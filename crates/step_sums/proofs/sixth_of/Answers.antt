@@ -1,7 +1,6 @@
 -- `step_sums::sixth_of` meets its contract. Assumes nothing.
 use lib.Ieee.{of_bits, of_int, round}
 use Rattle.step_sums.specs.Slopes.{sixth}
-use borrow.Author.Rules.{rules}
 use Rattle.step_sums.proofs.sixth_of.Goals as goal
 
 pub returns : goal.returns

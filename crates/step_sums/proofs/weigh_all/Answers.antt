@@ -1,6 +1,5 @@
 -- `step_sums::weigh_all` meets its contract. Assumes nothing.
 use Rattle.step_sums.specs.Slopes.{weighed}
-use borrow.Author.Rules.{rules}
 use Rattle.step_sums.proofs.weigh_all.Goals as goal
 
 pub returns : goal.returns

@@ -1,9 +1,7 @@
 -- `strip_lines::print_course` meets its contract: a portion that leaves the run going is nearer to the target. The measure is the number of
 -- steps left. Assumes nothing.
-use mathlib.Core.Path.{◌≡◌, refl, sym, ◌∙◌}
-use native.Mathlib.Omega.{arith}
+use mathlib.Core.Path.{◌≡◌}
 use lib.ListN.{length}
-use lib.Seq.{length-take-le}
 use Rattle.listing_write.specs.Course.{OnCourse}
 use Rattle.strip_lines.proofs.print_course.Given as goal
 

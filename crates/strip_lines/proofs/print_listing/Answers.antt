@@ -1,12 +1,8 @@
 -- `strip_lines::print_listing` meets its contract: the buffer holds two lines, and a run that passed starts on course. Assumes nothing.
-use mathlib.Core.Path.{sym}
 use native.Mathlib.Omega.{arith}
-use lib.Seq.{length-take-le}
-use Rattle.text_write.proofs.Writing.{inside}
 use Rattle.run.proofs.Start.{may_walk}
 use Rattle.listing_write.proofs.Lengths.{header_fits}
 use Rattle.listing_write.proofs.Courses.{starts}
-use borrow.Author.Rules.{rules}
 use Rattle.strip_lines.proofs.print_listing.Goals as goal
 
 pub put_state-n-requires : goal.put_state-n-requires

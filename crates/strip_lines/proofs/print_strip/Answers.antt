@@ -1,7 +1,6 @@
 -- `strip_lines::print_strip` meets its contract: an order that was read is followed by the book. Assumes nothing.
 use mathlib.Core.Path.{sym, ◌∙◌}
 use Rattle.strip_order.proofs.Reading.{order_there}
-use borrow.Author.Rules.{rules}
 use Rattle.strip_lines.proofs.print_strip.Goals as goal
 
 pub slice_bounds-print_order-count : goal.slice_bounds-print_order-count

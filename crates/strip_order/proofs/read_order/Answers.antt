@@ -1,5 +1,4 @@
 -- `strip_order::read_order` meets its contract. Assumes nothing.
-use lib.ListN.{length}
 use borrow.Author.Tests.{lt-ltb, le-ltb}
 use Rattle.strip_order.specs.Order.{read_order}
 use Rattle.strip_order.proofs.read_order.Goals as goal

@@ -1,9 +1,7 @@
 -- `table::print_block` meets its contract. Assumes nothing.
 use Prim.Native.Nat.{◌-◌, ◌≤◌}
-use mathlib.Core.Path.{◌≡◌, refl, sym, ◌∙◌}
-use native.Mathlib.Omega.{arith}
+use mathlib.Core.Path.{◌≡◌}
 use lib.ListN.{length}
-use lib.Seq.{length-take-le}
 use Rattle.table_blocks.specs.Steps.{Stands}
 use Rattle.table.proofs.print_block.Given as goal
 

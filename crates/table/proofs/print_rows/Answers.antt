@@ -1,11 +1,6 @@
 -- `table::print_rows` meets its contract. Assumes nothing.
-use mathlib.Core.Path.{◌≡◌, refl, ◌∙◌}
-use Prim.Native.Nat.{◌≤◌}
-use native.Mathlib.Omega.{arith}
+use mathlib.Core.Path.{◌∙◌}
 use borrow.Author.Rules.{rules}
-use lib.ListN.{length}
-use Rattle.table_blocks.specs.Steps.{Stands}
-use Rattle.table_blocks.proofs.Reading.{going_stands}
 use Rattle.table.proofs.print_rows.Goals as goal
 
 pub opening-s-requires : goal.opening-s-requires

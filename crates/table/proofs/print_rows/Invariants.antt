@@ -1,11 +1,8 @@
 -- `table::print_rows` meets its contract. Assumes nothing.
-use mathlib.Core.Path.{◌≡◌, refl, ◌∙◌}
+use mathlib.Core.Path.{◌≡◌}
 use Prim.Native.Nat.{◌≤◌}
-use native.Mathlib.Omega.{arith}
-use borrow.Author.Rules.{rules}
 use lib.ListN.{length}
 use Rattle.table_blocks.specs.Steps.{Stands}
-use Rattle.table_blocks.proofs.Reading.{going_stands}
 use Rattle.table.proofs.print_rows.Given as goal
 
 -- PARAMS ['block₀', 'out₀', 's₀', 'blocks-left₀', 't8', 'block', 'out', 's', 'blocks-left'] vs ['block', 'out', 's', 'blocks_left'] [True, True, True, True]

@@ -1,6 +1,5 @@
 -- `table_rows::has_large` meets its contract. Assumes nothing.
 use Rattle.table_rows.specs.Text.{has_large}
-use borrow.Author.Rules.{rules}
 use Rattle.table_rows.proofs.has_large.Goals as goal
 
 pub returns-then-any_large : goal.returns-then-any_large

@@ -2,7 +2,7 @@
 use mathlib.Core.Bool.{true, false, not}
 use mathlib.Core.Path.{◌≡◌, refl, sym, ap, subst}
 use lib.Dec.{T}
-use lib.Ieee.{Float, nan, inf, fin, binary64, eq, ne, is_nan, to_bits}
+use lib.Ieee.{Float, nan, inf, fin, binary64, eq, ne, to_bits}
 use lib.Ieee.Compare.{differs_from_itself}
 use Rattle.text_read.specs.Patterns.{bits_of}
 use Rattle.text_read.specs.declared.Bits.TheVariants.{Pattern, NaN}

@@ -1,13 +1,11 @@
 -- `text_read::read_number` meets its contract: the digits from the place up to i are read, and spell n. Assumes nothing.
-use Prim.Native.Nat.{◌+◌, ◌-◌, ◌*◌, ◌<◌, ◌≤◌}
+use Prim.Native.Nat.{◌+◌, ◌-◌, ◌*◌, ◌<◌}
 use mathlib.Core.List.{◌∷◌}
 use mathlib.Core.Path.{◌≡◌, ◌∙◌}
-use native.Mathlib.Nat.{sub_self}
 use native.Mathlib.Omega.{arith}
-use lib.ListN.{length, drop, get_or}
-use borrow.Author.Rules.{rules}
+use lib.ListN.{drop, get_or}
 use Rattle.text_read.specs.Fields.{until_space, read_number}
-use Rattle.text_read.proofs.Reading.{Reads, at_end_lem, at_space, at_byte, unread, one_more, no_digit, too_large, ended, overflows, stays}
+use Rattle.text_read.proofs.Reading.{Reads, at_end_lem, at_space, at_byte, one_more, no_digit, too_large, ended, overflows, stays}
 use Rattle.text_read.proofs.read_number.Goals as goal
 
 pub returns-then-b-eq32 : goal.returns-then-b-eq32

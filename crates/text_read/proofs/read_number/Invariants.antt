@@ -1,13 +1,8 @@
 -- `text_read::read_number` meets its contract: the digits from the place up to i are read, and spell n. Assumes nothing.
-use Prim.Native.Nat.{◌+◌, ◌-◌, ◌*◌, ◌<◌, ◌≤◌}
-use mathlib.Core.List.{◌∷◌}
-use mathlib.Core.Path.{◌≡◌, ◌∙◌}
-use native.Mathlib.Nat.{sub_self}
-use native.Mathlib.Omega.{arith}
-use lib.ListN.{length, drop, get_or}
-use borrow.Author.Rules.{rules}
-use Rattle.text_read.specs.Fields.{until_space, read_number}
-use Rattle.text_read.proofs.Reading.{Reads, at_end_lem, at_space, at_byte, unread, one_more, no_digit, too_large, ended, overflows, stays}
+use Prim.Native.Nat.{◌-◌, ◌<◌, ◌≤◌}
+use lib.ListN.{length, drop}
+use Rattle.text_read.specs.Fields.{until_space}
+use Rattle.text_read.proofs.Reading.{Reads}
 use Rattle.text_read.proofs.read_number.Given as goal
 
 abbrev pub invariant-loop-i : goal.invariant-loop-i

@@ -1,8 +1,5 @@
 -- `base_bytes::inner::float_at` meets its contract: a finite float's pattern is no NaN's. Assumes nothing.
-use borrow.Author.Rules.{rules}
 use Rattle.base_bytes.proofs.FiniteBits.{finite_no_nan}
-use mathlib.Core.Path.{ap}
-use lib.Ieee.{binary64, of_bits}
 use Rattle.base_bytes.proofs.inner.float_at.Goals as goal
 
 pub float_from_bits-result : goal.float_from_bits-result

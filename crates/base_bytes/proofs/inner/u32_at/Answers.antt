@@ -1,6 +1,5 @@
 -- `base_bytes::inner::u32_at` meets its contract, by those of its two halves. Assumes nothing.
 use native.Mathlib.Omega.{arith}
-use borrow.Author.Rules.{rules}
 use Rattle.base_bytes.specs.Bytes.{u32_at}
 use Rattle.base_bytes.proofs.inner.u32_at.Goals as goal
 

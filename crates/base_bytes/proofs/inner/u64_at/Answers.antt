@@ -1,6 +1,5 @@
 -- `base_bytes::inner::u64_at` meets its contract, by those of its two halves. Assumes nothing.
 use native.Mathlib.Omega.{arith}
-use borrow.Author.Rules.{rules}
 use Rattle.base_bytes.specs.Bytes.{u64_at}
 use Rattle.base_bytes.proofs.inner.u64_at.Goals as goal
 

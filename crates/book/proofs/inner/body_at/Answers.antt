@@ -1,5 +1,4 @@
 -- `book::inner::body_at` meets its contract: the entry that the lookup gives covers the moment. Assumes nothing.
-use borrow.Author.Rules.{rules}
 use mathlib.Core.Path.{sym, ◌∙◌}
 use Rattle.book_search.proofs.Found.{covered}
 use Rattle.book.proofs.BodyAt.{no_cover, not_finite, too_fast, at_place}

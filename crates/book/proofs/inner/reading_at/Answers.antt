@@ -1,6 +1,5 @@
 -- `book::inner::reading_at` meets its contract: the entry's numbers and its block lie inside a book that passes. Assumes nothing.
 use native.Mathlib.Omega.{arith}
-use borrow.Author.Rules.{rules}
 use Prim.Native.Nat.{◌+◌, ◌≤◌, ◌^◌}
 use lib.ListN.{length}
 use lib.Dec.{le→leb}

@@ -1,7 +1,5 @@
 -- `book::inner::slow_at` meets its contract: by the law of calm books, or by the velocity itself. Assumes nothing.
-use borrow.Author.Rules.{rules}
-use mathlib.Core.Path.{sym, ap, ◌∙◌}
-use Rattle.book.specs.Position.{finite_velocity}
+use mathlib.Core.Path.{sym}
 use Rattle.book.proofs.Slow.{slow}
 use Rattle.book.proofs.inner.slow_at.Goals as goal
 

@@ -1,15 +1,9 @@
 -- `book_check::inner::entries_pass` meets its contract. The invariant: the entries before i are checked, and block i has to begin at `place`. Assumes nothing.
-use native.Mathlib.Omega.{arith}
-use borrow.Author.Tests.{not-true, not-false}
 use Prim.Native.Nat.{◌≤◌, ◌-◌}
-use native.Mathlib.Numerals.{add-one}
-use mathlib.Core.Path.{◌≡◌, sym, ◌∙◌}
+use mathlib.Core.Path.{◌≡◌}
 use lib.ListN.{length}
-use Rattle.book_check.specs.Contents.{entry_count}
 use Rattle.book_check.specs.Passes.{block_place}
-use Rattle.book_check.proofs.Passing.{passing}
-use Rattle.book_check.proofs.Checked.{Held, Checked, passing_holds, passing_next, none_checked, one_more, by_length, held}
-use Rattle.base.proofs.Bools.{is_false, clash}
+use Rattle.book_check.proofs.Checked.{Checked}
 use Rattle.book_check.proofs.inner.entries_pass.Given as goal
 
 abbrev pub invariant-loop-i : goal.invariant-loop-i

@@ -1,12 +1,11 @@
 -- `book_check::inner::entry_holds` meets its contract, by those of the tests in its order. Assumes nothing.
 use native.Mathlib.Omega.{arith}
 use borrow.Author.Rules.{rules}
-use borrow.Author.Tests.{not-true, not-false}
-use mathlib.Core.Path.{sym, ◌∙◌}
+use borrow.Author.Tests.{not-true}
+use mathlib.Core.Path.{sym, ◌∙◌, ap}
 use Rattle.book_check.proofs.Checked.{held, held_by_floats}
 use Rattle.base.proofs.Bools.{is_false}
 use mathlib.Core.Bool.{not}
-use mathlib.Core.Path.{ap}
 use Rattle.book_check.proofs.inner.entry_holds.Goals as goal
 
 pub fields_allowed-requires : goal.fields_allowed-requires

@@ -1,17 +1,9 @@
 -- `book_check::inner::floats_below` meets its contract. The invariant: the floats before k are below the limit. Assumes nothing.
-use native.Mathlib.Omega.{arith}
-use borrow.Author.Rules.{rules}
-use borrow.Author.Tests.{not-true, not-false}
-use Prim.Native.Nat.{◌≤◌, ◌-◌}
+use Prim.Native.Nat.{◌-◌}
 use mathlib.Core.Bool.{true}
-use mathlib.Core.Path.{◌≡◌, refl, sym}
-use Rattle.book_check.specs.Check.{floats_below}
-use native.Mathlib.Numerals.{add-one}
-use native.Mathlib.Nat.{le_antisymm}
-use Rattle.base.proofs.Bools.{both, is_false, clash}
+use mathlib.Core.Path.{sym}
+use Rattle.base.proofs.Bools.{is_false, clash}
 use Rattle.book_check.proofs.Below.{every}
-use mathlib.Core.Bool.{not}
-use mathlib.Core.Path.{ap}
 use Rattle.book_check.proofs.inner.floats_below.Goals as goal
 
 pub returns-then-not-bits_below : goal.returns-then-not-bits_below

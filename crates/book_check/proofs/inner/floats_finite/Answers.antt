@@ -1,5 +1,4 @@
 -- `book_check::inner::floats_finite` meets its contract: a float is finite if its bits are below those of infinity. Assumes nothing.
-use borrow.Author.Rules.{rules}
 use mathlib.Core.Path.{◌∙◌}
 use Rattle.book_check.proofs.Below.{finite_below}
 use Rattle.book_check.proofs.inner.floats_finite.Goals as goal

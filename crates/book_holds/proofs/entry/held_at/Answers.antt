@@ -1,8 +1,7 @@
 -- `book_holds::entry::held_at` meets its contract: a copy can only be at the place that was reached. Assumes nothing.
 use native.Mathlib.Omega.{arith}
-use borrow.Author.Rules.{rules}
 use Rattle.book.proofs.Passing.{passing, contents_inside}
-use Rattle.book_holds.proofs.Reaching.{copy_reached, held_there}
+use Rattle.book_holds.proofs.Reaching.{held_there}
 use Rattle.book_holds.proofs.entry.held_at.Goals as goal
 
 pub u32_at-requires : goal.u32_at-requires

@@ -1,10 +1,7 @@
 -- `book_holds::entry::reach` meets its contract. The invariant: the entries below `next` come before the entry. Assumes nothing.
 use native.Mathlib.Omega.{arith}
-use borrow.Author.Rules.{rules}
-use Prim.Native.Nat.{◌-◌, ◌≤◌}
+use Prim.Native.Nat.{◌-◌}
 use Rattle.book.proofs.Passing.{passing, contents_inside}
-use Rattle.book_holds.specs.Walk.{AllBefore}
-use Rattle.book_holds.proofs.Reaching.{told_yes, told_no, more_before}
 use Rattle.book_holds.proofs.entry.reach.Goals as goal
 
 pub u32_at-count-requires : goal.u32_at-count-requires

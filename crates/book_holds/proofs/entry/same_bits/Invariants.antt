@@ -1,10 +1,6 @@
 -- `book_holds::entry::same_bits` meets its contract. The invariant: the numbers before k are the same. Assumes nothing.
-use native.Mathlib.Omega.{arith}
-use native.Mathlib.Nat.{not-suc-le-zero}
 use Prim.Native.Nat.{◌-◌, ◌≤◌}
-use mathlib.Core.Path.{sym, ◌∙◌}
 use Rattle.book_holds.specs.Walk.{SameBits}
-use Rattle.book_holds.proofs.Reaching.{more_bits}
 use Rattle.book_holds.proofs.entry.same_bits.Given as goal
 
 abbrev pub invariant-loop-k : goal.invariant-loop-k

@@ -1,8 +1,7 @@
 -- `book_holds::entry::same_entry` meets its contract: the fields, and then the coefficients. Assumes nothing.
 use native.Mathlib.Omega.{arith}
-use borrow.Author.Rules.{rules}
 use Rattle.book.proofs.Passing.{passing, contents_inside, block_inside}
-use Rattle.book_holds.proofs.Reaching.{told_yes, told_no, copy_told, no_copy}
+use Rattle.book_holds.proofs.Reaching.{told_yes}
 use Rattle.book_holds.proofs.entry.same_entry.Goals as goal
 
 pub same_fields-requires : goal.same_fields-requires

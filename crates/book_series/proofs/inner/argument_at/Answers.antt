@@ -1,7 +1,6 @@
 -- `book_series::inner::argument_at` meets its contract: the numerator is small with either sign, so each cast is exact. Assumes nothing.
-use borrow.Author.Rules.{rules}
 use Rattle.book_series.specs.Series.{argument}
-use Rattle.book_series.proofs.Numerator.{span_back, span_in_float, twice_fits, numerator_fits, numerator_in_float, numerator_back, worked_out, as_written}
+use Rattle.book_series.proofs.Numerator.{span_back, numerator_back, worked_out, as_written}
 use Rattle.book_series.proofs.inner.argument_at.Goals as goal
 
 pub returns : goal.returns

@@ -2,7 +2,7 @@
 use native.Mathlib.Omega.{arith}
 use Prim.Native.Nat.{ℕ, ◌*◌, ◌<◌}
 use mathlib.Core.Bool.{true}
-use mathlib.Core.Path.{◌≡◌, ◌∙◌}
+use mathlib.Core.Path.{◌≡◌}
 use lib.Ieee.Scale.{finite}
 use Rattle.book_check.specs.Contents.{float_of}
 use Rattle.book_series.proofs.Turns.{float_finite, first_float}

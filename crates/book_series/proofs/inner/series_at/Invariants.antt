@@ -1,9 +1,6 @@
 -- `book_series::inner::series_at` meets its contract. The invariant: the coefficients from k on are done, of each axis. Assumes nothing.
-use native.Mathlib.Omega.{arith}
-use borrow.Author.Rules.{rules}
-use mathlib.Core.Path.{◌∙◌}
 use Rattle.book_check.specs.Contents.{float_of}
-use Rattle.book_series.proofs.Turns.{Done, no_turn, one_turn, last_turn_lem}
+use Rattle.book_series.proofs.Turns.{Done}
 use Rattle.book_series.proofs.inner.series_at.Given as goal
 
 abbrev pub invariant-loop-k : goal.invariant-loop-k

@@ -1,11 +1,7 @@
 -- `book_series::inner::two_series_at` meets its contract. The invariant of each loop: the coefficients of a body from its k on are done, as in
 -- `series_at`. Before the third loop k and j are equal. Assumes nothing.
 use native.Mathlib.Omega.{arith}
-use borrow.Author.Rules.{rules}
-use Prim.Native.Nat.{◌≤◌}
-use mathlib.Core.Path.{◌≡◌}
-use Rattle.book_check.specs.Contents.{float_of}
-use Rattle.book_series.proofs.Turns.{Done, no_turn, one_turn, last_turn_lem}
+use Rattle.book_series.proofs.Turns.{no_turn, one_turn, last_turn_lem}
 use Rattle.book_series.proofs.inner.two_series_at.Goals as goal
 
 pub loop-k-init : goal.loop-k-init

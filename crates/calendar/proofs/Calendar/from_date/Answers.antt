@@ -2,13 +2,10 @@
 use mathlib.Core.Bool.{Bool, true}
 use mathlib.Core.Path.{◌≡◌, ap, sym, ◌∙◌}
 use Prim.Native.Nat.{◌+◌, ◌-◌, ◌≤◌}
-use borrow.Author.Rules.{rules}
 use native.Mathlib.Omega.{arith}
 use Rattle.base.specs.Limits.{last_day}
-use Rattle.calendar.specs.declared.Calendar.{Calendar}
-use Rattle.calendar.specs.declared.DayAnswer.TheVariants.{Day}
 use Rattle.calendar.specs.Gregorian.{ymd, days_before_month, is_date, day_of}
-use Rattle.calendar.proofs.Dates.{Proper, dated, date_in_range}
+use Rattle.calendar.proofs.Dates.{date_in_range}
 use Rattle.calendar.proofs.Calendar.from_date.Goals as goal
 
 pub overflow_add-before : goal.overflow_add-before

@@ -1,8 +1,7 @@
 -- `calendar::Calendar::from_day` meets its contract: the division finds the day's year. Assumes nothing.
 use mathlib.Core.Path.{◌≡◌, refl}
 use Prim.Native.Nat.{ℕ, ◌+◌, ◌*◌, ◌-◌, ◌/◌}
-use borrow.Author.Rules.{rules}
-use borrow.Author.Tests.{le-leb, lt-leb}
+use borrow.Author.Tests.{le-leb}
 use native.Mathlib.Omega.{arith}
 use Rattle.calendar.specs.Gregorian.{days_before_year}
 use Rattle.calendar_lengths.proofs.Lengths.{InYear, year_of_day}

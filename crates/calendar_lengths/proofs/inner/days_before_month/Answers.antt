@@ -1,9 +1,6 @@
 -- `calendar_lengths::inner::days_before_month` meets its contract. The invariant: days are those of the months before m. Assumes nothing.
-use mathlib.Core.Path.{◌≡◌, ap, ◌∙◌}
-use Prim.Native.Nat.{◌-◌, ◌≤◌}
-use borrow.Author.Rules.{rules}
+use Prim.Native.Nat.{◌-◌}
 use native.Mathlib.Omega.{arith}
-use Rattle.calendar_lengths.specs.Lengths.{days_before_month}
 use Rattle.calendar_lengths.proofs.Lengths.{january_starts, next_month, month_ends}
 use Rattle.calendar_lengths.proofs.inner.days_before_month.Goals as goal
 
@@ -15,4 +12,3 @@ overflow_add-days c = omega (arith, month_ends c.args.leap c.loop-m.m (omega ari
 
 pub loop-m-preserved : goal.loop-m-preserved
 loop-m-preserved c = omega (arith, next_month c.args.leap c.loop-m.m (omega arith))
-

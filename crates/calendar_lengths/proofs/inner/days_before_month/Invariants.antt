@@ -1,10 +1,7 @@
 -- `calendar_lengths::inner::days_before_month` meets its contract. The invariant: days are those of the months before m. Assumes nothing.
-use mathlib.Core.Path.{◌≡◌, ap, ◌∙◌}
+use mathlib.Core.Path.{◌≡◌}
 use Prim.Native.Nat.{◌-◌, ◌≤◌}
-use borrow.Author.Rules.{rules}
-use native.Mathlib.Omega.{arith}
 use Rattle.calendar_lengths.specs.Lengths.{days_before_month}
-use Rattle.calendar_lengths.proofs.Lengths.{january_starts, next_month, month_ends}
 use Rattle.calendar_lengths.proofs.inner.days_before_month.Given as goal
 
 abbrev pub invariant-loop-m : goal.invariant-loop-m

@@ -1,7 +1,6 @@
 -- `compare::files::judge` is safe and ends: each block has a byte more of the file. Assumes nothing.
-use Rattle.std.proofs.Common.{◌≡◌, ◌-◌, length, sym, ◌∙◌, arith}
+use Rattle.std.proofs.Common.{◌≡◌, ◌-◌, length}
 use Rattle.listing_read.specs.Bytes.{Counted}
-use Rattle.compare.proofs.Standing.{counted}
 use Rattle.compare.proofs.files.judge.Given as goal
 
 abbrev pub invariant-loop-j : goal.invariant-loop-j

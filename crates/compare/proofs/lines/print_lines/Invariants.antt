@@ -1,7 +1,5 @@
 -- `compare::lines::print_lines` is safe and ends: each turn has its room. Assumes nothing.
-use Rattle.std.proofs.Common.{sym, ◌∙◌, arith, length-take-le}
-use Rattle.text_write.proofs.Writing.{inside}
-use Rattle.compare.proofs.Standing.{Sizes, room}
+use Rattle.compare.proofs.Standing.{Sizes}
 use Rattle.compare.proofs.lines.print_lines.Given as goal
 
 abbrev pub invariant-loop-turns_left : goal.invariant-loop-turns_left

@@ -1,7 +1,6 @@
 -- `compare::states::print_states` is safe and ends: a reading that is over has no byte in its block. Assumes nothing.
-use Rattle.std.proofs.Common.{◌-◌, length, sym, refl, ◌∙◌, arith, length-take-le}
-use Rattle.compare_blocks.proofs.Readings.{shut_open}
-use Rattle.compare.proofs.Standing.{Blocks, part_shut, next_shut}
+use Rattle.std.proofs.Common.{◌-◌, ◌∙◌, arith}
+use Rattle.compare.proofs.Standing.{next_shut}
 use Rattle.compare.proofs.states.print_states.Goals as goal
 
 pub loop-portions_left-preserved : goal.loop-portions_left-preserved

@@ -1,10 +1,8 @@
 -- `compare_blocks::inner::portion` meets its contract: at the loop's test the bytes written and the report on the states to come make up the whole
 -- (`Beside`). The measure is the number of states to come in both blocks. Assumes nothing.
-use mathlib.Core.Path.{◌≡◌, refl, sym, ap, ◌∙◌}
-use native.Mathlib.Omega.{arith}
-use lib.ListN.{length}
+use mathlib.Core.Path.{sym, ap, ◌∙◌}
 use Rattle.compare_blocks.specs.Sides.{stops}
-use Rattle.compare_blocks.proofs.Portions.{Beside, begins, fills, turns, stands, is_full_lem, ahead, fewer_ahead}
+use Rattle.compare_blocks.proofs.Portions.{fills, turns}
 use Rattle.compare_blocks.proofs.inner.portion.Goals as goal
 
 pub loop-at-preserved : goal.loop-at-preserved

@@ -1,10 +1,8 @@
 -- `compare_blocks::inner::portion` meets its contract: at the loop's test the bytes written and the report on the states to come make up the whole
 -- (`Beside`). The measure is the number of states to come in both blocks. Assumes nothing.
-use mathlib.Core.Path.{◌≡◌, refl, sym, ap, ◌∙◌}
-use native.Mathlib.Omega.{arith}
+use mathlib.Core.Path.{◌≡◌}
 use lib.ListN.{length}
-use Rattle.compare_blocks.specs.Sides.{stops}
-use Rattle.compare_blocks.proofs.Portions.{Beside, begins, fills, turns, stands, is_full_lem, ahead, fewer_ahead}
+use Rattle.compare_blocks.proofs.Portions.{Beside, ahead}
 use Rattle.compare_blocks.proofs.inner.portion.Given as goal
 
 abbrev pub invariant-loop-at : goal.invariant-loop-at

@@ -1,7 +1,6 @@
 -- `compare_blocks::inner::searched` meets its contract. Assumes nothing.
 use mathlib.Core.Path.{refl}
 use Rattle.compare_blocks.proofs.Readings.{looks}
-use borrow.Author.Rules.{rules}
 use Rattle.compare_blocks.proofs.inner.searched.Goals as goal
 
 pub returns : goal.returns

@@ -1,10 +1,7 @@
 -- `compare_lines::inner::compare_blocks` meets its contract: i bytes are the same in both blocks. Assumes nothing.
 use Prim.Native.Nat.{◌-◌}
-use mathlib.Core.Path.{◌≡◌, refl, ◌∙◌}
-use lib.ListN.{length, drop}
-use Rattle.compare_lines.specs.Stages.{likeness}
+use mathlib.Core.Path.{◌∙◌}
 use Rattle.compare_lines.proofs.Likes.{first_up, second_up, both_feeds, first_feeds, bytes_differ, bytes_same}
-use borrow.Author.Rules.{rules}
 use Rattle.compare_lines.proofs.inner.compare_blocks.Goals as goal
 
 pub returns-then-b-i : goal.returns-then-b-i

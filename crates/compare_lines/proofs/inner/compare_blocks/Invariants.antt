@@ -1,10 +1,8 @@
 -- `compare_lines::inner::compare_blocks` meets its contract: i bytes are the same in both blocks. Assumes nothing.
 use Prim.Native.Nat.{◌-◌}
-use mathlib.Core.Path.{◌≡◌, refl, ◌∙◌}
+use mathlib.Core.Path.{◌≡◌}
 use lib.ListN.{length, drop}
 use Rattle.compare_lines.specs.Stages.{likeness}
-use Rattle.compare_lines.proofs.Likes.{first_up, second_up, both_feeds, first_feeds, bytes_differ, bytes_same}
-use borrow.Author.Rules.{rules}
 use Rattle.compare_lines.proofs.inner.compare_blocks.Given as goal
 
 abbrev pub invariant-loop-i : goal.invariant-loop-i

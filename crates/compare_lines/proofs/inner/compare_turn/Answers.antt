@@ -1,8 +1,7 @@
 -- `compare_lines::inner::compare_turn` meets its contract. Assumes nothing.
 use mathlib.Core.Path.{sym, ◌∙◌}
 use native.Mathlib.Omega.{arith}
-use Rattle.compare_lines.proofs.Likes.{so_far_short, turned_same, turned_differ, turned_so_far}
-use borrow.Author.Rules.{rules}
+use Rattle.compare_lines.proofs.Likes.{so_far_short}
 use Rattle.compare_lines.proofs.inner.compare_turn.Goals as goal
 
 pub overflow_add-result : goal.overflow_add-result

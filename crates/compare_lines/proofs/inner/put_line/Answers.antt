@@ -1,10 +1,8 @@
 -- `compare_lines::inner::put_line` meets its contract. Assumes nothing.
 use mathlib.Core.Path.{sym, ◌∙◌}
 use native.Mathlib.Omega.{arith}
-use lib.ListN.{length}
 use lib.Seq.{length-take-le}
 use Rattle.compare_lines.proofs.Likes.{line_short, put_ended, put_open}
-use borrow.Author.Rules.{rules}
 use Rattle.compare_lines.proofs.inner.put_line.Goals as goal
 
 pub slice_bounds-put_bytes-end : goal.slice_bounds-put_bytes-end

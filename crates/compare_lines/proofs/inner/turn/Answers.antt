@@ -2,7 +2,6 @@
 use mathlib.Core.Path.{refl}
 use native.Mathlib.Omega.{arith}
 use Rattle.text_write.proofs.Writing.{nothing}
-use borrow.Author.Rules.{rules}
 use Rattle.compare_lines.proofs.inner.turn.Goals as goal
 
 pub compare_turn-requires : goal.compare_turn-requires

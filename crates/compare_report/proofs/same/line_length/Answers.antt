@@ -1,11 +1,7 @@
 -- `compare_report::same::line_length` meets its contract: before i there is no line feed. Assumes nothing.
-use Prim.Native.Nat.{◌+◌, ◌-◌, ◌≤◌}
-use mathlib.Core.Path.{◌≡◌}
+use Prim.Native.Nat.{◌-◌}
 use native.Mathlib.Omega.{arith}
-use lib.ListN.{length, drop}
-use Rattle.compare_report.specs.Report.{until_feed}
 use Rattle.compare_report.proofs.Alike.{feed_end, feed_here, feed_on}
-use borrow.Author.Rules.{rules}
 use Rattle.compare_report.proofs.same.line_length.Goals as goal
 
 pub returns-then-block-i-eq10 : goal.returns-then-block-i-eq10

@@ -1,11 +1,8 @@
 -- `compare_report::same::line_length` meets its contract: before i there is no line feed. Assumes nothing.
 use Prim.Native.Nat.{◌+◌, ◌-◌, ◌≤◌}
 use mathlib.Core.Path.{◌≡◌}
-use native.Mathlib.Omega.{arith}
 use lib.ListN.{length, drop}
 use Rattle.compare_report.specs.Report.{until_feed}
-use Rattle.compare_report.proofs.Alike.{feed_end, feed_here, feed_on}
-use borrow.Author.Rules.{rules}
 use Rattle.compare_report.proofs.same.line_length.Given as goal
 
 abbrev pub invariant-loop-i : goal.invariant-loop-i

@@ -1,11 +1,8 @@
 -- `compare_report::same::same_bytes` meets its contract: the first i bytes are the same. Assumes nothing.
-use Prim.Native.Nat.{◌-◌, ◌≤◌}
-use mathlib.Core.Path.{◌≡◌, refl, sym, ◌∙◌}
+use Prim.Native.Nat.{◌-◌}
+use mathlib.Core.Path.{sym, ◌∙◌}
 use native.Mathlib.Omega.{arith}
-use lib.ListN.{length, drop}
-use Rattle.compare_report.specs.Report.{same}
 use Rattle.compare_report.proofs.Alike.{lengths_differ, same_end, same_on, same_not}
-use borrow.Author.Rules.{rules}
 use Rattle.compare_report.proofs.same.same_bytes.Goals as goal
 
 pub returns-then-a-b : goal.returns-then-a-b

@@ -1,11 +1,8 @@
 -- `compare_report::same::same_bytes` meets its contract: the first i bytes are the same. Assumes nothing.
 use Prim.Native.Nat.{◌-◌, ◌≤◌}
-use mathlib.Core.Path.{◌≡◌, refl, sym, ◌∙◌}
-use native.Mathlib.Omega.{arith}
+use mathlib.Core.Path.{◌≡◌}
 use lib.ListN.{length, drop}
 use Rattle.compare_report.specs.Report.{same}
-use Rattle.compare_report.proofs.Alike.{lengths_differ, same_end, same_on, same_not}
-use borrow.Author.Rules.{rules}
 use Rattle.compare_report.proofs.same.same_bytes.Given as goal
 
 abbrev pub invariant-loop-i : goal.invariant-loop-i

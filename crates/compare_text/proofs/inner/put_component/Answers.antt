@@ -1,6 +1,5 @@
 -- `compare_text::inner::put_component` meets its contract. Assumes nothing.
 use Rattle.compare_report.proofs.Puts.{bits_same, bits_differ}
-use borrow.Author.Rules.{rules}
 use Rattle.compare_text.proofs.inner.put_component.Goals as goal
 
 pub returns-then-a-b : goal.returns-then-a-b

@@ -2,7 +2,6 @@
 use native.Mathlib.Omega.{arith}
 use Rattle.compare_report.specs.Report.{diff_line}
 use Rattle.compare_report.proofs.Puts.{joined, ended}
-use borrow.Author.Rules.{rules}
 use Rattle.compare_text.proofs.inner.put_diff.Goals as goal
 
 pub returns : goal.returns

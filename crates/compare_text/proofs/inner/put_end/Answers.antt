@@ -1,8 +1,7 @@
 -- `compare_text::inner::put_end` meets its contract. Assumes nothing.
 use native.Mathlib.Omega.{arith}
 use Rattle.compare_report.specs.Report.{same_line}
-use Rattle.compare_report.proofs.Puts.{none, ended}
-use borrow.Author.Rules.{rules}
+use Rattle.compare_report.proofs.Puts.{ended}
 use Rattle.compare_text.proofs.inner.put_end.Goals as goal
 
 pub returns : goal.returns

@@ -3,7 +3,6 @@ use native.Mathlib.Omega.{arith}
 use borrow.Author.Tests.{lt-ltb, le-ltb}
 use Rattle.compare_report.specs.Report.{first_refusal}
 use Rattle.compare_report.proofs.Puts.{none, wider}
-use borrow.Author.Rules.{rules}
 use Rattle.compare_text.proofs.inner.put_first_refusal.Goals as goal
 
 pub returns-then-line-gt0 : goal.returns-then-line-gt0

@@ -2,7 +2,6 @@
 use native.Mathlib.Omega.{arith}
 use Rattle.text_write.proofs.Writing.{both}
 use Rattle.text_write.proofs.Decimal.{decimal_fits}
-use borrow.Author.Rules.{rules}
 use Rattle.compare_text.proofs.inner.put_numbered.Goals as goal
 
 pub put_decimal-requires : goal.put_decimal-requires

@@ -1,7 +1,6 @@
 -- `compare_text::inner::put_one` meets its contract: six texts, one after the other. Assumes nothing.
 use native.Mathlib.Omega.{arith}
 use Rattle.compare_report.proofs.Puts.{joined, one_text}
-use borrow.Author.Rules.{rules}
 use Rattle.compare_text.proofs.inner.put_one.Goals as goal
 
 pub returns : goal.returns

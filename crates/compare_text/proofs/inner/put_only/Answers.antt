@@ -1,7 +1,6 @@
 -- `compare_text::inner::put_only` meets its contract. Assumes nothing.
 use native.Mathlib.Omega.{arith}
 use Rattle.compare_report.proofs.Puts.{wider, only_text_lem}
-use borrow.Author.Rules.{rules}
 use Rattle.compare_text.proofs.inner.put_only.Goals as goal
 
 pub returns : goal.returns

@@ -4,7 +4,6 @@ use native.Mathlib.Omega.{arith}
 use lib.ListN.{length}
 use Rattle.compare_report.specs.Report.{two_numbers}
 use Rattle.compare_report.proofs.Puts.{joined, ended}
-use borrow.Author.Rules.{rules}
 use Rattle.compare_text.proofs.inner.put_two.Goals as goal
 
 pub returns : goal.returns

@@ -1,10 +1,6 @@
 -- `earth_precession::inner::centuries_at` meets its contract: the milliseconds are below 2^53, so the cast is exact. Assumes nothing.
 use mathlib.Core.Path.{refl}
-use Prim.Native.Nat.{ℕ, ◌≤◌, ◌^◌}
-use native.Mathlib.Omega.{arith}
-use lib.Dec.{T, le→leb}
-use lib.IntN.{pos}
-use lib.Ieee.{binary64, of_bits, of_int, round, in_float}
+use lib.Ieee.{of_bits, of_int, round}
 use Rattle.earth_precession.specs.Precession.{centuries}
 use Rattle.earth_precession.proofs.inner.centuries_at.Goals as goal
 

@@ -1,7 +1,5 @@
 -- `earth_rotation::inner::rate_on` meets its contract: the day is that of UT. Assumes nothing.
-use native.Mathlib.Omega.{arith}
 use Rattle.earth_rotation.specs.Rotation.{rotation}
-use Rattle.earth_rotation.proofs.Accepted.{Accepted, accepted}
 use Rattle.earth_rotation.proofs.inner.rate_on.Goals as goal
 
 pub returns : goal.returns

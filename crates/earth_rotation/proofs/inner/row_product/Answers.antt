@@ -1,5 +1,4 @@
 -- `earth_rotation::inner::row_product` meets its contract, column by column. Assumes nothing.
-use borrow.Author.Rules.{rules}
 use Rattle.earth_rotation.specs.Rotation.{column, row_product}
 use Rattle.earth_rotation.proofs.inner.row_product.Goals as goal
 

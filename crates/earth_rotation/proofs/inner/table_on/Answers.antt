@@ -1,5 +1,4 @@
 -- `earth_rotation::inner::table_on` meets its contract: the sine takes every hour angle. Assumes nothing.
-use native.Mathlib.Omega.{arith}
 use Rattle.earth_rotation.specs.Rotation.{rotation}
 use Rattle.earth_rotation.proofs.Accepted.{Accepted, accepted}
 use Rattle.earth_rotation.proofs.inner.table_on.Goals as goal

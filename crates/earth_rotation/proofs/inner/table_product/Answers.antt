@@ -1,5 +1,4 @@
 -- `earth_rotation::inner::table_product` meets its contract, row by row. Assumes nothing.
-use borrow.Author.Rules.{rules}
 use Rattle.earth_rotation.specs.Rotation.{product}
 use Rattle.earth_rotation.proofs.inner.table_product.Goals as goal
 

@@ -1,5 +1,4 @@
 -- `earth_rotation::inner::table_times` meets its contract, row by row. Assumes nothing.
-use borrow.Author.Rules.{rules}
 use Rattle.earth_rotation.specs.Rotation.{times}
 use Rattle.earth_rotation.proofs.inner.table_times.Goals as goal
 

@@ -1,9 +1,6 @@
 -- `earth_rotation::inner::turning_rate` meets its contract: its constants compute to the document's decimals. Assumes nothing.
 use mathlib.Core.Path.{refl}
-use Prim.Native.Nat.{◌≤◌, ◌^◌}
-use native.Mathlib.Omega.{arith}
-use lib.Dec.{le→leb}
-use lib.Ieee.{of_bits, of_int, round, in_float}
+use lib.Ieee.{of_bits, of_int, round}
 use Rattle.earth_rotation.specs.Rotation.{rate}
 use Rattle.earth_rotation.proofs.inner.turning_rate.Goals as goal
 

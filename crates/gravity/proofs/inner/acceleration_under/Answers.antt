@@ -1,11 +1,7 @@
 -- `gravity::inner::acceleration_under` meets its contract. Assumes nothing.
-use mathlib.Core.Path.{sym, ap, ◌∙◌}
-use Rattle.root.specs.declared.SixRoots.{SixRoots}
-use Rattle.root_known.proofs.Pairs.{are_roots}
-use Rattle.gravity_pull.specs.declared.NearSum.{NearSum}
+use mathlib.Core.Path.{sym, ◌∙◌}
 use Rattle.gravity.proofs.Places.{none_used, no_less}
 use Rattle.gravity.proofs.Under.{clear, refused}
-use borrow.Author.Rules.{rules}
 use Rattle.gravity.proofs.inner.acceleration_under.Goals as goal
 
 pub returns-then-bodies-eq0 : goal.returns-then-bodies-eq0

@@ -1,6 +1,5 @@
 -- `gravity::inner::found_in` meets its contract. Assumes nothing.
 use Rattle.gravity_bodies.specs.Looked.{found_in}
-use borrow.Author.Rules.{rules}
 use Rattle.gravity.proofs.inner.found_in.Goals as goal
 
 pub returns : goal.returns

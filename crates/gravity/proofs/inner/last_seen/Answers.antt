@@ -2,7 +2,6 @@
 use mathlib.Core.Path.{sym, ap, ◌∙◌}
 use Rattle.gravity_pull.specs.declared.ThreeFarPulls.{ThreeFarPulls}
 use Rattle.gravity.proofs.Places.{other_is, unused_is, root_for, no_root, none_used}
-use borrow.Author.Rules.{rules}
 use Rattle.gravity.proofs.inner.last_seen.Goals as goal
 
 pub returns-then-any_used : goal.returns-then-any_used

@@ -1,6 +1,5 @@
 -- `gravity::inner::rule` meets its contract. Assumes nothing.
 use Rattle.gravity.proofs.Under.{under_is}
-use Rattle.book.proofs.Slow.{untold}
 use Rattle.gravity.proofs.inner.rule.Goals as goal
 
 pub returns : goal.returns

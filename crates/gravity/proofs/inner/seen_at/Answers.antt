@@ -1,6 +1,5 @@
 -- `gravity::inner::seen_at` meets its contract. Assumes nothing.
 use Rattle.gravity.specs.Sight.{sights}
-use borrow.Author.Rules.{rules}
 use Rattle.gravity.proofs.inner.seen_at.Goals as goal
 
 pub returns : goal.returns

@@ -3,7 +3,6 @@ use mathlib.Core.Path.{ap}
 use Rattle.gravity_pull.specs.declared.FarPulls.{FarPulls}
 use Rattle.gravity.specs.Sight.{others_of}
 use Rattle.gravity.proofs.Places.{other_is, roots_near}
-use borrow.Author.Rules.{rules}
 use Rattle.gravity.proofs.inner.seen_from.Goals as goal
 
 pub returns : goal.returns

@@ -3,7 +3,6 @@ use Rattle.book.proofs.Found.{covered}
 use mathlib.Core.Path.{sym, ◌∙◌}
 use Rattle.gravity_bodies.specs.Looked.{found_of}
 use Rattle.gravity_bodies.proofs.Looked.{by_entry}
-use borrow.Author.Rules.{rules}
 use Rattle.gravity_bodies.proofs.inner.found.Goals as goal
 
 pub returns-in_default : goal.returns-in_default

@@ -1,5 +1,4 @@
 -- `gravity_bodies::inner::found_two` meets its contract: each body as `found` proves it. Assumes nothing.
-use borrow.Author.Rules.{rules}
 use mathlib.Core.Path.{sym, ◌∙◌}
 use Rattle.book.proofs.Found.{covered}
 use Rattle.gravity_bodies.proofs.Looked.{by_entry}

@@ -1,7 +1,6 @@
 -- `gravity_pull::pulls::less_by` meets its contract. Assumes nothing.
 use Rattle.gravity_pull.specs.Pull.{g, sound, r3}
 use Rattle.gravity_pull.specs.Sum.{pull_of, less_by}
-use borrow.Author.Rules.{rules}
 use Rattle.gravity_pull.proofs.pulls.less_by.Goals as goal
 
 pub returns-then-b : goal.returns-then-b

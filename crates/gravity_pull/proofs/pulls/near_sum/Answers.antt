@@ -1,6 +1,5 @@
 -- `gravity_pull::pulls::near_sum` meets its contract. Assumes nothing.
 use Rattle.gravity_pull.specs.Sum.{less_by}
-use borrow.Author.Rules.{rules}
 use Rattle.gravity_pull.proofs.pulls.near_sum.Goals as goal
 
 pub returns : goal.returns

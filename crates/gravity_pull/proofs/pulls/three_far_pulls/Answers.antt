@@ -1,7 +1,6 @@
 -- `gravity_pull::pulls::three_far_pulls` meets its contract. Assumes nothing.
 use Rattle.gravity_pull.specs.Pull.{g, sound, r3}
 use Rattle.gravity_pull.specs.Sum.{pull_of}
-use borrow.Author.Rules.{rules}
 use Rattle.gravity_pull.proofs.pulls.three_far_pulls.Goals as goal
 
 pub returns : goal.returns

@@ -1,6 +1,5 @@
 -- `gravity_stored::inner::kept_at` meets its contract. Assumes nothing.
 use Rattle.gravity_stored.specs.Injection.{kept}
-use borrow.Author.Rules.{rules}
 use Rattle.gravity_stored.proofs.inner.kept_at.Goals as goal
 
 pub returns : goal.returns

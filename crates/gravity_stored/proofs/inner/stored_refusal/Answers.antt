@@ -1,6 +1,5 @@
 -- `gravity_stored::inner::stored_refusal` meets its contract. Assumes nothing.
 use Rattle.gravity_stored.specs.Injection.{stored_refusal}
-use borrow.Author.Rules.{rules}
 use Rattle.gravity_stored.proofs.inner.stored_refusal.Goals as goal
 
 pub returns : goal.returns

@@ -1,6 +1,5 @@
 -- `gravity_terms::inner::flatten` meets its contract. Assumes nothing.
 use lib.Ieee.{of_bits, of_int, round}
-use borrow.Author.Rules.{rules}
 use Rattle.gravity_terms.proofs.inner.flatten.Goals as goal
 
 pub returns : goal.returns

@@ -2,7 +2,6 @@
 use mathlib.Core.Bool.{and-true}
 use Rattle.gravity_pull.specs.Sum.{pull_of}
 use Rattle.gravity_terms.specs.Added.{sunlit_by}
-use borrow.Author.Rules.{rules}
 use Rattle.gravity_terms.proofs.inner.sunlit_sum.Goals as goal
 
 pub returns-then-setting : goal.returns-then-setting

@@ -1,7 +1,4 @@
 -- `hour_1982::inner::angle_1982` meets its contract: the carries of `Century` at the code's sums. Assumes nothing.
-use Prim.Native.Nat.{ℕ, ◌+◌, ◌*◌, ◌/◌, ◌%◌, ◌^◌, ◌≤◌, ◌<◌}
-use borrow.Author.Rules.{rules}
-use native.Mathlib.Nat.{mul-le-mul}
 use native.Mathlib.Omega.{arith}
 use Rattle.hour_1982.proofs.Century.{angle_1982_of}
 use Rattle.hour_1982.proofs.inner.angle_1982.Goals as goal

@@ -1,7 +1,5 @@
 -- `hour_1982::inner::day_in_spans` meets its contract. Assumes nothing.
-use borrow.Author.Rules.{rules}
-use native.Mathlib.Omega.{arith}
-use Rattle.hour_1982.proofs.Century.{bend_small, slope_small, third_small, second_small, first_small, turns_small, day_spelled_lem}
+use Rattle.hour_1982.proofs.Century.{day_spelled_lem}
 use Rattle.hour_1982.proofs.inner.day_in_spans.Goals as goal
 
 pub returns : goal.returns

@@ -1,7 +1,5 @@
 -- `hour_1982::inner::rate_in_spans` meets its contract. Assumes nothing.
-use borrow.Author.Rules.{rules}
-use native.Mathlib.Omega.{arith}
-use Rattle.hour_1982.proofs.Century.{rate_small, rate_spelled}
+use Rattle.hour_1982.proofs.Century.{rate_spelled}
 use Rattle.hour_1982.proofs.inner.rate_in_spans.Goals as goal
 
 pub returns : goal.returns

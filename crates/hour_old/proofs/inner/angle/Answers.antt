@@ -1,8 +1,5 @@
 -- `hour_old::inner::angle` meets its contract: the laws of `Sum` at the code's sums. Assumes nothing.
-use Prim.Native.Nat.{◌*◌, ◌≤◌, ◌<◌}
-use borrow.Author.Rules.{rules}
-use native.Mathlib.Omega.{arith}
-use Rattle.hour_old.proofs.Sum.{fraction_below, square_below, angle_of}
+use Rattle.hour_old.proofs.Sum.{angle_of}
 use Rattle.hour_old.proofs.inner.angle.Goals as goal
 
 pub returns : goal.returns

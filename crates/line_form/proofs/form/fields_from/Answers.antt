@@ -1,10 +1,9 @@
 -- `line_form::form::fields_from` meets its contract: after i turns the first i fields are read. Assumes nothing.
-use Prim.Native.Nat.{◌≤◌, ◌-◌}
+use Prim.Native.Nat.{◌-◌}
 use mathlib.Core.Path.{◌≡◌, refl, sym, ◌∙◌}
 use native.Mathlib.Omega.{arith}
-use borrow.Author.Rules.{rules}
 use lib.ListN.{length, length-set}
-use Rattle.line_form.proofs.Reading.{Read, read_none, read_more, read_bad, read_all}
+use Rattle.line_form.proofs.Reading.{read_none, read_more, read_bad, read_all}
 use Rattle.line_form.proofs.form.fields_from.Goals as goal
 
 pub loop-i-init : goal.loop-i-init

@@ -7,7 +7,6 @@ use lib.ListN.{length, take, drop, length-drop}
 use lib.Seq.{take_all}
 use borrow.Author.Tests.{lt-leb, le-leb}
 use Rattle.line_form.specs.Call.{starts_with, read_printed}
-use borrow.Author.Rules.{rules}
 use Rattle.line_form.proofs.form.read_printed.Goals as goal
 
 -- the slice of the line from a place on is everything after that place

@@ -2,7 +2,6 @@
 use mathlib.Core.Path.{ap, ◌∙◌}
 use borrow.Author.Tests.{lt-ltb, le-ltb, eq-eqb, ne_eqb}
 use Rattle.line_form.specs.Call.{above_zero, below_zero, read_signed}
-use borrow.Author.Rules.{rules}
 use Rattle.line_form.proofs.form.read_signed.Goals as goal
 
 pub returns-then-line-at : goal.returns-then-line-at

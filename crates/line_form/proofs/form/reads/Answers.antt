@@ -1,5 +1,4 @@
 -- `line_form::form::reads` meets its contract. Assumes nothing.
-use borrow.Author.Rules.{rules}
 use Rattle.line_form.specs.Call.{call_of}
 use Rattle.line_form.proofs.form.reads.Goals as goal
 

@@ -1,10 +1,8 @@
 -- `line_form::form::starts_with` meets its contract: after i turns what is left of both is compared. Assumes nothing.
 use Prim.Native.Nat.{◌≤◌, ◌-◌}
-use mathlib.Core.Path.{◌≡◌, refl, sym, ◌∙◌}
-use native.Mathlib.Omega.{arith}
+use mathlib.Core.Path.{◌≡◌}
 use lib.ListN.{length, drop}
 use Rattle.line_form.specs.Call.{starts_with}
-use Rattle.line_form.proofs.Reading.{same_byte, other_byte, whole_name, too_short}
 use Rattle.line_form.proofs.form.starts_with.Given as goal
 
 abbrev pub invariant-loop-i : goal.invariant-loop-i

@@ -3,7 +3,6 @@ use native.Mathlib.Omega.{arith}
 use Rattle.line_form.specs.Spelled.{real}
 use Rattle.line_form.proofs.Lengths.{float_short}
 use Rattle.line_form.proofs.Spelling.{one_item}
-use borrow.Author.Rules.{rules}
 use Rattle.line_form.proofs.put.put_float.Goals as goal
 
 pub bounds-out-at : goal.bounds-out-at

@@ -1,16 +1,12 @@
 -- `line_form::put::put_floats` meets its contract: i numbers take from i to 17·i bytes. Assumes nothing.
 use Prim.Native.Nat.{ℕ, ◌-◌, ◌*◌, ◌≤◌}
-use mathlib.Core.Path.{◌≡◌, refl}
-use native.Mathlib.Omega.{arith}
+use mathlib.Core.Path.{◌≡◌}
 use mathlib.Core.List.{List}
 use lib.Ieee.{Float}
 use lib.ListN.{length, take}
-use lib.Seq.{take_all}
 use Rattle.text_write.specs.Written.{Wrote}
 use Rattle.line_form.specs.Room.{Between}
-use Rattle.line_form.specs.Spelled.{real, spaced, reals}
-use Rattle.line_form.proofs.Spelling.{no_items, row_on}
-use borrow.Author.Rules.{rules}
+use Rattle.line_form.specs.Spelled.{spaced, reals}
 use Rattle.line_form.proofs.put.put_floats.Given as goal
 
 pub record Going (out₀ : List ℕ) (from : ℕ) (row : List Float) (i-end : ℕ) (out : List ℕ) (at i : ℕ) : Type 0 where

@@ -3,7 +3,6 @@ use mathlib.Core.List.{[], ◌∷◌}
 use native.Mathlib.Omega.{arith}
 use Rattle.line_form.specs.Spelled.{word, whole}
 use Rattle.line_form.proofs.Spelling.{then, as_word}
-use borrow.Author.Rules.{rules}
 use Rattle.line_form.proofs.put.put_refused.Goals as goal
 
 pub returns : goal.returns

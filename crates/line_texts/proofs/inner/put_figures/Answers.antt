@@ -4,7 +4,6 @@ use native.Mathlib.Omega.{arith}
 use Rattle.line_form.specs.Spelled.{whole, real}
 use Rattle.line_texts.specs.Text.{ellipse_word, hyperbola_word}
 use Rattle.line_form.proofs.Spelling.{after_word, then_puts}
-use borrow.Author.Rules.{rules}
 use Rattle.line_texts.proofs.inner.put_figures.Goals as goal
 
 pub returns-in-Ellipse : goal.returns-in-Ellipse

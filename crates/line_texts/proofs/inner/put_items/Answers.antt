@@ -2,7 +2,6 @@
 use native.Mathlib.Omega.{arith}
 use Rattle.line_texts.specs.Text.{unreadable_word}
 use Rattle.line_form.proofs.Spelling.{worded}
-use borrow.Author.Rules.{rules}
 use Rattle.line_texts.proofs.inner.put_items.Goals as goal
 
 pub returns-in-Run : goal.returns-in-Run

@@ -3,7 +3,6 @@ use mathlib.Core.List.{[], ◌∷◌}
 use native.Mathlib.Omega.{arith}
 use Rattle.line_form.specs.Spelled.{whole, real}
 use Rattle.line_form.proofs.Spelling.{widened, then_puts}
-use borrow.Author.Rules.{rules}
 use Rattle.line_texts.proofs.inner.put_launched.Goals as goal
 
 pub returns-in-Injected : goal.returns-in-Injected

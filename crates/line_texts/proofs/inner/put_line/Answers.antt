@@ -2,7 +2,6 @@
 use native.Mathlib.Omega.{arith}
 use Rattle.line_texts.specs.Text.{answer_items}
 use Rattle.line_texts.proofs.Written.{ended}
-use borrow.Author.Rules.{rules}
 use Rattle.line_texts.proofs.inner.put_line.Goals as goal
 
 pub returns : goal.returns

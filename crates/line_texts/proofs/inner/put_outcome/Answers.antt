@@ -2,7 +2,6 @@
 use native.Mathlib.Omega.{arith}
 use Rattle.line_texts.specs.Text.{arrived_word, going_word}
 use Rattle.line_texts.proofs.Written.{word_in}
-use borrow.Author.Rules.{rules}
 use Rattle.line_texts.proofs.inner.put_outcome.Goals as goal
 
 pub returns-in-Arrived : goal.returns-in-Arrived

@@ -4,7 +4,6 @@ use native.Mathlib.Omega.{arith}
 use Rattle.line_form.specs.Spelled.{whole}
 use Rattle.line_texts.specs.Text.{coordinate_items, guess_items, outcome_items}
 use Rattle.line_form.proofs.Spelling.{widened, then_puts}
-use borrow.Author.Rules.{rules}
 use Rattle.line_texts.proofs.inner.put_run.Goals as goal
 
 pub returns : goal.returns

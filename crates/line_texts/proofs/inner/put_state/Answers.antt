@@ -1,10 +1,8 @@
 -- `line_texts::inner::put_state` meets its contract. Assumes nothing.
 use mathlib.Core.List.{[], ◌∷◌}
-use native.Mathlib.Omega.{arith}
 use Rattle.line_form.specs.Spelled.{whole, real}
 use Rattle.line_texts.specs.Text.{coordinate_items}
 use Rattle.line_form.proofs.Spelling.{then_puts}
-use borrow.Author.Rules.{rules}
 use Rattle.line_texts.proofs.inner.put_state.Goals as goal
 
 pub returns : goal.returns

@@ -1,7 +1,6 @@
 -- `listing_lines::inner::after_moment` meets its contract. Assumes nothing.
 use Prim.Native.Nat.{ℕ, ◌+◌, ◌-◌, ◌<◌, ◌≤◌}
 use native.Mathlib.Omega.{arith}
-use borrow.Author.Rules.{rules}
 use borrow.Author.Tests.{lt-ltb, le-ltb, eq-eqb, ne_eqb}
 use Rattle.listing_lines.specs.Whole.{after_moment}
 use Rattle.listing_lines.proofs.inner.after_moment.Goals as goal

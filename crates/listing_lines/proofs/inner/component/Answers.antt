@@ -1,5 +1,4 @@
 -- `listing_lines::inner::component` meets its contract. Assumes nothing.
-use borrow.Author.Rules.{rules}
 use borrow.Author.Tests.{eq-eqb, ne_eqb}
 use Rattle.listing_lines.specs.Whole.{component_at}
 use Rattle.listing_lines.proofs.inner.component.Goals as goal

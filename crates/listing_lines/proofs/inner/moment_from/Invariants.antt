@@ -1,10 +1,8 @@
 -- `listing_lines::inner::moment_from` meets its contract: the digits between the first place and i spell t. Assumes nothing.
 use Prim.Native.Nat.{◌-◌}
-use mathlib.Core.Path.{◌≡◌, refl, sym, ◌∙◌}
+use mathlib.Core.Path.{◌≡◌}
 use lib.ListN.{length, drop}
-use borrow.Author.Rules.{rules}
 use Rattle.listing_lines.specs.Whole.{moment_on}
-use Rattle.listing_lines.proofs.Laws.{moment_more, moment_stops, moment_over}
 use Rattle.listing_lines.proofs.inner.moment_from.Given as goal
 
 abbrev pub invariant-loop-i : goal.invariant-loop-i

@@ -1,6 +1,5 @@
 -- `listing_lines::inner::six` meets its contract. Assumes nothing.
 use mathlib.Core.Path.{refl}
-use borrow.Author.Rules.{rules}
 use Rattle.listing_lines.proofs.Laws.{agrees, values_are}
 use Rattle.listing_lines.proofs.inner.six.Goals as goal
 

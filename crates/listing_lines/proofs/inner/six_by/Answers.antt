@@ -1,5 +1,4 @@
 -- `listing_lines::inner::six_by` meets its contract. Assumes nothing.
-use borrow.Author.Rules.{rules}
 use Rattle.listing_lines.specs.Whole.{six_at}
 use Rattle.listing_lines.proofs.inner.six_by.Goals as goal
 

@@ -1,10 +1,7 @@
 -- `listing_lines::inner::sixteen` meets its contract: the digits between the first place and i spell the bits. Assumes nothing.
-use Prim.Native.Nat.{ℕ, ◌+◌, ◌-◌, ◌*◌, ◌%◌, ◌<◌, ◌≤◌}
-use mathlib.Core.Path.{◌≡◌, refl, sym, ◌∙◌}
+use Prim.Native.Nat.{ℕ, ◌+◌, ◌-◌, ◌<◌}
+use mathlib.Core.Path.{◌≡◌, sym, ◌∙◌}
 use native.Mathlib.Omega.{arith}
-use lib.ListN.{length}
-use borrow.Author.Rules.{rules}
-use Rattle.listing_lines.specs.Whole.{spelled_from}
 use Rattle.listing_lines.proofs.Laws.{spelled_on, spelled_off, spelled_all}
 use Rattle.listing_lines.proofs.inner.sixteen.Goals as goal
 

@@ -1,5 +1,4 @@
 -- `listing_lines::inner::state_line` meets its contract. Assumes nothing.
-use borrow.Author.Rules.{rules}
 use borrow.Author.Tests.{lt-ltb, le-ltb}
 use Rattle.listing_lines.specs.Whole.{state_line_at}
 use Rattle.listing_lines.proofs.inner.state_line.Goals as goal

@@ -1,7 +1,6 @@
 -- `listing_lines::inner::with_digit` meets its contract. Assumes nothing.
 use Prim.Native.Nat.{ℕ, ◌*◌, ◌+◌, ◌<◌}
 use native.Mathlib.Omega.{arith}
-use borrow.Author.Rules.{rules}
 use Rattle.base.specs.Limits.{end_of_time}
 use Rattle.listing_lines.proofs.Laws.{more_least, more_room}
 use Rattle.listing_lines.proofs.inner.with_digit.Goals as goal

@@ -1,9 +1,6 @@
 -- `listing_read::feed::byte_by_byte` meets its contract: there is no line feed between its start and i. Assumes nothing.
 use Prim.Native.Nat.{◌-◌}
-use mathlib.Core.Path.{◌≡◌, refl, sym, ◌∙◌}
-use lib.ListN.{length}
-use borrow.Author.Rules.{rules}
-use Rattle.listing_read.specs.Reached.{to_feed}
+use mathlib.Core.Path.{sym, ◌∙◌}
 use Rattle.listing_read.proofs.Whole.{feed_on, feed_here, feed_over}
 use Rattle.listing_read.proofs.feed.byte_by_byte.Goals as goal
 

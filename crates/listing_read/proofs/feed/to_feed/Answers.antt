@@ -1,6 +1,5 @@
 -- `listing_read::feed::to_feed` meets its contract. Assumes nothing.
 use mathlib.Core.Path.{sym, ap, ◌∙◌}
-use borrow.Author.Rules.{rules}
 use Rattle.listing_lines.specs.declared.WholeLine.{WholeLine}
 use Rattle.listing_read.proofs.Whole.{not_begun, whole_line}
 use Rattle.listing_read.proofs.feed.to_feed.Goals as goal

@@ -1,8 +1,7 @@
 -- `listing_read::inner::judge_line` meets its contract. Assumes nothing.
-use borrow.Author.Rules.{rules}
 use borrow.Author.Tests.{lt-ltb, le-ltb}
 use Rattle.listing_read.specs.Reached.{judged_line}
-use Rattle.listing_read.proofs.Skipping.{line_room, end_room}
+use Rattle.listing_read.proofs.Skipping.{line_room}
 use Rattle.listing_read.proofs.inner.judge_line.Goals as goal
 
 pub read_on-judge-requires : goal.read_on-judge-requires

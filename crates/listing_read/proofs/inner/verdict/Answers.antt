@@ -1,9 +1,7 @@
 -- `listing_read::inner::verdict` meets its contract: a line that has begun ends with the text. Assumes nothing.
 use mathlib.Core.Path.{sym, ap, ◌∙◌}
-use native.Mathlib.Omega.{arith}
 use Rattle.listing_read.specs.Bytes.{closed}
 use Rattle.listing_read.proofs.Judging.{ends_between, ends_inside}
-use borrow.Author.Rules.{rules}
 use Rattle.listing_read.proofs.inner.verdict.Goals as goal
 
 pub returns-then-has_begun : goal.returns-then-has_begun

@@ -1,9 +1,7 @@
 -- `listing_scan::scanning::line_end` meets its contract, value by value of the scan. Assumes nothing.
 use mathlib.Core.Path.{◌∙◌}
 use Rattle.listing_scan.proofs.Bytes.{end_start, end_letters, end_digits, end_moment, end_component, end_bad}
-use borrow.Author.Rules.{rules}
 use Rattle.listing_scan.proofs.scanning.line_end.Goals as goal
-
 
 pub returns-in-Digits : goal.returns-in-Digits
 returns-in-Digits c = rw c.in-Digits.is (c.end_of_number.ensures ∙ end_digits _ _)

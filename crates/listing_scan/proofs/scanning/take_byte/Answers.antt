@@ -1,6 +1,5 @@
 -- `listing_scan::scanning::take_byte` meets its contract, value by value of the scan. Assumes nothing.
 use Rattle.listing_scan.specs.Bytes.{on_byte}
-use borrow.Author.Rules.{rules}
 use Rattle.listing_scan.proofs.scanning.take_byte.Goals as goal
 
 pub returns-in-Start : goal.returns-in-Start

@@ -3,10 +3,9 @@
 use Prim.Native.Nat.{ℕ}
 use mathlib.Core.Path.{◌≡◌, refl, sym, ◌∙◌}
 use native.Mathlib.Omega.{arith}
-use lib.ListN.{length}
 use Rattle.book.specs.Calm.{Ready}
 use Rattle.run.specs.declared.Outcome.TheVariants.{Arrived, Going}
-use Rattle.listing_write.proofs.Courses.{Listing, begins, stands, text_ends, ends, refuses, goes_on}
+use Rattle.listing_write.proofs.Courses.{begins, stands, text_ends, ends, refuses, goes_on}
 use Rattle.listing_write.proofs.inner.portion.Goals as goal
 
 pub book_calm-calm-requires : goal.book_calm-calm-requires
@@ -70,8 +69,3 @@ returns c = let x = c.args in
     rw c.portion_of-2.ensures
     (ends x.book.now x.setting x.h x.from x.out.now l.out l.now l.entries l.left l.done l.at l.invariant.1 Going refl (λ z. c.loop-at-test.false))
 
--- MISSING overflow_sub-left
--- WHY args for goals []: (λ c. c.before.before.before.loop.invariant.0)
--- WHY args for goals ['overflow_sub-left']: (λ c. c.match.keys1) ;; (λ c. let some = c.before.before.before.before.before.before.before.before.if1.false in omega arith)
--- WHY args for goals []: (λ c. c.match.keys2) ;; (λ c. c.before.before.before.before.before.before.before.loop.invariant.0)
--- WHY args for goals []: (λ c. c.before.before.loop.invariant.0)

@@ -1,12 +1,8 @@
 -- `listing_write::inner::portion` meets its contract: at the loop's test the bytes written and the text from now on make up the whole
 -- (`Listing`). The measure is the number of steps left. Assumes nothing.
-use Prim.Native.Nat.{ℕ}
-use mathlib.Core.Path.{◌≡◌, refl, sym, ◌∙◌}
-use native.Mathlib.Omega.{arith}
+use mathlib.Core.Path.{◌≡◌}
 use lib.ListN.{length}
-use Rattle.book.specs.Calm.{Ready}
-use Rattle.run.specs.declared.Outcome.TheVariants.{Arrived, Going}
-use Rattle.listing_write.proofs.Courses.{Listing, begins, stands, text_ends, ends, refuses, goes_on}
+use Rattle.listing_write.proofs.Courses.{Listing}
 use Rattle.listing_write.proofs.inner.portion.Given as goal
 
 abbrev pub invariant-loop-at : goal.invariant-loop-at

@@ -1,6 +1,5 @@
 -- `listing_write::lines::put_header` meets its contract. Assumes nothing.
 use Rattle.listing_write.specs.Lines.{header_line}
-use borrow.Author.Rules.{rules}
 use Rattle.listing_write.proofs.lines.put_header.Goals as goal
 
 pub returns : goal.returns

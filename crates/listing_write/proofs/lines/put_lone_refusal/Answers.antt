@@ -1,6 +1,5 @@
 -- `listing_write::lines::put_lone_refusal` meets its contract. Assumes nothing.
 use Rattle.listing_write.specs.Lines.{lone_refusal}
-use borrow.Author.Rules.{rules}
 use Rattle.listing_write.proofs.lines.put_lone_refusal.Goals as goal
 
 pub returns : goal.returns

@@ -2,7 +2,6 @@
 use native.Mathlib.Omega.{arith}
 use Rattle.text_write.proofs.Writing.{both}
 use Rattle.text_write.proofs.Decimal.{decimal_fits}
-use borrow.Author.Rules.{rules}
 use Rattle.listing_write.proofs.lines.put_numbered.Goals as goal
 
 pub put_decimal-end-requires : goal.put_decimal-end-requires

@@ -3,7 +3,6 @@ use native.Mathlib.Omega.{arith}
 use Rattle.text_write.proofs.Writing.{both}
 use Rattle.text_write.proofs.Decimal.{decimal_fits}
 use Rattle.listing_write.specs.Lines.{refused_line}
-use borrow.Author.Rules.{rules}
 use Rattle.listing_write.proofs.lines.put_refused.Goals as goal
 
 pub put_decimal-count-requires : goal.put_decimal-count-requires

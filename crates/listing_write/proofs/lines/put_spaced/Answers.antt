@@ -1,6 +1,5 @@
 -- `listing_write::lines::put_spaced` meets its contract. Assumes nothing.
 use Rattle.text_write.proofs.Writing.{both}
-use borrow.Author.Rules.{rules}
 use Rattle.listing_write.proofs.lines.put_spaced.Goals as goal
 
 pub returns : goal.returns

@@ -4,7 +4,6 @@ use Rattle.text_write.proofs.Writing.{both}
 use Rattle.text_write.proofs.Decimal.{decimal_fits}
 use Rattle.listing_write.specs.Lines.{state_line}
 use Rattle.listing_write.proofs.Lengths.{vector_fits}
-use borrow.Author.Rules.{rules}
 use Rattle.listing_write.proofs.lines.put_state.Goals as goal
 
 pub put_decimal-moment-requires : goal.put_decimal-moment-requires

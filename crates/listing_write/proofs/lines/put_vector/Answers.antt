@@ -3,7 +3,6 @@ use native.Mathlib.Omega.{arith}
 use Rattle.text_write.proofs.Writing.{both}
 use Rattle.listing_write.specs.Lines.{vector_text}
 use Rattle.listing_write.proofs.Lengths.{spaced_fits}
-use borrow.Author.Rules.{rules}
 use Rattle.listing_write.proofs.lines.put_vector.Goals as goal
 
 pub put_spaced-y-requires : goal.put_spaced-y-requires

@@ -3,8 +3,7 @@ use mathlib.Core.List.{[], ◌∷◌}
 use native.Mathlib.Omega.{arith}
 use Rattle.line_form.specs.Spelled.{real, whole}
 use Rattle.pane_lines.specs.Answers.{current_word, late_word, empty_word}
-use Rattle.line_form.proofs.Spelling.{widened, worded, after_word}
-use borrow.Author.Rules.{rules}
+use Rattle.line_form.proofs.Spelling.{worded, after_word}
 use Rattle.pane_lines.proofs.inner.put_frame.Goals as goal
 
 pub returns-in-Current : goal.returns-in-Current

@@ -2,7 +2,6 @@
 use native.Mathlib.Omega.{arith}
 use Rattle.pane_lines.specs.Answers.{empty_word, unreadable_word}
 use Rattle.line_form.proofs.Spelling.{worded}
-use borrow.Author.Rules.{rules}
 use Rattle.pane_lines.proofs.inner.put_items.Goals as goal
 
 pub returns-in-Cleared : goal.returns-in-Cleared

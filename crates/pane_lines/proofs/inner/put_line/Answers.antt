@@ -1,7 +1,6 @@
 -- `pane_lines::inner::put_line` meets its contract. Assumes nothing.
 use native.Mathlib.Omega.{arith}
 use Rattle.pane_lines.proofs.Ended.{ended}
-use borrow.Author.Rules.{rules}
 use Rattle.pane_lines.proofs.inner.put_line.Goals as goal
 
 pub returns : goal.returns

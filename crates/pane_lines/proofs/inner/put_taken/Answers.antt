@@ -1,8 +1,7 @@
 -- `pane_lines::inner::put_taken` meets its contract. Assumes nothing.
 use native.Mathlib.Omega.{arith}
 use Rattle.pane_lines.specs.Answers.{ok_word, unchanged_word}
-use Rattle.line_form.proofs.Spelling.{widened, worded}
-use borrow.Author.Rules.{rules}
+use Rattle.line_form.proofs.Spelling.{worded}
 use Rattle.pane_lines.proofs.inner.put_taken.Goals as goal
 
 pub returns-in-Taken : goal.returns-in-Taken

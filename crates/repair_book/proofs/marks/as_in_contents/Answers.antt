@@ -1,15 +1,12 @@
 -- `repair_book::marks::as_in_contents` meets its contract. The invariant: the numbers rise up to k. Assumes nothing.
 use native.Mathlib.Omega.{arith}
-use mathlib.Core.Path.{◌≡◌, refl, sym}
-use borrow.Author.Rules.{rules}
-use native.Mathlib.Numerals.{add-one}
-use Prim.Native.Nat.{◌+◌, ◌-◌, ◌≤◌}
-use borrow.Author.Tests.{lt-ltb, le-ltb}
+use mathlib.Core.Path.{sym}
+use Prim.Native.Nat.{◌+◌, ◌-◌}
+use borrow.Author.Tests.{le-ltb}
 use mathlib.Core.Bool.{true}
 use lib.ListN.{length, get_or}
 use Rattle.base.specs.Choice.{◌<?◌}
-use Rattle.book.specs.Passes.{all_below}
-use Rattle.base.proofs.Bools.{both, is_false, clash}
+use Rattle.base.proofs.Bools.{is_false, clash}
 use Rattle.book.proofs.Below.{every}
 use Rattle.repair_book.proofs.marks.as_in_contents.Goals as goal
 

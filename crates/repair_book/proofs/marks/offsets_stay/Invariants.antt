@@ -1,21 +1,12 @@
 -- `repair_book::marks::offsets_stay` meets its contract. The invariant: the offsets up to k are the new ones, and block k begins at `place`. Assumes nothing.
-use native.Mathlib.Omega.{arith}
-use mathlib.Core.Path.{◌≡◌, sym, refl, ◌∙◌}
-use native.Mathlib.Numerals.{add-one}
+use mathlib.Core.Path.{◌≡◌}
 use Prim.Native.Nat.{◌-◌, ◌≤◌}
-use borrow.Author.Tests.{eq-eqb, eqb-true}
-use mathlib.Core.Bool.{true, false}
+use mathlib.Core.Bool.{true}
 use lib.ListN.{length, get_or}
 use Rattle.base.specs.Choice.{◌=?◌}
 use Rattle.book.specs.Contents.{offset_of}
-use Rattle.repair_book.specs.Report.{offsets_stay}
 use Rattle.book.specs.Passes.{all_below}
-use Rattle.base.proofs.Bools.{both, is_false}
-use Rattle.book.proofs.Below.{every}
 use Rattle.repair_write.specs.Anew.{place_anew}
-use Rattle.repair_sort.specs.Held.{Sound}
-use Rattle.repair_sort.proofs.Sounds.{sound_at}
-use Rattle.repair_write.proofs.Books.{place_inside, place_further}
 use Rattle.repair_book.proofs.marks.offsets_stay.Given as goal
 
 abbrev pub invariant-loop-k : goal.invariant-loop-k

@@ -1,6 +1,5 @@
 -- `repair_book::marks::report` meets its contract. Assumes nothing.
 use Rattle.repair_book.specs.Report.{report_of}
-use borrow.Author.Rules.{rules}
 use Rattle.repair_book.proofs.marks.report.Goals as goal
 
 pub returns : goal.returns

@@ -1,14 +1,10 @@
 -- `repair_choose::settle::settle_one` meets its contract: overlap first, then room. Assumes nothing.
 use Prim.Native.Nat.{◌+◌, ◌*◌, ◌<◌, ◌≤◌}
 use native.Mathlib.Omega.{arith}
-use borrow.Author.Tests.{ltb-true, ltb-false}
 use mathlib.Core.Path.{◌≡◌, sym, ◌∙◌}
 use lib.ListN.{take}
 use Rattle.repair_choose.specs.Forward.{overlaps_last}
 use Rattle.repair_choose.proofs.Settled.{settled_overlap, settled_no_room, settled_kept, sized_kept, last_sound_lem, last_kept}
-use borrow.Author.Rules.{rules}
-use mathlib.Core.Bool.{not}
-use mathlib.Core.Path.{ap}
 use Rattle.repair_choose.proofs.settle.settle_one.Goals as goal
 
 pub overlaps_last-overlaps-requires : goal.overlaps_last-overlaps-requires

@@ -1,6 +1,6 @@
 -- `repair_sort::reasons::reason` meets its contract: the reasons in their order, the first one found. Assumes nothing.
 use native.Mathlib.Omega.{arith}
-use borrow.Author.Tests.{not-true, not-false, le-leb, lt-leb}
+use borrow.Author.Tests.{le-leb, lt-leb}
 use mathlib.Core.Path.{◌≡◌}
 use mathlib.Core.Bool.{true, false}
 use Prim.Native.Nat.{◌+◌}
@@ -8,7 +8,6 @@ use lib.ListN.{length}
 use Rattle.book.specs.Contents.{offset_of, block_length}
 use Rattle.book.specs.Passes.{coefficients_finite}
 use Rattle.repair_sort.specs.Reasons.{block_inside, first_reason}
-use borrow.Author.Rules.{rules}
 use Rattle.repair_sort.proofs.reasons.reason.Goals as goal
 
 pub returns-then-not-fields_allowed : goal.returns-then-not-fields_allowed

@@ -1,13 +1,9 @@
 -- `repair_write::blocks::write_blocks` meets its contract. The invariant: the first k blocks are written, and block k begins at `place`. Assumes nothing.
 use native.Mathlib.Omega.{arith}
-use mathlib.Core.Path.{◌≡◌, refl, sym, ◌∙◌}
-use Prim.Native.Nat.{◌+◌, ◌-◌, ◌*◌, ◌≤◌}
-use lib.ListN.{length, take, get_or}
-use lib.Seq.{take_all}
-use Rattle.book.specs.Contents.{entry_at}
-use Rattle.repair_write.specs.Anew.{blocks_length, blocks_anew, with_text}
+use mathlib.Core.Path.{◌∙◌}
+use Prim.Native.Nat.{◌-◌}
+use lib.ListN.{get_or}
 use Rattle.repair_sort.specs.Held.{Sound}
-use Rattle.repair_write.proofs.Texts.{no_text}
 use Rattle.repair_sort.proofs.Sounds.{sound_at}
 use Rattle.repair_write.proofs.Books.{place_inside, place_further, block_written}
 use Rattle.repair_write.proofs.blocks.write_blocks.Goals as goal

@@ -1,12 +1,11 @@
 -- `repair_write::bytes::copy` meets its contract: after k turns the first k bytes are copied. Assumes nothing.
 use native.Mathlib.Omega.{arith}
-use mathlib.Core.Path.{◌≡◌, refl, ap, ◌∙◌}
+use mathlib.Core.Path.{ap, ◌∙◌}
 use native.Mathlib.Numerals.{add-one}
-use Prim.Native.Nat.{ℕ, ◌+◌, ◌-◌, ◌≤◌}
+use Prim.Native.Nat.{ℕ, ◌+◌, ◌-◌}
 use mathlib.Core.List.{List}
-use lib.ListN.{length, get_or, drop, set, length-set, length-drop}
-use lib.Seq.{paste, paste-zero, paste-suc, get_or-drop}
-use Rattle.repair_write.proofs.Texts.{text_copied}
+use lib.ListN.{get_or, drop, set, length-set, length-drop}
+use lib.Seq.{paste-suc, get_or-drop}
 use Rattle.repair_write.proofs.bytes.copy.Goals as goal
 
 pub loop-k-preserved : goal.loop-k-preserved

@@ -1,12 +1,9 @@
 -- `repair_write::contents::write_contents` meets its contract. The invariant: the first k entries are written, and block k begins at `place`. Assumes nothing.
 use native.Mathlib.Omega.{arith}
-use mathlib.Core.Path.{◌≡◌, refl, sym, ◌∙◌}
+use mathlib.Core.Path.{◌∙◌}
 use Prim.Native.Nat.{◌+◌, ◌-◌, ◌≤◌}
-use lib.ListN.{length, take, get_or}
-use lib.Seq.{take_all}
+use lib.ListN.{length, get_or}
 use Rattle.book.specs.Contents.{entry_at}
-use Rattle.repair_write.specs.Anew.{blocks_length, contents_anew, with_text}
-use Rattle.repair_write.proofs.Texts.{no_text}
 use Rattle.repair_sort.proofs.Sounds.{sound_at}
 use Rattle.repair_write.proofs.Books.{place_inside, place_further, entry_written}
 use Rattle.repair_write.proofs.contents.write_contents.Goals as goal

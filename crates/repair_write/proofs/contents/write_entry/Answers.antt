@@ -6,7 +6,6 @@ use mathlib.Core.List.{◌++◌}
 use Rattle.book.specs.Contents.{entry_at}
 use Rattle.repair_write.specs.Anew.{part, le32}
 use Rattle.repair_write.proofs.Texts.{joined, part_length, le32_length}
-use borrow.Author.Rules.{rules}
 use Rattle.repair_write.proofs.contents.write_entry.Goals as goal
 
 pub returns : goal.returns

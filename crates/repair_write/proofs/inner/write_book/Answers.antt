@@ -6,7 +6,6 @@ use Rattle.book.specs.Contents.{entry_at}
 use Rattle.repair_write.specs.Anew.{le32, contents_anew, blocks_anew, book_anew}
 use Rattle.repair_write.proofs.Texts.{joined, le32_length}
 use Rattle.repair_write.proofs.Books.{contents_length, blocks_length_lem}
-use borrow.Author.Rules.{rules}
 use Rattle.repair_write.proofs.inner.write_book.Goals as goal
 
 pub returns : goal.returns

@@ -1,5 +1,5 @@
 -- `root_digits::inner::first` meets its contract. Assumes nothing.
-use Rattle.std.proofs.Common.{◌-◌, ◌^◌, arith, rules}
+use Rattle.std.proofs.Common.{◌-◌, ◌^◌, arith}
 use Rattle.root_digits.proofs.inner.first.Goals as goal
 
 pub returns : goal.returns

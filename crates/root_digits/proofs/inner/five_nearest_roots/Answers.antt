@@ -1,7 +1,6 @@
 -- `root_digits::inner::five_nearest_roots` meets its contract: two lanes, and three more. Assumes nothing.
-use Rattle.std.proofs.Common.{◌*◌, ◌^◌, refl}
-use Rattle.root_digits.specs.Digits.{LaneOf, LanesOf}
-use Rattle.root_digits.proofs.Turns.{Weight, falls, weight, turning, turned, found, three_turning, three_turned, three_found}
+use Rattle.std.proofs.Common.{refl}
+use Rattle.root_digits.proofs.Turns.{weight, turning, turned, found, three_turning, three_turned, three_found}
 use Rattle.root_digits.proofs.inner.five_nearest_roots.Goals as goal
 
 pub loop-g-init : goal.loop-g-init

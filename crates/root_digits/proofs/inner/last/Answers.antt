@@ -1,5 +1,5 @@
 -- `root_digits::inner::last` meets its contract. Assumes nothing.
-use Rattle.std.proofs.Common.{◌≡◌, ℕ, ◌+◌, ◌*◌, ◌/◌, ◌^◌, ◌<◌, ◌≤◌, Bool, ltb, sym, ap, ◌∙◌, subst, mul-one, arith, rules, le-ltb, lt-ltb}
+use Rattle.std.proofs.Common.{◌≡◌, ℕ, ◌+◌, ◌*◌, ◌/◌, ◌^◌, ◌<◌, ◌≤◌, Bool, ltb, sym, ap, ◌∙◌, subst, mul-one, arith, le-ltb, lt-ltb}
 use Rattle.base.specs.Choice.{if◌then◌else◌}
 use Rattle.root_digits.specs.Nearest.{nearest_root}
 use Rattle.root_digits.specs.Digits.{LaneOf}

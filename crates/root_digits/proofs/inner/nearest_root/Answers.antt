@@ -1,7 +1,6 @@
 -- `root_digits::inner::nearest_root` meets its contract. The lane is of m·2^52 throughout. Assumes nothing.
-use Rattle.std.proofs.Common.{◌*◌, ◌^◌, refl}
-use Rattle.root_digits.specs.Digits.{LaneOf}
-use Rattle.root_digits.proofs.Turns.{Weight, falls, weight, turning, turned, found}
+use Rattle.std.proofs.Common.{refl}
+use Rattle.root_digits.proofs.Turns.{weight, turning, turned, found}
 use Rattle.root_digits.proofs.inner.nearest_root.Goals as goal
 
 pub loop-g-init : goal.loop-g-init

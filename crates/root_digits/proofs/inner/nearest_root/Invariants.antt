@@ -1,7 +1,7 @@
 -- `root_digits::inner::nearest_root` meets its contract. The lane is of m·2^52 throughout. Assumes nothing.
-use Rattle.std.proofs.Common.{◌*◌, ◌^◌, refl}
+use Rattle.std.proofs.Common.{◌*◌, ◌^◌}
 use Rattle.root_digits.specs.Digits.{LaneOf}
-use Rattle.root_digits.proofs.Turns.{Weight, falls, weight, turning, turned, found}
+use Rattle.root_digits.proofs.Turns.{Weight}
 use Rattle.root_digits.proofs.inner.nearest_root.Given as goal
 
 abbrev pub invariant-loop-g : goal.invariant-loop-g

@@ -1,7 +1,6 @@
 -- `root_digits::inner::three_nearest_roots` meets its contract: the lanes are those of the three numbers throughout. Assumes nothing.
-use Rattle.std.proofs.Common.{refl}
 use Rattle.root_digits.specs.Digits.{LanesOf}
-use Rattle.root_digits.proofs.Turns.{Weight, falls, weight, three_turning, three_turned, three_found}
+use Rattle.root_digits.proofs.Turns.{Weight}
 use Rattle.root_digits.proofs.inner.three_nearest_roots.Given as goal
 
 abbrev pub invariant-loop-g : goal.invariant-loop-g

@@ -1,6 +1,6 @@
 -- `root_digits::inner::turn` meets its contract. With h half of g, the digit of weight h is 1 if (q + h)² is at most n, which is 4q + g ≤
 -- 4w. Assumes nothing.
-use Rattle.std.proofs.Common.{◌≡◌, ℕ, ◌+◌, ◌-◌, ◌*◌, ◌/◌, ◌%◌, ◌^◌, ◌<◌, ◌≤◌, sym, ap, ◌∙◌, mul_comm, add-mul, mul-add, arith, rules}
+use Rattle.std.proofs.Common.{◌≡◌, ℕ, ◌+◌, ◌-◌, ◌*◌, ◌/◌, ◌%◌, ◌^◌, ◌<◌, ◌≤◌, sym, ap, ◌∙◌, mul_comm, add-mul, mul-add, arith}
 use Rattle.root_digits.specs.Digits.{LaneOf, Turning}
 use Rattle.root_digits.proofs.inner.turn.Goals as goal
 

@@ -1,6 +1,6 @@
 -- `root_known::inner::same_above_zero` meets its contract. Assumes nothing.
 use mathlib.Core.Path.{◌≡◌, sym, subst}
-use mathlib.Core.Bool.{Bool, true, false, false≢true, ◌&&◌}
+use mathlib.Core.Bool.{Bool, true, ◌&&◌}
 use lib.Dec.{T}
 use Rattle.root_known.proofs.OneFloat.{one_float}
 use Rattle.root_known.proofs.inner.same_above_zero.Goals as goal

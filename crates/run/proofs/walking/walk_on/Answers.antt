@@ -6,7 +6,6 @@ use native.Mathlib.Omega.{arith}
 use Rattle.book.specs.Calm.{Ready}
 use Rattle.step.specs.Step.{step}
 use Rattle.run.specs.Run.{run_to}
-use Rattle.run.specs.Kept.{Walking}
 use Rattle.run.specs.declared.Outcome.TheVariants.{Arrived, Going, Refused}
 use Rattle.run.proofs.Runs.{run_arrived, run_going, run_refused}
 use Rattle.run.proofs.Walked.{handed_off, walk_starts, walk_in, walk_ends, walk_goes_on}

@@ -1,7 +1,6 @@
 -- `sine::inner::from_axis` meets its contract. Assumes nothing.
 use borrow.Author.Tests.{eq-eqb, ne_eqb}
 use Rattle.sine.specs.Sine.{within}
-use borrow.Author.Rules.{rules}
 use Rattle.sine.proofs.inner.from_axis.Goals as goal
 
 pub returns-then-q-eq0 : goal.returns-then-q-eq0

@@ -1,9 +1,6 @@
 -- `sine::inner::radians` meets its contract. Assumes nothing.
 use mathlib.Core.Path.{refl}
-use Prim.Native.Nat.{◌≤◌, ◌^◌}
-use native.Mathlib.Omega.{arith}
-use lib.Dec.{le→leb}
-use lib.Ieee.{of_bits, of_int, round, in_float}
+use lib.Ieee.{of_bits, of_int, round}
 use Rattle.sine.specs.Sine.{angle}
 use Rattle.sine.proofs.inner.radians.Goals as goal
 

@@ -7,7 +7,6 @@ use Rattle.step.specs.Step.{along, step_h, keeping}
 use Rattle.step.specs.Stages.{velocity3, lastly}
 use Rattle.step.specs.Entries.{entries_after}
 use Rattle.step.proofs.Answered.{answered, goes_on, leaves, ended_lastly}
-use borrow.Author.Rules.{rules}
 use Rattle.step.proofs.inner.fourth_stage.Goals as goal
 
 pub returns-in-Is : goal.returns-in-Is

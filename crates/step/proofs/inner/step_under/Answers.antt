@@ -1,6 +1,5 @@
 -- `step::inner::step_under` meets its contract. Assumes nothing.
 use Rattle.step.specs.Step.{step}
-use borrow.Author.Rules.{rules}
 use Rattle.step.proofs.inner.step_under.Goals as goal
 
 pub returns : goal.returns

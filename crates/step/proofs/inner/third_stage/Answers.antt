@@ -6,7 +6,6 @@ use Rattle.step.specs.Step.{along, half, keeping}
 use Rattle.step.specs.Stages.{stage4, velocity2}
 use Rattle.step.specs.Entries.{entries_after}
 use Rattle.step.proofs.Answered.{answered, goes_on, leaves}
-use borrow.Author.Rules.{rules}
 use Rattle.step.proofs.inner.third_stage.Goals as goal
 
 pub returns-in-Is : goal.returns-in-Is

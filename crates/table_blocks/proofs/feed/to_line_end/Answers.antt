@@ -1,5 +1,4 @@
 -- `table_blocks::feed::to_line_end` meets its contract. Assumes nothing.
-use borrow.Author.Rules.{rules}
 use Rattle.table_blocks.specs.Onward.{ahead_of}
 use Rattle.table_blocks.proofs.feed.to_line_end.Goals as goal
 

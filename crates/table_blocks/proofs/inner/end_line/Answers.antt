@@ -1,8 +1,5 @@
 -- `table_blocks::inner::end_line` meets its contract. Assumes nothing.
-use mathlib.Core.Path.{sym, ◌∙◌}
-use native.Mathlib.Omega.{arith}
-use Rattle.table_blocks.proofs.Reading.{found_fits, line_most, feeds_row, feeds_refused}
-use borrow.Author.Rules.{rules}
+use Rattle.table_blocks.proofs.Reading.{feeds_row, feeds_refused}
 use Rattle.table_blocks.proofs.inner.end_line.Goals as goal
 
 pub returns-then-refusal-eq0 : goal.returns-then-refusal-eq0

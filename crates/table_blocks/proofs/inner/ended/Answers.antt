@@ -2,7 +2,6 @@
 use mathlib.Core.Path.{refl, sym, ◌∙◌, subst}
 use Rattle.table_blocks.specs.Steps.{Fresh}
 use Rattle.table_blocks.proofs.Reading.{end_table, fresh_begun, refused_end}
-use borrow.Author.Rules.{rules}
 use Rattle.table_blocks.proofs.inner.ended.Goals as goal
 
 pub returns-in-Going : goal.returns-in-Going

@@ -3,7 +3,6 @@ use mathlib.Core.Path.{subst}
 use native.Mathlib.Omega.{arith}
 use Rattle.table_blocks.specs.Steps.{Stands}
 use Rattle.table_blocks.proofs.Reading.{stands_held, ends_refused}
-use borrow.Author.Rules.{rules}
 use Rattle.table_blocks.proofs.inner.finish.Goals as goal
 
 pub finish_line-requires : goal.finish_line-requires

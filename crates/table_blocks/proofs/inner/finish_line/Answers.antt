@@ -1,7 +1,6 @@
 -- `table_blocks::inner::finish_line` meets its contract. Assumes nothing.
 use mathlib.Core.Path.{sym, ◌∙◌}
 use Rattle.table_blocks.proofs.Reading.{ends_inside, ends_between}
-use borrow.Author.Rules.{rules}
 use Rattle.table_blocks.proofs.inner.finish_line.Goals as goal
 
 pub returns-then-has_begun : goal.returns-then-has_begun

@@ -1,7 +1,6 @@
 -- `table_blocks::inner::go_on` meets its contract. Assumes nothing.
-use Rattle.table_blocks.proofs.Reading.{feed_steps, byte_steps}
+use Rattle.table_blocks.proofs.Reading.{byte_steps}
 use Rattle.listing_scan.proofs.Taking.{takes}
-use borrow.Author.Rules.{rules}
 use Rattle.table_blocks.proofs.inner.go_on.Goals as goal
 
 pub returns : goal.returns

@@ -1,10 +1,9 @@
 -- `table_blocks::inner::portion` meets its contract. Assumes nothing.
 use Prim.Native.Nat.{ℕ, ◌+◌, ◌-◌, ◌<◌, ◌≤◌}
-use mathlib.Core.Path.{◌≡◌, refl, ◌∙◌}
+use mathlib.Core.Path.{◌∙◌}
 use native.Mathlib.Omega.{arith}
 use lib.ListN.{length}
-use borrow.Author.Rules.{rules}
-use Rattle.table_blocks.proofs.Reading.{Made, begins, goes_on, tabled}
+use Rattle.table_blocks.proofs.Reading.{goes_on}
 use Rattle.table_blocks.proofs.Lines.{ahead_least, made_ahead}
 use Rattle.table_blocks.proofs.inner.portion.Goals as goal
 

@@ -1,11 +1,8 @@
 -- `table_blocks::inner::portion` meets its contract. Assumes nothing.
-use Prim.Native.Nat.{ℕ, ◌+◌, ◌-◌, ◌<◌, ◌≤◌}
-use mathlib.Core.Path.{◌≡◌, refl, ◌∙◌}
-use native.Mathlib.Omega.{arith}
+use Prim.Native.Nat.{◌-◌}
+use mathlib.Core.Path.{◌≡◌}
 use lib.ListN.{length}
-use borrow.Author.Rules.{rules}
-use Rattle.table_blocks.proofs.Reading.{Made, begins, goes_on, tabled}
-use Rattle.table_blocks.proofs.Lines.{ahead_least, made_ahead}
+use Rattle.table_blocks.proofs.Reading.{Made}
 use Rattle.table_blocks.proofs.inner.portion.Given as goal
 
 abbrev pub invariant-loop-i : goal.invariant-loop-i

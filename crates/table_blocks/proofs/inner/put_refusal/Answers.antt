@@ -4,7 +4,6 @@ use borrow.Author.Tests.{eq-eqb, ne_eqb}
 use Rattle.text_write.proofs.Writing.{nothing, both}
 use Rattle.text_write.proofs.Decimal.{decimal_fits}
 use Rattle.table_blocks.specs.Table.{refusal_text}
-use borrow.Author.Rules.{rules}
 use Rattle.table_blocks.proofs.inner.put_refusal.Goals as goal
 
 pub returns-then-number-eq0 : goal.returns-then-number-eq0

@@ -3,7 +3,6 @@ use mathlib.Core.Path.{subst}
 use native.Mathlib.Omega.{arith}
 use Rattle.table_blocks.specs.Steps.{Stands}
 use Rattle.table_blocks.proofs.Reading.{stands_held, stays_refused}
-use borrow.Author.Rules.{rules}
 use Rattle.table_blocks.proofs.inner.take.Goals as goal
 
 pub go_on-requires : goal.go_on-requires

@@ -3,7 +3,6 @@ use native.Mathlib.Omega.{arith}
 use Rattle.text_write.proofs.Writing.{both}
 use Rattle.table_rows.specs.Text.{fields}
 use Rattle.table_rows.proofs.Sizes.{none_large, field_next}
-use borrow.Author.Rules.{rules}
 use Rattle.table_rows.proofs.inner.put_fields.Goals as goal
 
 pub put_field-third-requires : goal.put_field-third-requires

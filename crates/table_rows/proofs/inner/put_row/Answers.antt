@@ -1,9 +1,8 @@
 -- `table_rows::inner::put_row` meets its contract. Assumes nothing.
 use native.Mathlib.Omega.{arith}
-use Rattle.text_write.proofs.Writing.{both, byte}
+use Rattle.text_write.proofs.Writing.{both}
 use Rattle.table_rows.specs.Text.{row_text}
 use Rattle.table_rows.proofs.Sizes.{row_small, fields_next, stamp_next}
-use borrow.Author.Rules.{rules}
 use Rattle.table_rows.proofs.inner.put_row.Goals as goal
 
 pub put_fields-velocity-requires : goal.put_fields-velocity-requires

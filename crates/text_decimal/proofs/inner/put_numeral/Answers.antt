@@ -3,7 +3,6 @@ use native.Mathlib.Omega.{arith}
 use lib.Ieee.{binary64, of_bits}
 use Rattle.text_write.proofs.Writing.{both}
 use Rattle.text_decimal.proofs.Writing.{sign_next, whole_short, assembled}
-use borrow.Author.Rules.{rules}
 use Rattle.text_decimal.proofs.inner.put_numeral.Goals as goal
 
 pub put_decimal-point-requires : goal.put_decimal-point-requires

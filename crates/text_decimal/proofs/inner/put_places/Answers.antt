@@ -3,7 +3,6 @@ use Prim.Native.Nat.{◌/◌}
 use mathlib.Core.Path.{refl}
 use native.Mathlib.Omega.{arith}
 use Rattle.text_write.proofs.Digits.{length_digits, halves}
-use borrow.Author.Rules.{rules}
 use Rattle.text_decimal.proofs.inner.put_places.Goals as goal
 
 pub put_three-requires-in-Six : goal.put_three-requires-in-Six

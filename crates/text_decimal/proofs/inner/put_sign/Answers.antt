@@ -5,7 +5,6 @@ use native.Mathlib.Omega.{arith}
 use borrow.Author.Tests.{lt-ltb, le-ltb, le-leb, lt-leb}
 use Rattle.text_write.proofs.Writing.{nothing, byte}
 use Rattle.text_decimal.specs.Numeral.{sign_of}
-use borrow.Author.Rules.{rules}
 use Rattle.text_decimal.proofs.inner.put_sign.Goals as goal
 
 above_zero : (q : ℕ) → (q ≡ 0 → ⊥) → 0 < q

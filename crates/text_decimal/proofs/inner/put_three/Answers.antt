@@ -1,11 +1,9 @@
 -- `text_decimal::inner::put_three` meets its contract. Assumes nothing.
 use Prim.Native.Nat.{◌/◌}
-use mathlib.Core.Path.{refl, ◌∙◌}
+use mathlib.Core.Path.{refl}
 use native.Mathlib.Omega.{arith}
-use lib.ListN.{length-set}
 use Rattle.text_write.proofs.Digits.{halves}
 use Rattle.text_decimal.proofs.Writing.{one_written}
-use borrow.Author.Rules.{rules}
 use Rattle.text_decimal.proofs.inner.put_three.Goals as goal
 
 pub returns : goal.returns

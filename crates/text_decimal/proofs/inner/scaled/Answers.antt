@@ -3,9 +3,8 @@ use Prim.Native.Nat.{ℕ, ◌+◌, ◌*◌, ◌/◌, ◌%◌, ◌^◌, ◌<◌, 
 use mathlib.Core.Path.{◌≡◌, refl, ap, ◌∙◌}
 use native.Mathlib.Omega.{arith}
 use native.Mathlib.Nat.{add-mul, mul_right_comm, mul-le-mul, mod-lt}
-use lib.Pow.{pow_pos, split, shr_le}
+use lib.Pow.{pow_pos, split}
 use Rattle.text_decimal.proofs.Rounding.{half_none, half_more, half_tie}
-use borrow.Author.Rules.{rules}
 use Rattle.text_decimal.proofs.inner.scaled.Goals as goal
 
 -- how large the products are

@@ -1,7 +1,6 @@
 -- `text_decimal::inner::units` meets its contract. Assumes nothing.
 use native.Mathlib.Omega.{arith}
 use Rattle.text_decimal.proofs.Values.{no_units, some_units, field_most}
-use borrow.Author.Rules.{rules}
 use Rattle.text_decimal.proofs.inner.units.Goals as goal
 
 pub returns-then-field-lt999 : goal.returns-then-field-lt999

@@ -4,7 +4,6 @@ use native.Mathlib.Omega.{arith}
 use Rattle.text_write.proofs.Digits.{halves}
 use Rattle.text_time.specs.Stamp.{date_text}
 use Rattle.text_time.proofs.Parts.{two_next, behind_next, behind}
-use borrow.Author.Rules.{rules}
 use Rattle.text_time.proofs.inner.put_date.Goals as goal
 
 pub put_two-month-requires : goal.put_two-month-requires

@@ -1,11 +1,9 @@
 -- `text_time::inner::put_time` meets its contract. Assumes nothing.
-use mathlib.Core.Path.{◌∙◌}
 use native.Mathlib.Omega.{arith}
 use lib.ListN.{length-set}
 use Rattle.text_write.proofs.Writing.{both, byte}
 use Rattle.text_time.specs.Stamp.{time_text}
 use Rattle.text_time.proofs.Parts.{two_next, behind_next, behind}
-use borrow.Author.Rules.{rules}
 use Rattle.text_time.proofs.inner.put_time.Goals as goal
 
 pub put_behind-second-requires : goal.put_behind-second-requires

@@ -1,12 +1,8 @@
 -- `text_write::inner::put_bytes` meets its contract: after i turns the first i bytes of the word are written. Assumes nothing.
-use Prim.Native.Nat.{◌+◌, ◌-◌, ◌≤◌}
-use mathlib.Core.Path.{◌≡◌, refl}
-use native.Mathlib.Nat.{add-zero}
+use Prim.Native.Nat.{◌-◌}
 use native.Mathlib.Omega.{arith}
-use lib.ListN.{length, take, length-set}
-use lib.Seq.{take_all}
-use Rattle.text_write.specs.Written.{Wrote}
-use Rattle.text_write.proofs.Writing.{nothing, next_byte}
+use lib.ListN.{length-set}
+use Rattle.text_write.proofs.Writing.{next_byte}
 use Rattle.text_write.proofs.inner.put_bytes.Goals as goal
 
 pub loop-i-preserved : goal.loop-i-preserved

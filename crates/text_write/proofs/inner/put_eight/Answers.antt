@@ -1,9 +1,7 @@
 -- `text_write::inner::put_eight` meets its contract: two halves. Assumes nothing.
 use Prim.Native.Nat.{◌*◌, ◌/◌}
 use native.Mathlib.Omega.{arith}
-use native.Mathlib.Nat.{mul-pos}
-use Rattle.text_write.proofs.Digits.{length_digits, square_fits, square_again, square_again_is, halves}
-use borrow.Author.Rules.{rules}
+use Rattle.text_write.proofs.Digits.{length_digits, square_again_is, halves}
 use Rattle.text_write.proofs.inner.put_eight.Goals as goal
 
 pub put_four-requires : goal.put_four-requires

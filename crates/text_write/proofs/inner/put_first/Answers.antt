@@ -3,11 +3,9 @@ use Prim.Native.Nat.{◌/◌}
 use mathlib.Core.List.{[], ◌∷◌}
 use Rattle.text_write.specs.Numerals.{glyph}
 use native.Mathlib.Omega.{arith}
-use mathlib.Core.Path.{◌∙◌}
-use lib.ListN.{length, length-set}
+use lib.ListN.{length-set}
 use Rattle.text_write.proofs.Writing.{both, byte}
 use Rattle.text_write.proofs.Decimal.{decimal_some, decimal_short, decimal_cut, decimal_exact, decimal_wide}
-use borrow.Author.Rules.{rules}
 use Rattle.text_write.proofs.inner.put_first.Goals as goal
 
 pub bounds-out-at : goal.bounds-out-at

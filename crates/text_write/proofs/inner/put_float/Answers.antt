@@ -1,6 +1,5 @@
 -- `text_write::inner::put_float` meets its contract, by those of what it writes. Assumes nothing.
 use Rattle.text_write.specs.Numerals.{float_text}
-use borrow.Author.Rules.{rules}
 use Rattle.text_write.proofs.inner.put_float.Goals as goal
 
 pub returns-in-Pattern : goal.returns-in-Pattern

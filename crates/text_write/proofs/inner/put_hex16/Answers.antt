@@ -3,7 +3,6 @@ use Prim.Native.Nat.{◌/◌}
 use native.Mathlib.Omega.{arith}
 use mathlib.Core.Path.{refl}
 use Rattle.text_write.proofs.Digits.{length_digits, halves}
-use borrow.Author.Rules.{rules}
 use Rattle.text_write.proofs.inner.put_hex16.Goals as goal
 
 pub put_eight-requires : goal.put_eight-requires

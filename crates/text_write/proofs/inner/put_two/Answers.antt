@@ -1,8 +1,5 @@
 -- `text_write::inner::put_two` meets its contract: one digit after the other. Assumes nothing.
-use native.Mathlib.Omega.{arith}
-use lib.ListN.{length-set}
-use Rattle.text_write.proofs.Digits.{digit_fits, two_digits}
-use borrow.Author.Rules.{rules}
+use Rattle.text_write.proofs.Digits.{two_digits}
 use Rattle.text_write.proofs.inner.put_two.Goals as goal
 
 pub returns : goal.returns
