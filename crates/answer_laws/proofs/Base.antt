@@ -2,7 +2,7 @@
 use lib.Ieee.Scale.{finite}
 use mathlib.Core.Bool.{◌&&◌, not}
 use mathlib.Core.Path.{refl}
-use Rattle.base.specs.Choice.{if◌then◌else◌}
+use Rattle.base.specs.Choice.{if◌then◌otherwise◌}
 use Rattle.base.proofs.OneAnswer.{OneAnswer, one_answer}
 use Rattle.base.specs.contracts.both as both
 use Rattle.base.specs.contracts.is_finite as is_finite
@@ -18,4 +18,4 @@ is_finite_answers_once =
 
 pub unless_answers_once : OneAnswer unless.ended (λ M 𝓤 𝓛. unless.clauses 𝓛)
 unless_answers_once =
-    one_answer (λ κs inputs. (if not inputs.0 then inputs.1.0 else inputs.1.1.0)) (λ M 𝓤 𝓛 mem run κs inputs g r after. refl)
+    one_answer (λ κs inputs. (if not inputs.0 then inputs.1.0 otherwise inputs.1.1.0)) (λ M 𝓤 𝓛 mem run κs inputs g r after. refl)

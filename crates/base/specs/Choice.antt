@@ -2,10 +2,10 @@
 use Rattle.std.specs.Prelude.{Bool, true, false, ℕ, leb, ltb, eqb}
 
 infix 40 ◌<?◌ ◌≤?◌ ◌=?◌
-infixr 5 if◌then◌else◌
-abbrev pub if◌then◌else◌ {ℓ} : {A : Type ℓ} → Bool → A → A → A
-if true then a else b = a
-if false then a else b = b
+infixr 5 if◌then◌otherwise◌
+abbrev pub if◌then◌otherwise◌ {ℓ} : {A : Type ℓ} → Bool → A → A → A
+if true then a otherwise b = a
+if false then a otherwise b = b
 
 abbrev pub ◌<?◌ : ℕ → ℕ → Bool
 a <? b = ltb a b

@@ -4,7 +4,7 @@
 
 ghost use Rattle.std.specs.Prelude.{◌≡◌, not, ◌&&◌};
 ghost use Rattle.std.specs.Float.Ieee.Scale.{finite};
-ghost use Rattle.base.specs.Choice.{if◌then◌else◌};
+ghost use Rattle.base.specs.Choice.{if◌then◌otherwise◌};
 
 // Moments are whole milliseconds from 0 up to but not including this.
 pub const END_OF_TIME: u64 = 3_155_760_000_000;
@@ -29,7 +29,7 @@ pub fn is_finite(x: f64) -> bool
 
 // A check before later ones: its number if it fails, else the result of the later ones.
 pub fn unless(ok: bool, number: u64, later: u64) -> u64
-    ensures { result ≡ (if not ok then number else later) }
+    ensures { result ≡ (if not ok then number otherwise later) }
 {
     if ok { later } else { number }
 }

@@ -1,6 +1,6 @@
 -- What the exported repair returns and writes to the caller's memory.
 use Rattle.std.specs.Prelude.{ℕ, Bool, List, [], ◌∷◌}
-use Rattle.base.specs.Choice.{if◌then◌else◌}
+use Rattle.base.specs.Choice.{if◌then◌otherwise◌}
 use Rattle.repair_book.specs.Repaired.{Outcome}
 use Rattle.repair_book.specs.declared.Report.{Report}
 use Rattle.repair_book.specs.declared.RepairAnswer.{RepairAnswer}
@@ -8,7 +8,7 @@ use Rattle.repair_book.specs.declared.RepairAnswer.TheVariants.{Written, Refused
 
 -- a mark as a number: 1 if something changed
 abbrev pub mark_of : Bool → ℕ
-mark_of changed = if changed then 1 else 0
+mark_of changed = if changed then 1 otherwise 0
 
 -- written: the entries looked at and kept, the bytes written, and the marks of total, count, order and offsets
 abbrev pub report_in : Report → List ℕ

@@ -2,7 +2,7 @@
 -- R-5: with its velocity.
 use Rattle.std.specs.Prelude.{ℕ, Bool, ◌&&◌, List}
 use Rattle.std.specs.Float.Ieee.Scale.{finite}
-use Rattle.base.specs.Choice.{if◌then◌else◌}
+use Rattle.base.specs.Choice.{if◌then◌otherwise◌}
 use Rattle.base.specs.Limits.{is_moment}
 use Rattle.book_check.specs.Passes.{passes}
 use Rattle.book_search.specs.Lookup.{lookup}
@@ -23,7 +23,7 @@ finite_velocity v = finite v.x && finite v.y && finite v.z
 -- 7: a position that is not finite; document 02, R-5: "A velocity that is not finite is 7, after position"
 abbrev pub finite_or7 : Place → Velocity → PositionAnswer
 finite_or7 p v =
-    if finite_place p then (if finite_velocity v then At (record { place = p; velocity = v }) else Refused 7) else Refused 7
+    if finite_place p then (if finite_velocity v then At (record { place = p; velocity = v }) otherwise Refused 7) otherwise Refused 7
 
 -- 6: no cover
 abbrev pub place_or6 : List ℕ → ℕ → Lookup → PositionAnswer
@@ -37,4 +37,4 @@ body_at b body t = place_or6 b t (lookup b body t)
 -- "Body position: 1, 3, 6, 7; a number without entries has no cover"; by R-5 the 7 for the velocity comes last
 unfoldable pub position_answer : List ℕ → ℕ → ℕ → PositionAnswer
 position_answer b body t =
-    if passes b then (if is_moment t then body_at b body t else Refused 3) else Refused 1
+    if passes b then (if is_moment t then body_at b body t otherwise Refused 3) otherwise Refused 1

@@ -1,7 +1,7 @@
 -- What one turn of the check tests of an entry. The laws in proofs/Checked.antt prove that this gives document 01's conditions.
 use Rattle.std.specs.Prelude.{ℕ, ◌+◌, ◌*◌, ◌%◌, Bool, true, ◌&&◌, List, length}
 use Rattle.std.specs.Float.Ieee.Scale.{finite}
-use Rattle.base.specs.Choice.{if◌then◌else◌, ◌<?◌, ◌≤?◌, ◌=?◌}
+use Rattle.base.specs.Choice.{if◌then◌otherwise◌, ◌<?◌, ◌≤?◌, ◌=?◌}
 use Rattle.base_bytes.specs.Bytes.{u64_at}
 use Rattle.book_check.specs.Contents.{offset_of, float_of, block_length}
 use Rattle.book_check.specs.Passes.{all_below, fields_allowed, ascends, apart, coefficients_finite}
@@ -26,4 +26,4 @@ abbrev pub in_order : List ℕ → ℕ → ℕ → Bool
 in_order b i j = ascends b i j && apart b i j
 
 abbrev pub next_in_order : List ℕ → ℕ → ℕ → Bool
-next_in_order b i count = if i + 1 <? count then in_order b i (i + 1) else true
+next_in_order b i count = if i + 1 <? count then in_order b i (i + 1) otherwise true

@@ -5,7 +5,7 @@ use mathlib.Core.Logic.{⊎_elim}
 use mathlib.Core.Path.{◌≡◌, refl, sym, subst, ◌∙◌}
 use native.Mathlib.Nat.{eq-or-lt_of_le, le_of_suc-le-suc, not-suc-le-zero}
 use native.Mathlib.Omega.{arith}
-use Rattle.base.specs.Choice.{if◌then◌else◌}
+use Rattle.base.specs.Choice.{if◌then◌otherwise◌}
 use Rattle.book.specs.Lookup.{or_else, first_below}
 use Rattle.book_search.specs.declared.Lookup.{Lookup}
 use Rattle.book_search.specs.declared.Lookup.TheVariants.{Entry, Nothing}
@@ -20,7 +20,7 @@ none_meets zero test h = λ k l. absurd (not-suc-le-zero l)
 none_meets (suc n) test h = by (first_below n test) (test n) refl refl (none_meets n test) h
   where
     by : (earlier : Lookup) (now : Bool) → first_below n test ≡ earlier → test n ≡ now
-        → (first_below n test ≡ Nothing → (k : ℕ) → k < n → test k ≡ false) → or_else earlier (if now then Entry n else Nothing) ≡ Nothing
+        → (first_below n test ≡ Nothing → (k : ℕ) → k < n → test k ≡ false) → or_else earlier (if now then Entry n otherwise Nothing) ≡ Nothing
         → (k : ℕ) → k < suc n → test k ≡ false
     by (Entry j) now e t before h = let z : ◌≡◌ {A = ℕ} 0 1 = cc in absurd (omega arith)
     by Nothing true e t before h = let z : ◌≡◌ {A = ℕ} 0 1 = cc in absurd (omega arith)
@@ -32,7 +32,7 @@ none_before zero test i h = let z : ◌≡◌ {A = ℕ} 0 1 = cc in absurd (omeg
 none_before (suc n) test i h = by (first_below n test) (test n) refl refl (none_before n test i) h
   where
     by : (earlier : Lookup) (now : Bool) → first_below n test ≡ earlier → test n ≡ now
-        → (first_below n test ≡ Entry i → (k : ℕ) → k < i → test k ≡ false) → or_else earlier (if now then Entry n else Nothing) ≡ Entry i
+        → (first_below n test ≡ Entry i → (k : ℕ) → k < i → test k ≡ false) → or_else earlier (if now then Entry n otherwise Nothing) ≡ Entry i
         → (k : ℕ) → k < i → test k ≡ false
     by (Entry j) now e t before h = before (e ∙ h)
     by Nothing true e t before h = λ k l. let same : n ≡ i = cc in none_meets n test e k (omega arith)

@@ -5,7 +5,7 @@ use mathlib.Core.Bool.{Bool, true, false, ◌&&◌}
 use mathlib.Core.List.{List}
 use mathlib.Core.Path.{◌≡◌, refl, sym, ap}
 use native.Mathlib.Omega.{arith}
-use Rattle.base.specs.Choice.{if◌then◌else◌}
+use Rattle.base.specs.Choice.{if◌then◌otherwise◌}
 use Rattle.book.specs.Passes.{passes}
 use Rattle.book_search.specs.declared.Lookup.{Lookup}
 use Rattle.book_search.specs.declared.Lookup.TheVariants.{Entry, Nothing}
@@ -25,7 +25,7 @@ module _ (b c : List ℕ) where
   unfolding holds_answer
   passing_told a other h = by (passes b) (passes c) refl refl h
     where
-      by : (x y : Bool) → passes b ≡ x → passes c ≡ y → (if x && y then answer_of (first_missing b c) else Refused 1) ≡ a → Told a
+      by : (x y : Bool) → passes b ≡ x → passes c ≡ y → (if x && y then answer_of (first_missing b c) otherwise Refused 1) ≡ a → Told a
       by true true p q h = record { pass = record { first = p; second = q }; is = h }
       by true false p q h = absurd (other h)
       by false y p q h = absurd (other h)
@@ -76,7 +76,7 @@ module _ (b c : List ℕ) where
       no_number Nothing h = let z : ◌≡◌ {A = ℕ} 0 1 = cc in omega arith
       no_number (Entry i) h = let z : ◌≡◌ {A = ℕ} 0 1 = cc in omega arith
 
-      by : (x : Bool) → (passes b && passes c) ≡ x → (if x then answer_of (first_missing b c) else Refused 1) ≡ Refused k → (k ≡ 1) × ((passes b && passes c) ≡ false)
+      by : (x : Bool) → (passes b && passes c) ≡ x → (if x then answer_of (first_missing b c) otherwise Refused 1) ≡ Refused k → (k ≡ 1) × ((passes b && passes c) ≡ false)
       by true e h = absurd (no_number (first_missing b c) h)
       by false e h = (let same : 1 ≡ k = cc in sym same, e)
 

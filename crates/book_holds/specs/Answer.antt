@@ -1,7 +1,7 @@
 -- Document 02, R-12, as a question: does the second book hold every entry of the first? If not, the answer is the first entry of the first
 -- book that the second does not hold.
 use Rattle.std.specs.Prelude.{ℕ, zero, suc, ◌+◌, ◌*◌, Bool, false, not, ◌&&◌, ◌||◌, List}
-use Rattle.base.specs.Choice.{if◌then◌else◌, ◌=?◌}
+use Rattle.base.specs.Choice.{if◌then◌otherwise◌, ◌=?◌}
 use Rattle.base_bytes.specs.Bytes.{u64_at}
 use Rattle.book.specs.Contents.{entry_count, body_of, size_of, offset_of, start_of, span_of}
 use Rattle.book.specs.Passes.{all_below, passes}
@@ -42,4 +42,4 @@ answer_of Nothing = Held
 
 -- 1: a book that does not pass, the first or the second
 unfoldable pub holds_answer : List ℕ → List ℕ → HoldsAnswer
-holds_answer b c = if passes b && passes c then answer_of (first_missing b c) else Refused 1
+holds_answer b c = if passes b && passes c then answer_of (first_missing b c) otherwise Refused 1

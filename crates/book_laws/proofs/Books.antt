@@ -6,7 +6,7 @@ use mathlib.Core.Path.{◌≡◌, refl, sym, ap, ◌∙◌}
 use Prim.Native.Nat.{ℕ, zero, suc, ◌+◌, ◌*◌, ◌<◌}
 use native.Mathlib.Omega.{arith}
 use lib.Ieee.{Float, binary64, of_bits}
-use Rattle.base.specs.Choice.{if◌then◌else◌}
+use Rattle.base.specs.Choice.{if◌then◌otherwise◌}
 use Rattle.base.specs.Limits.{is_moment}
 use Rattle.book.specs.Contents.{size_of, coefficient}
 use Rattle.book.specs.Passes.{passes}
@@ -81,6 +81,6 @@ module _ (b c : List ℕ) (holds : HoldsAll b c) (pass : passes c ≡ true) wher
   position_fuller first body t = rw (first, pass) (go (is_moment t))
     where
       go : (inside : Bool)
-          → Unless (Refused 6) (if inside then body_at b body t else Refused 3) (if inside then body_at c body t else Refused 3)
+          → Unless (Refused 6) (if inside then body_at b body t otherwise Refused 3) (if inside then body_at c body t otherwise Refused 3)
       go true = body_fuller body t
       go false = inr refl

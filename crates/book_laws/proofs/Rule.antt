@@ -6,7 +6,7 @@ use mathlib.Core.Path.{◌≡◌, refl, sym, ap, ◌∙◌, subst}
 use Prim.Native.Nat.{ℕ}
 use native.Mathlib.Omega.{arith}
 use Rattle.base.proofs.Bools.{or_left, or_right}
-use Rattle.base.specs.Choice.{if◌then◌else◌, ◌=?◌}
+use Rattle.base.specs.Choice.{if◌then◌otherwise◌, ◌=?◌}
 use Rattle.state.specs.State.{used, looked_up, coefficient_of, centre_allowed}
 use Rattle.state.specs.declared.Vector.{Vector}
 use Rattle.state.specs.declared.Setting.{Setting}
@@ -50,7 +50,7 @@ module _ (b c : List ℕ) (holds : HoldsAll b c) (pass : passes c ≡ true) wher
     where
       go : (earth : Bool)
           → Unless (position.Refused 6)
-          (if earth then position.At at_rest else Rattle.book.specs.Position.body_at b number t) (if earth then position.At at_rest else Rattle.book.specs.Position.body_at c number t)
+          (if earth then position.At at_rest otherwise Rattle.book.specs.Position.body_at b number t) (if earth then position.At at_rest otherwise Rattle.book.specs.Position.body_at c number t)
       go true = inr refl
       go false = body_fuller b c holds pass number t
 
@@ -70,8 +70,8 @@ module _ (b c : List ℕ) (holds : HoldsAll b c) (pass : passes c ≡ true) wher
   sky_fuller t (body ∷ rest) = go (looked_up body.m body.for_light) (sky_fuller t rest)
     where
       go : (up : Bool) → Unless (Refusal 6) (sky_of b t rest) (sky_of c t rest)
-          → Unless (Refusal 6) (if up then seen body (stands b body.number t) (sky_of b t rest) else sky_of b t rest)
-          (if up then seen body (stands c body.number t) (sky_of c t rest) else sky_of c t rest)
+          → Unless (Refusal 6) (if up then seen body (stands b body.number t) (sky_of b t rest) otherwise sky_of b t rest)
+          (if up then seen body (stands c body.number t) (sky_of c t rest) otherwise sky_of c t rest)
       go true u = seen_fuller body t (sky_of b t rest) (sky_of c t rest) u
       go false u = u
 
@@ -96,7 +96,7 @@ module _ (b c : List ℕ) (holds : HoldsAll b c) (pass : passes c ≡ true) wher
   agree t (body ∷ rest) all e = go (looked_up body.m body.for_light) (agree t rest) e
     where
       go : (up : Bool) → ((all : List Body) → sky_of b t rest ≡ Bodies all → Agree t rest)
-          → (if up then seen body (stands b body.number t) (sky_of b t rest) else sky_of b t rest) ≡ Bodies all
+          → (if up then seen body (stands b body.number t) (sky_of b t rest) otherwise sky_of b t rest) ≡ Bodies all
           → (up ≡ true → stands b body.number t ≡ stands c body.number t) × Agree t rest
       go true later e =
           let left = rest_seen body (stands b body.number t) (sky_of b t rest) all e in

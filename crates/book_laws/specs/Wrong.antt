@@ -1,6 +1,6 @@
 -- Two wrong programs that R-12 rules out. Each is given by its answer for the position of a body, with the books that show the mistake.
 use Rattle.std.specs.Prelude.{Bool, true, List, [], ◌∷◌, ◌≡◌, ℕ, zero, suc}
-use Rattle.base.specs.Choice.{if◌then◌else◌}
+use Rattle.base.specs.Choice.{if◌then◌otherwise◌}
 use Rattle.base.specs.Floats.{zero64, whole}
 use Rattle.book.specs.Contents.{entry_count}
 use Rattle.book.specs.Passes.{passes}
@@ -24,7 +24,7 @@ Unmoved call =
 -- the last number, of those below n, that meets the test
 abbrev pub last_below : ℕ → (ℕ → Bool) → Lookup
 last_below zero test = Nothing
-last_below (suc n) test = if test n then Entry n else last_below n test
+last_below (suc n) test = if test n then Entry n otherwise last_below n test
 
 -- a lookup that takes the last entry found from the back, even of another body
 abbrev pub from_the_back : PositionCall

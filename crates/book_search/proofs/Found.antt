@@ -9,7 +9,7 @@ use lib.Dec.{ltb, leb, eqb}
 use borrow.Author.Tests.{ltb-true, ltb-false, leb-true, eqb-true, lt-ltb, le-leb, eq-eqb}
 use native.Mathlib.Nat.{eq-or-lt_of_le, le_of_suc-le-suc, not-suc-le-zero}
 use native.Mathlib.Omega.{arith}
-use Rattle.base.specs.Choice.{if◌then◌else◌}
+use Rattle.base.specs.Choice.{if◌then◌otherwise◌}
 use Rattle.book_check.specs.Contents.{entry_count, body_of, start_of, end_of}
 use Rattle.book_search.specs.Lookup.{covers, serves, or_else, first_below, lookup}
 use Rattle.book_search.specs.Stands.{Stands, Narrowed}
@@ -44,7 +44,7 @@ first_at zero test i h = let z : ◌≡◌ {A = ℕ} 0 1 = cc in absurd (omega a
 first_at (suc n) test i h = by (first_below n test) (test n) refl refl (first_at n test i) h
   where
     by : (earlier : Lookup) (now : Bool) → first_below n test ≡ earlier → test n ≡ now → (first_below n test ≡ Entry i → Meets n test i) →
-        or_else earlier (if now then Entry n else Nothing) ≡ Entry i → Meets (suc n) test i
+        or_else earlier (if now then Entry n otherwise Nothing) ≡ Entry i → Meets (suc n) test i
     by (Entry j) now e t at h = let a = at (e ∙ h) in record { below = omega arith; meets = a.meets }
     by Nothing true e t at h = let same : n ≡ i = cc in record { below = omega arith; meets = subst (λ (k : ℕ). test k ≡ true) same t }
     by Nothing false e t at h = let z : ◌≡◌ {A = ℕ} 0 1 = cc in absurd (omega arith)

@@ -1,6 +1,6 @@
 -- Document 01, "The ephemeris book": the entry that covers a moment for a body.
 use Rattle.std.specs.Prelude.{ℕ, zero, suc, Bool, ◌&&◌, List}
-use Rattle.base.specs.Choice.{if◌then◌else◌, ◌<?◌, ◌≤?◌, ◌=?◌}
+use Rattle.base.specs.Choice.{if◌then◌otherwise◌, ◌<?◌, ◌≤?◌, ◌=?◌}
 use Rattle.book_check.specs.Contents.{entry_count, body_of, start_of, end_of}
 use Rattle.book_search.specs.declared.Lookup.{Lookup}
 use Rattle.book_search.specs.declared.Lookup.TheVariants.{Entry, Nothing}
@@ -20,7 +20,7 @@ or_else Nothing other = other
 -- the first number from the front, of those below n, that meets the test
 abbrev pub first_below : ℕ → (ℕ → Bool) → Lookup
 first_below zero test = Nothing
-first_below (suc n) test = or_else (first_below n test) (if test n then Entry n else Nothing)
+first_below (suc n) test = or_else (first_below n test) (if test n then Entry n otherwise Nothing)
 
 unfoldable pub lookup : List ℕ → ℕ → ℕ → Lookup
 lookup b body t = first_below (entry_count b) (serves b body t)

@@ -7,7 +7,7 @@ use Prim.Native.Nat.{ℕ, ◌-◌, ◌≤◌, ◌<◌}
 use native.Mathlib.Omega.{arith}
 use lib.Ieee.{Float}
 use borrow.Author.Tests.{leb-true}
-use Rattle.base.specs.Choice.{if◌then◌else◌, ◌<?◌, ◌≤?◌}
+use Rattle.base.specs.Choice.{if◌then◌otherwise◌, ◌<?◌, ◌≤?◌}
 use Rattle.base.proofs.Bools as bools
 use Rattle.state.specs.State.{finite_vector}
 use Rattle.state.specs.declared.State.{State}
@@ -76,7 +76,7 @@ by_seven (One a) t k e = let z : ◌≡◌ {A = ℕ} 0 1 = cc in absurd (omega a
 by_seven (Two a b) t k e = go (b.moment <? t) (t <? a.moment) (finite_vector (figure a b t)) e
   where
     go : (late early fin : Bool)
-        → (if late then frame.Late (t - b.moment) else if early then frame.Empty else if fin then frame.Current (figure a b t) else frame.Refused 7) ≡ frame.Refused k → k ≡ 7
+        → (if late then frame.Late (t - b.moment) otherwise if early then frame.Empty otherwise if fin then frame.Current (figure a b t) otherwise frame.Refused 7) ≡ frame.Refused k → k ≡ 7
     go true early fin e = let z : ◌≡◌ {A = ℕ} 0 1 = cc in absurd (omega arith)
     go false true fin e = let z : ◌≡◌ {A = ℕ} 0 1 = cc in absurd (omega arith)
     go false false true e = let z : ◌≡◌ {A = ℕ} 0 1 = cc in absurd (omega arith)

@@ -6,7 +6,7 @@ use mathlib.Core.Path.{◌≡◌, refl}
 use Prim.Native.Nat.{ℕ, ◌+◌}
 use lib.Ieee.{Float, eq}
 use lib.Ieee.Scale.{finite}
-use Rattle.base.specs.Choice.{if◌then◌else◌, ◌<?◌, ◌≤?◌, ◌=?◌}
+use Rattle.base.specs.Choice.{if◌then◌otherwise◌, ◌<?◌, ◌≤?◌, ◌=?◌}
 use Rattle.base.specs.Limits.{is_moment, is_dut, last_day, circle}
 use Rattle.base.proofs.Cases.{by_if}
 use Rattle.base.specs.Floats.{zero64, above0}
@@ -63,7 +63,7 @@ by_number :
     → (c || ok) ≡ true
     → p a ≡ true
     → (ok ≡ true → p b ≡ true)
-    → p (if c then a else b) ≡ true
+    → p (if c then a otherwise b) ≡ true
 by_number p true ok number holds-a holds-b = holds-a
 by_number p false ok number holds-a holds-b = holds-b number
 

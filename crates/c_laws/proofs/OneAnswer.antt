@@ -4,7 +4,7 @@ use mathlib.Core.List.{List}
 use mathlib.Core.Path.{refl}
 use Prim.Native.Nat.{ℕ}
 use lib.Ieee.{Float}
-use Rattle.base.specs.Choice.{if◌then◌else◌}
+use Rattle.base.specs.Choice.{if◌then◌otherwise◌}
 use Rattle.base.proofs.OneAnswer.{Tell, OneOutcome, OneAnswer, one_outcome, one_answer}
 use Rattle.calendar.specs.Answers.{date_answer, day_answer, julian_answer}
 use Rattle.hour.specs.Hour.{hour_answer, sidereal_answer}
@@ -232,7 +232,7 @@ conic_answers_once =
 
 pub book_passes_answers_once : OneAnswer book_passes.ended (λ M 𝓤 𝓛. book_passes.clauses 𝓛)
 book_passes_answers_once =
-    one_answer (λ κs inputs. if passes inputs.0.now then 0 else 1) (λ M 𝓤 𝓛 mem run'' κs inputs g r after. refl)
+    one_answer (λ κs inputs. if passes inputs.0.now then 0 otherwise 1) (λ M 𝓤 𝓛 mem run'' κs inputs g r after. refl)
 
 -- what a run or a single step returns, and the four places that it writes
 abbrev tell_run : Tell run.ended (λ κs. RunMemory)

@@ -2,7 +2,7 @@
 -- that its type says, so reading an element never gives the defaults nan and 0.
 use Rattle.std.specs.Prelude.{ℕ, List, [], ◌∷◌, get_or, Float}
 use Rattle.std.specs.Float.{nan}
-use Rattle.base.specs.Choice.{if◌then◌else◌, ◌=?◌}
+use Rattle.base.specs.Choice.{if◌then◌otherwise◌, ◌=?◌}
 use Rattle.base.specs.Floats.{zero64}
 use Rattle.state.specs.declared.State.{State}
 use Rattle.gravity.specs.declared.Guesses.{Guesses}
@@ -49,8 +49,8 @@ newer_of numbers places =
 -- two states, one, or none; if the memory gives another number of states, the pane is empty
 abbrev pub pane_of : List ℕ → List Float → Pane
 pane_of numbers places =
-    if get_or numbers 0 0 =? 2 then Two (older_of numbers places) (newer_of numbers places) else
-    if get_or numbers 0 0 =? 1 then One (older_of numbers places) else Blank
+    if get_or numbers 0 0 =? 2 then Two (older_of numbers places) (newer_of numbers places) otherwise
+    if get_or numbers 0 0 =? 1 then One (older_of numbers places) otherwise Blank
 
 -- ---- writing a pane: zeros for a state that it does not hold
 
@@ -79,8 +79,8 @@ pane_in pane = kept_in (numbers_in pane) (places_in pane)
 -- what a run returned: 0 arrived, 100 going, else the refusal number
 abbrev pub outcome_of : ℕ → Outcome
 outcome_of returned =
-    if returned =? 0 then Outcome.Arrived else
-    if returned =? going then Outcome.Going else Outcome.Refused returned
+    if returned =? 0 then Outcome.Arrived otherwise
+    if returned =? going then Outcome.Going otherwise Outcome.Refused returned
 
 abbrev pub no_guesses : Guesses
 no_guesses = record { moon = 0; sun = 0; venus = 0; mars = 0; jupiter = 0 }

@@ -4,7 +4,7 @@ use mathlib.Core.Path.{◌≡◌, refl, ap, sym, ◌∙◌}
 use Prim.Native.Nat.{ℕ, zero, suc, ◌+◌, ◌-◌, ◌≤◌, ◌<◌}
 use native.Mathlib.Omega.{arith}
 use borrow.Author.Tests.{leb-true, ltb-true, ltb-false, le-leb}
-use Rattle.base.specs.Choice.{if◌then◌else◌, ◌<?◌, ◌≤?◌}
+use Rattle.base.specs.Choice.{if◌then◌otherwise◌, ◌<?◌, ◌≤?◌}
 use Rattle.base.specs.Limits.{last_day}
 use Rattle.calendar.specs.declared.Calendar.{Calendar}
 use Rattle.calendar.specs.declared.DateAnswer.{DateAnswer}
@@ -72,7 +72,7 @@ record Next (date after : Calendar) : Type 0 where
 
 after_cases : (date : Calendar) → Proper date → (more : Bool) → (date.day <? month_length (leap_of date) date.month) ≡ more
     → (further : Bool) → (date.month <? 12) ≡ further
-    → Next date (if more then ymd date.year date.month (date.day + 1) else if further then ymd date.year (date.month + 1) 1 else ymd (date.year + 1) 1 1)
+    → Next date (if more then ymd date.year date.month (date.day + 1) otherwise if further then ymd date.year (date.month + 1) 1 otherwise ymd (date.year + 1) 1 1)
 after_cases date p true e further f =
     let h : date.day < month_length (leap_of date) date.month = ltb-true _ _ e in
     record {

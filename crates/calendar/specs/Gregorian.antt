@@ -1,6 +1,6 @@
 -- Document 01, "Time": days counted from 1950 January 1 by the Gregorian calendar. Months and days of a month are counted from 1.
 use Rattle.std.specs.Prelude.{Bool, ◌&&◌, ℕ, zero, suc, ◌+◌, ◌-◌}
-use Rattle.base.specs.Choice.{if◌then◌else◌, ◌<?◌, ◌≤?◌}
+use Rattle.base.specs.Choice.{if◌then◌otherwise◌, ◌<?◌, ◌≤?◌}
 pub use Rattle.calendar_lengths.specs.Lengths.{is_leap, year_length, month_lengths, month_length, total, days_before_year}
 unfoldable pub use Rattle.calendar_lengths.specs.Lengths.{days_before_month, days_of_years}
 use Rattle.calendar.specs.declared.Calendar.{Calendar}
@@ -22,8 +22,8 @@ day_of date = days_before_year date.year + days_before_month (is_leap date.year)
 -- the date after a date: the next day of the month, or the first day of the next month, or the first day of the next year
 abbrev pub day_after : Calendar → Calendar
 day_after date =
-    if date.day <? month_length (is_leap date.year) date.month then ymd date.year date.month (date.day + 1) else
-    if date.month <? 12 then ymd date.year (date.month + 1) 1 else
+    if date.day <? month_length (is_leap date.year) date.month then ymd date.year date.month (date.day + 1) otherwise
+    if date.month <? 12 then ymd date.year (date.month + 1) 1 otherwise
     ymd (date.year + 1) 1 1
 
 -- the date of a day: "Day 0 is 1950 January 1"

@@ -7,7 +7,7 @@ use native.Mathlib.Nat.{add-sub_of_le, le_of_suc-le-suc, not-suc-le-zero}
 use native.Mathlib.Omega.{arith}
 use lib.ListN.{get_or, take, length}
 use borrow.Author.Tests.{leb-true, eqb-true, eqb-false, eq-eqb}
-use Rattle.base.specs.Choice.{if◌then◌else◌, ◌≤?◌, ◌=?◌}
+use Rattle.base.specs.Choice.{if◌then◌otherwise◌, ◌≤?◌, ◌=?◌}
 use Rattle.base.specs.Limits.{last_day}
 use Rattle.base.proofs.Bools.{halves}
 use Rattle.calendar_lengths.specs.Lengths.{is_leap, year_length, month_lengths, month_length, total, days_before_month, days_of_years, days_before_year}
@@ -15,7 +15,7 @@ use Rattle.calendar_lengths.proofs.Runs.{later}
 
 -- within 1950 to 2049 the years that 4 divides are leap
 leap_cases : (year : ℕ) → 1950 ≤ year → year ≤ 2049 → (by400 by100 : Bool) → (year % 400 =? 0) ≡ by400 → (year % 100 =? 0) ≡ by100
-    → (year % 4 =? 0) ≡ (if by400 then true else if by100 then false else year % 4 =? 0)
+    → (year % 4 =? 0) ≡ (if by400 then true otherwise if by100 then false otherwise year % 4 =? 0)
 leap_cases year low high true by100 e f = eq-eqb (year % 4) 0 (omega (arith, eqb-true (year % 400) 0 e))
 leap_cases year low high false true e f =
     absurd (eqb-false (year % 400) 0 e (omega (arith, eqb-true (year % 100) 0 f)))

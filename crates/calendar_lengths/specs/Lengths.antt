@@ -1,17 +1,17 @@
 -- The lengths of years and months of the Gregorian calendar. Months are counted from 1.
 use Rattle.std.specs.Prelude.{Bool, true, false, List, [], ◌∷◌, ℕ, zero, suc, ◌+◌, ◌-◌, ◌%◌, get_or, take}
-use Rattle.base.specs.Choice.{if◌then◌else◌, ◌=?◌}
+use Rattle.base.specs.Choice.{if◌then◌otherwise◌, ◌=?◌}
 
 -- a year is leap if 4 divides it; if 100 divides it, 400 must divide it too
 abbrev pub is_leap : ℕ → Bool
-is_leap year = if year % 400 =? 0 then true else if year % 100 =? 0 then false else year % 4 =? 0
+is_leap year = if year % 400 =? 0 then true otherwise if year % 100 =? 0 then false otherwise year % 4 =? 0
 
 abbrev pub year_length : Bool → ℕ
-year_length leap = if leap then 366 else 365
+year_length leap = if leap then 366 otherwise 365
 
 -- January to December
 abbrev pub month_lengths : Bool → List ℕ
-month_lengths leap = 31 ∷ (if leap then 29 else 28) ∷ 31 ∷ 30 ∷ 31 ∷ 30 ∷ 31 ∷ 31 ∷ 30 ∷ 31 ∷ 30 ∷ 31 ∷ []
+month_lengths leap = 31 ∷ (if leap then 29 otherwise 28) ∷ 31 ∷ 30 ∷ 31 ∷ 30 ∷ 31 ∷ 31 ∷ 30 ∷ 31 ∷ 30 ∷ 31 ∷ []
 
 abbrev pub month_length : Bool → ℕ → ℕ
 month_length leap month = get_or (month_lengths leap) (month - 1) 0

@@ -4,7 +4,7 @@ use mathlib.Core.List.{List}
 use mathlib.Core.Path.{◌≡◌, refl, sym}
 use Prim.Native.Nat.{ℕ}
 use native.Mathlib.Omega.{arith}
-use Rattle.base.specs.Choice.{if◌then◌else◌, ◌=?◌}
+use Rattle.base.specs.Choice.{if◌then◌otherwise◌, ◌=?◌}
 use Rattle.base.specs.Checks.{Answer, Accepted, refused_by}
 use Rattle.base.specs.Checks as base
 use Rattle.base.proofs.Bools.{right}
@@ -74,7 +74,7 @@ module _ (b : List ℕ) (setting : Setting) (s : State) (centre : ℕ) (next : S
   by_end : (i : Injection) → kept_or7 b setting i ≡ Moved next → stored_is_rule b setting next ≡ true
   by_end i = go (finite_injection i)
     where
-      go : (fin : Bool) → (if fin then moved_by (kept b setting i) else Refused 7) ≡ Moved next → stored_is_rule b setting next ≡ true
+      go : (fin : Bool) → (if fin then moved_by (kept b setting i) otherwise Refused 7) ≡ Moved next → stored_is_rule b setting next ≡ true
       go true e = kept_is_rule b setting i next (by_kept (kept b setting i) e)
       go false e = let z : ◌≡◌ {A = ℕ} 0 1 = cc in absurd (omega arith)
 
@@ -89,7 +89,7 @@ module _ (b : List ℕ) (setting : Setting) (s : State) (centre : ℕ) (next : S
   of_rule = go (s.centre =? centre)
     where
       go : (same : Bool)
-          → (if same then Moved s else move_by b setting s centre (motion_of b s.centre s.moment) (motion_of b centre s.moment)) ≡ Moved next
+          → (if same then Moved s otherwise move_by b setting s centre (motion_of b s.centre s.moment) (motion_of b centre s.moment)) ≡ Moved next
           → (same ≡ false → stored_is_rule b setting next ≡ true) × (same ≡ true → next ≡ s)
       go true e = (λ z. absurd (true≢false z), λ z. cc)
       go false e = (λ z. by_seen (motion_of b s.centre s.moment) (motion_of b centre s.moment) e, λ z. absurd (true≢false (sym z)))
@@ -99,7 +99,7 @@ module _ (b : List ℕ) (setting : Setting) (s : State) (centre : ℕ) (next : S
   unfolding move_answer
   move_is_rule = go (move_refusal b setting s centre =? 0)
     where
-      go : (none : Bool) → (if none then move_of b setting s centre else Refused (move_refusal b setting s centre)) ≡ Moved next
+      go : (none : Bool) → (if none then move_of b setting s centre otherwise Refused (move_refusal b setting s centre)) ≡ Moved next
           → ((s.centre =? centre) ≡ false → stored_is_rule b setting next ≡ true) × ((s.centre =? centre) ≡ true → next ≡ s)
       go true e = of_rule e
       go false e = let z : ◌≡◌ {A = ℕ} 0 1 = cc in absurd (omega arith)

@@ -1,6 +1,6 @@
 -- Document 02, R-6: "A separate call moves a state to another centre", and R-8: "a move to another centre works it out anew".
 use Rattle.std.specs.Prelude.{◌&&◌, List, ℕ}
-use Rattle.base.specs.Choice.{if◌then◌else◌, ◌=?◌}
+use Rattle.base.specs.Choice.{if◌then◌otherwise◌, ◌=?◌}
 use Rattle.base.specs.Limits.{is_moment}
 use Rattle.state.specs.State.{finite_injection, finite_state, centre_allowed}
 use Rattle.state.specs.declared.State.{State}
@@ -27,7 +27,7 @@ motion_by b t (Entry i) = Covered (record { place = series.place b i t; velocity
 motion_by b t Nothing = Uncovered
 
 unfoldable pub motion_of : List ℕ → ℕ → ℕ → Seen
-motion_of b number t = if number =? 1 then Covered at_rest else motion_by b t (lookup b number t)
+motion_of b number t = if number =? 1 then Covered at_rest otherwise motion_by b t (lookup b number t)
 
 -- R-8: "the rule's own 6 or 7 at its new state, after 7 (result)"
 abbrev pub moved_by : InjectionAnswer → MoveAnswer
@@ -36,7 +36,7 @@ moved_by (injection.Refused k) = Refused k
 
 -- "7 (result)"
 abbrev pub kept_or7 : List ℕ → Setting → Injection → MoveAnswer
-kept_or7 b setting i = if finite_injection i then moved_by (kept b setting i) else Refused 7
+kept_or7 b setting i = if finite_injection i then moved_by (kept b setting i) otherwise Refused 7
 
 -- 6: both lookups come before the result
 abbrev pub move_by : List ℕ → Setting → State → ℕ → Seen → Seen → MoveAnswer
@@ -47,7 +47,7 @@ move_by b setting s centre Uncovered to = Refused 6
 -- "moving to the centre it has changes nothing and looks nothing up"; R-8: "a move does not read" what is stored
 unfoldable pub move_of : List ℕ → Setting → State → ℕ → MoveAnswer
 move_of b setting s centre =
-    if s.centre =? centre then Moved s else
+    if s.centre =? centre then Moved s otherwise
     move_by b setting s centre (motion_of b s.centre s.moment) (motion_of b centre s.moment)
 
 -- 1, 4, "14, directly after 4", for the old centre and the new one; "a move then gives 3, 7 (state)"; 0 if all pass
@@ -59,4 +59,4 @@ move_refusal b setting s centre =
 unfoldable pub move_answer : List ℕ → Setting → State → ℕ → MoveAnswer
 move_answer b setting s centre =
     let k = move_refusal b setting s centre in
-    if k =? 0 then move_of b setting s centre else Refused k
+    if k =? 0 then move_of b setting s centre otherwise Refused k

@@ -5,7 +5,7 @@ use mathlib.Core.Path.{◌≡◌, refl, ap, ◌∙◌}
 use Prim.Native.Nat.{ℕ}
 use native.Mathlib.Omega.{arith}
 use borrow.Author.Tests.{eqb-true}
-use Rattle.base.specs.Choice.{if◌then◌else◌, ◌=?◌}
+use Rattle.base.specs.Choice.{if◌then◌otherwise◌, ◌=?◌}
 use Rattle.base.proofs.Bools.{left, right}
 use Rattle.state.specs.State.{carrying, finite_injection, centre_allowed}
 use Rattle.state.specs.declared.State.{State}
@@ -28,7 +28,7 @@ unfolding move_answer
 accepted b setting s centre next = go (move_refusal b setting s centre =? 0) refl
   where
     go : (none : Bool) → (move_refusal b setting s centre =? 0) ≡ none
-        → (if none then move_of b setting s centre else Refused (move_refusal b setting s centre)) ≡ Moved next
+        → (if none then move_of b setting s centre otherwise Refused (move_refusal b setting s centre)) ≡ Moved next
         → (move_refusal b setting s centre ≡ 0) × (move_of b setting s centre ≡ Moved next)
     go true is e = (eqb-true _ 0 is, e)
     go false is e = let z : ◌≡◌ {A = ℕ} 0 1 = cc in absurd (omega arith)
@@ -64,7 +64,7 @@ module _ (b : List ℕ) (setting : Setting) (s : State) (centre : ℕ) (next : S
   unfolding kept
   by_end i = go (finite_injection i)
     where
-      go : (fin : Bool) → (if fin then moved_by (kept b setting i) else Refused 7) ≡ Moved next → (next.moment ≡ i.moment) × (next.centre ≡ i.centre)
+      go : (fin : Bool) → (if fin then moved_by (kept b setting i) otherwise Refused 7) ≡ Moved next → (next.moment ≡ i.moment) × (next.centre ≡ i.centre)
       go true e = by_rule i (rule_at b setting i) e
       go false e = let z : ◌≡◌ {A = ℕ} 0 1 = cc in absurd (omega arith)
 
@@ -80,7 +80,7 @@ module _ (b : List ℕ) (setting : Setting) (s : State) (centre : ℕ) (next : S
   move_keeps e = go (s.centre =? centre) refl (accepted b setting s centre next e).1
     where
       go : (same : Bool) → (s.centre =? centre) ≡ same
-          → (if same then Moved s else move_by b setting s centre (motion_of b s.centre s.moment) (motion_of b centre s.moment)) ≡ Moved next
+          → (if same then Moved s otherwise move_by b setting s centre (motion_of b s.centre s.moment) (motion_of b centre s.moment)) ≡ Moved next
           → (next.moment ≡ s.moment) × (next.centre ≡ centre)
       go true is e =
           let same : next ≡ s = cc in

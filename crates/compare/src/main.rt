@@ -12,7 +12,7 @@ mod lines;
 mod states;
 
 ghost use Rattle.std.specs.Prelude.{◌≡◌, ◌≤◌, true, length};
-ghost use Rattle.base.specs.Choice.{if◌then◌else◌, ◌<?◌};
+ghost use Rattle.base.specs.Choice.{if◌then◌otherwise◌, ◌<?◌};
 
 use compare_report::{Part, next_part};
 use compare_text::inner::{put_end, put_refusal};
@@ -49,7 +49,7 @@ fn print_end(reported: bool, states: u64) -> Printed {
 
 // Whether anything was reported, counting a text of that many bytes.
 pub fn any(reported: bool, written: usize) -> bool
-    ensures { result ≡ (if reported then true else 0 <? written) }
+    ensures { result ≡ (if reported then true otherwise 0 <? written) }
 {
     if reported {
         return true;

@@ -7,7 +7,7 @@ use native.Mathlib.Omega.{arith}
 use borrow.Author.Tests.{lt-ltb, le-ltb}
 use lib.Dec.{ltb}
 use lib.ListN.{length, take, drop}
-use Rattle.base.specs.Choice.{if◌then◌else◌}
+use Rattle.base.specs.Choice.{if◌then◌otherwise◌}
 use Rattle.text_write.specs.Written.{Wrote}
 use Rattle.text_write.proofs.Writing.{inside, later}
 use Rattle.listing_scan.specs.declared.Row.{Row}
@@ -27,10 +27,10 @@ use Rattle.compare_blocks.proofs.Readings.{ends, left_is, over_kept, shut_kept}
 
 abbrev halts : Bool → Bool → Bool → Bool → Halt
 halts p q x y =
-    if p then waits_for true false false else
-    if q then waits_for false true false else
-    if x then waits_for false false false else
-    if y then waits_for false false false else waits_for false false true
+    if p then waits_for true false false otherwise
+    if q then waits_for false true false otherwise
+    if x then waits_for false false false otherwise
+    if y then waits_for false false false otherwise waits_for false false true
 
 known_first : (p q x y : Bool) → stops (halts p q x y) ≡ false → p ≡ false
 known_first true q x y e = e
@@ -158,7 +158,7 @@ abbrev pub ahead : List ℕ → List ℕ → Reading → Reading → ℕ
 ahead a b f g = length (coming f a []) + length (coming g b [])
 
 both_ahead : (x y : Bool) (r s : Row) (ra rb : List Row)
-    → let t = if x then takes true false else if y then takes false true else takes true true in
+    → let t = if x then takes true false otherwise if y then takes false true otherwise takes true true in
     length (left t.first (Is r) ra) + length (left t.second (Is s) rb) < length (found_rows (Is r) ++ ra) + length (found_rows (Is s) ++ rb)
 both_ahead true y r s ra rb = omega arith
 both_ahead false true r s ra rb = omega arith

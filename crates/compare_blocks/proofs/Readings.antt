@@ -7,7 +7,7 @@ use native.Mathlib.Omega.{arith}
 use borrow.Author.Tests.{ltb-false}
 use lib.Dec.{ltb}
 use lib.ListN.{length, drop, drop_of_length-le}
-use Rattle.base.specs.Choice.{if◌then◌else◌}
+use Rattle.base.specs.Choice.{if◌then◌otherwise◌}
 use Rattle.listing_read.specs.declared.Found.{Found}
 use Rattle.listing_read.specs.declared.Found.TheVariants.{Is, None}
 use Rattle.listing_scan.specs.declared.Scan.TheVariants.{Start}
@@ -21,7 +21,7 @@ use Rattle.compare_blocks.specs.Sides.{coming, Rests, Shut, is_none, waiting, Fi
 
 -- a reading waits if its text continues and its next state is not known
 abbrev waits : Bool → Found → Bool
-waits over f = if over then false else is_none f
+waits over f = if over then false otherwise is_none f
 
 open_waits : (over : Bool) (f : Found) → waits over f ≡ true → over ≡ false
 open_waits true f e = sym e

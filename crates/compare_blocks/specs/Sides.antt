@@ -1,6 +1,6 @@
 -- Two listings read side by side: which states of each are still to come, what the report waits for, and what a portion of it is.
 use Rattle.std.specs.Prelude.{ℕ, ◌+◌, ◌<◌, ◌≤◌, Bool, true, false, List, [], ◌++◌, ◌≡◌, length, take, drop}
-use Rattle.base.specs.Choice.{if◌then◌else◌, ◌<?◌}
+use Rattle.base.specs.Choice.{if◌then◌otherwise◌, ◌<?◌}
 use Rattle.listing_scan.specs.declared.Row.{Row}
 use Rattle.listing_read.specs.declared.Found.{Found}
 use Rattle.listing_read.specs.declared.Found.TheVariants.{Is, None}
@@ -34,7 +34,7 @@ is_none (Is r) = false
 
 -- whether more must be read before the next state is known
 abbrev pub waiting : Reading → Bool
-waiting r = if r.over then false else is_none r.found
+waiting r = if r.over then false otherwise is_none r.found
 
 -- s is r after looking for the next state, if it was not known
 pub record Fills (block : List ℕ) (r s : Reading) : Type 0 where
@@ -48,19 +48,19 @@ waits_for first second over = record { first = first; second = second; over = ov
 
 abbrev pub stops : Halt → Bool
 stops h =
-    if h.first then true else
-    if h.second then true else h.over
+    if h.first then true otherwise
+    if h.second then true otherwise h.over
 
 -- if both next states are known the report continues; if neither listing has one it is over
 abbrev pub halt_at : Side → Halt
 halt_at side =
-    if side.first then waits_for false false false else
-    if side.second then waits_for false false false else waits_for false false true
+    if side.first then waits_for false false false otherwise
+    if side.second then waits_for false false false otherwise waits_for false false true
 
 abbrev pub halt_of : Reading → Reading → Halt
 halt_of r s =
-    if waiting r then waits_for true false false else
-    if waiting s then waits_for false true false else halt_at (side_of r.found s.found)
+    if waiting r then waits_for true false false otherwise
+    if waiting s then waits_for false true false otherwise halt_at (side_of r.found s.found)
 
 -- the next state is done, if it was reported
 abbrev pub leaving : Bool → Reading → Reading
@@ -75,7 +75,7 @@ unfoldable pub onward : Reading → ℕ → Reading
 onward r n =
     if 0 <? n
     then record { found = None; scan = r.scan; at = 0; over = false }
-    else record { found = row_of (told r.scan []); scan = Start; at = 0; over = true }
+    otherwise record { found = row_of (told r.scan []); scan = Start; at = 0; over = true }
 
 -- the next block, if it was wanted
 abbrev pub going_on : Bool → Reading → ℕ → Reading
@@ -92,7 +92,7 @@ pub record Reported (a b : List ℕ) (r s : Reading) (before out : List ℕ) (p 
       → text_of (parted (coming r a ra) (coming s b rb)) ≡ take p.written out ++ text_of (parted (coming p.first a ra) (coming p.second b rb))
   pub within : p.written ≤ length out
   pub rest : drop p.written out ≡ drop p.written before
-  pub halts : p.halt ≡ (if length out <? p.written + 300 then waits_for false false false else halt_of p.first p.second)
+  pub halts : p.halt ≡ (if length out <? p.written + 300 then waits_for false false false otherwise halt_of p.first p.second)
   pub first_over : p.first.over ≡ r.over
   pub second_over : p.second.over ≡ s.over
   pub first_shut : Shut (length a) p.first

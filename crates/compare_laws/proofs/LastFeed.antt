@@ -7,7 +7,7 @@ use mathlib.Core.Path.{◌≡◌, refl, sym, ap, ap₂, subst, ◌∙◌}
 use native.Mathlib.Omega.{arith}
 use borrow.Author.Tests.{eqb-true}
 use lib.Dec.{eqb}
-use Rattle.base.specs.Choice.{if◌then◌else◌}
+use Rattle.base.specs.Choice.{if◌then◌otherwise◌}
 use Rattle.listing_scan.specs.declared.Line.{Line}
 use Rattle.listing_scan.specs.declared.Line.TheVariants as line
 use Rattle.listing_read.specs.declared.Place.{Place}
@@ -21,7 +21,7 @@ use Rattle.compare_laws.proofs.Texts.{some_line}
 
 -- a text's first byte is a line feed, or stands in front of the first line
 abbrev begun : Bool → ℕ → List (List ℕ) → List (List ℕ)
-begun t b ls = if t then [] ∷ ls else in_first b ls
+begun t b ls = if t then [] ∷ ls otherwise in_first b ls
 
 begun_some : (t : Bool) (b : ℕ) (ls : List (List ℕ)) → begun t b ls ≡ [] → ⊥
 begun_some true b ls e = let z : ◌≡◌ {A = ℕ} 0 1 = cc in omega arith
@@ -102,7 +102,7 @@ unfolding refused_from
 ends_badly [] p n some e = let z : n ≡ 0 = rw (bad_off p) at e in omega arith
 ends_badly (k ∷ ks) p n some e = go (is_off (placed p k)) e (ends_badly ks (placed p k) (n + 1) (omega arith))
   where
-    go : (t : Bool) → (if t then n else refused_from (placed p k) (n + 1) (ks ++ (line.Bad ∷ []))) ≡ 0 → (refused_from (placed p k) (n + 1) (ks ++ (line.Bad ∷ [])) ≡ 0 → ⊥) → ⊥
+    go : (t : Bool) → (if t then n otherwise refused_from (placed p k) (n + 1) (ks ++ (line.Bad ∷ []))) ≡ 0 → (refused_from (placed p k) (n + 1) (ks ++ (line.Bad ∷ [])) ≡ 0 → ⊥) → ⊥
     go true e later = omega arith
     go false e later = later e
 

@@ -7,7 +7,7 @@ use mathlib.Core.Path.{◌≡◌, refl, sym, ap, ap₂, ◌∙◌}
 use native.Mathlib.Omega.{arith}
 use borrow.Author.Tests.{lt-ltb, le-ltb, ltb-true, ltb-false, eq-eqb, ne_eqb, eqb-true, eqb-false}
 use lib.Dec.{ltb, eqb}
-use Rattle.base.specs.Choice.{if◌then◌else◌}
+use Rattle.base.specs.Choice.{if◌then◌otherwise◌}
 use Rattle.listing_scan.specs.declared.Row.{Row}
 use Rattle.listing_read.specs.declared.Found.TheVariants.{None}
 use Rattle.listing_scan.specs.declared.Line.{Line}
@@ -52,7 +52,7 @@ reported_append t [] es = refl
 reported_append t (d ∷ ds) es = go (eqb (moment_of d) t) (reported_append t ds es)
   where
     go : (x : Bool) → reported_at t (ds ++ es) ≡ reported_at t ds ++ reported_at t es
-        → (if x then d ∷ reported_at t (ds ++ es) else reported_at t (ds ++ es)) ≡ (if x then d ∷ reported_at t ds else reported_at t ds) ++ reported_at t es
+        → (if x then d ∷ reported_at t (ds ++ es) otherwise reported_at t (ds ++ es)) ≡ (if x then d ∷ reported_at t ds otherwise reported_at t ds) ++ reported_at t es
     go true later = ap (λ (l : List Difference). d ∷ l) later
     go false later = later
 
@@ -60,14 +60,14 @@ module _ (t m : ℕ) where
   component_here : m ≡ t → (k : Component) (a b : ℕ) → reported_at t (component m k a b) ≡ component m k a b
   component_here e k a b = go (eqb a b)
     where
-      go : (x : Bool) → reported_at t (if x then [] else differs m k (steps a b) ∷ []) ≡ (if x then [] else differs m k (steps a b) ∷ [])
+      go : (x : Bool) → reported_at t (if x then [] otherwise differs m k (steps a b) ∷ []) ≡ (if x then [] otherwise differs m k (steps a b) ∷ [])
       go true = refl
       go false = rw (eq-eqb m t e)
 
   component_other : (m ≡ t → ⊥) → (k : Component) (a b : ℕ) → reported_at t (component m k a b) ≡ []
   component_other n k a b = go (eqb a b)
     where
-      go : (x : Bool) → reported_at t (if x then [] else differs m k (steps a b) ∷ []) ≡ []
+      go : (x : Bool) → reported_at t (if x then [] otherwise differs m k (steps a b) ∷ []) ≡ []
       go true = refl
       go false = rw (ne_eqb m t n)
 
@@ -165,7 +165,7 @@ in_order_from low high (d ∷ ds) h o = let l = o.0 in (omega arith, o.1)
 component_order : (m : ℕ) (k : Component) (a b : ℕ) (ds : List Difference) → InOrder m ds → InOrder m (component m k a b ++ ds)
 component_order m k a b ds o = go (eqb a b)
   where
-    go : (x : Bool) → InOrder m ((if x then [] else differs m k (steps a b) ∷ []) ++ ds)
+    go : (x : Bool) → InOrder m ((if x then [] otherwise differs m k (steps a b) ∷ []) ++ ds)
     go true = o
     go false = (omega arith, o)
 

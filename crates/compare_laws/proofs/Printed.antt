@@ -12,7 +12,7 @@ use lib.Ieee.{Float, binary64, fits, of_bits}
 use lib.Ieee.Bits.{of_bits-fits}
 use lib.Ieee.Fits.{add-fits}
 use lib.Ieee.Scale.{finite}
-use Rattle.base.specs.Choice.{if◌then◌else◌}
+use Rattle.base.specs.Choice.{if◌then◌otherwise◌}
 use Rattle.base.specs.Limits.{end_of_time}
 use Rattle.state.specs.State.{position, velocity, acceleration, injection_at, carrying, bare, finite_vector, finite_state}
 use Rattle.state.specs.declared.Vector.{Vector}
@@ -70,7 +70,7 @@ arrived_fits : (acc : ℕ → Vector → AccelerationAnswer) (t o : ℕ) (b : Ve
 unfolding along
 arrived_fits acc t o b f d c g e next = go (finite_vector (along b f d) && finite_vector (along c g e))
   where
-    go : (ok : Bool) → (if ok then keeping acc (injection_at t o (along b f d) (along c g e)) else Off 7) ≡ On next → Fits (bare next)
+    go : (ok : Bool) → (if ok then keeping acc (injection_at t o (along b f d) (along c g e)) otherwise Off 7) ≡ On next → Fits (bare next)
     go true q =
         kept_fits (injection_at t o (along b f d) (along c g e)) (acc t (along b f d)) next
         (record { x = add-fits binary64 _ _; y = add-fits binary64 _ _; z = add-fits binary64 _ _; vx = add-fits binary64 _ _; vy = add-fits binary64 _ _; vz = add-fits binary64 _ _ })

@@ -7,7 +7,7 @@ use native.Mathlib.Omega.{arith}
 use borrow.Author.Tests.{lt-ltb, eq-eqb, ne_eqb, ltb-true, ltb-false}
 use lib.Dec.{ltb}
 use lib.ListN.{length, take, drop}
-use Rattle.base.specs.Choice.{if◌then◌else◌}
+use Rattle.base.specs.Choice.{if◌then◌otherwise◌}
 use Rattle.listing_words.specs.Words.{header_word, outcome_word, refused13, dash}
 use Rattle.listing_read.specs.declared.Judge.{Judge}
 use Rattle.listing_read.specs.declared.Verdict.{Verdict}
@@ -51,10 +51,10 @@ verdict_is text v j =
 
 abbrev halts : Bool → Bool → Bool → Bool → Halt
 halts p q x y =
-    if p then waits_for true false false else
-    if q then waits_for false true false else
-    if x then waits_for false false false else
-    if y then waits_for false false false else waits_for false false true
+    if p then waits_for true false false otherwise
+    if q then waits_for false true false otherwise
+    if x then waits_for false false false otherwise
+    if y then waits_for false false false otherwise waits_for false false true
 
 first_waits : (p q x y : Bool) → (halts p q x y).first ≡ true → p ≡ true
 first_waits true q x y e = refl
@@ -71,15 +71,15 @@ second_waits false false false true e = e
 second_waits false false false false e = e
 
 -- if the buffer is not full, the halt is that of the readings
-full_first : (t : Bool) (h : Halt) → (if t then waits_for false false false else h).first ≡ true → h.first ≡ true
+full_first : (t : Bool) (h : Halt) → (if t then waits_for false false false otherwise h).first ≡ true → h.first ≡ true
 full_first true h e = let z : ◌≡◌ {A = ℕ} 0 1 = cc in absurd (omega arith)
 full_first false h e = e
 
-full_second : (t : Bool) (h : Halt) → (if t then waits_for false false false else h).second ≡ true → h.second ≡ true
+full_second : (t : Bool) (h : Halt) → (if t then waits_for false false false otherwise h).second ≡ true → h.second ≡ true
 full_second true h e = let z : ◌≡◌ {A = ℕ} 0 1 = cc in absurd (omega arith)
 full_second false h e = e
 
-full_over : (t : Bool) (h : Halt) → (if t then waits_for false false false else h).over ≡ true → h.over ≡ true
+full_over : (t : Bool) (h : Halt) → (if t then waits_for false false false otherwise h).over ≡ true → h.over ≡ true
 full_over true h e = let z : ◌≡◌ {A = ℕ} 0 1 = cc in absurd (omega arith)
 full_over false h e = e
 
@@ -167,7 +167,7 @@ dash_line : until_feed dash ≡ dash
 unfolding until_feed
 dash_line = refl
 
-header_by : (text : List ℕ) (n : ℕ) (t : Bool) → ltb 0 n ≡ t → until_feed (if ltb 0 n then drop 0 text else dash) ≡ header_of n text
+header_by : (text : List ℕ) (n : ℕ) (t : Bool) → ltb 0 n ≡ t → until_feed (if ltb 0 n then drop 0 text otherwise dash) ≡ header_of n text
 unfolding header_of
 header_by text n true e = let k = ltb-true 0 n e in rw (e, ne_eqb n 0 (λ z. omega arith)) (sym (first_line text))
 header_by text n false e = let k = ltb-false 0 n e in rw (e, eq-eqb n 0 (omega arith)) dash_line
@@ -196,15 +196,15 @@ module _ (a b : List ℕ) where
   unfolding report first_refusal
   refused_first h = rw (lt-ltb 0 (form_refusal a) h) (starts (form_refusal a))
     where
-      starts : (n : ℕ) → two_numbers refused13 1 n ≡ (if some (two_numbers refused13 1 n) then two_numbers refused13 1 n else from_part part.Header a b)
-      starts n = sym (ap (λ (t : Bool). if t then two_numbers refused13 1 n else from_part part.Header a b) (some_refusal 1 n))
+      starts : (n : ℕ) → two_numbers refused13 1 n ≡ (if some (two_numbers refused13 1 n) then two_numbers refused13 1 n otherwise from_part part.Header a b)
+      starts n = sym (ap (λ (t : Bool). if t then two_numbers refused13 1 n otherwise from_part part.Header a b) (some_refusal 1 n))
 
   refused_second : form_refusal a ≡ 0 → 0 < form_refusal b → refusal_text 0 (form_refusal b) ≡ report a b
   unfolding report first_refusal
   refused_second e h = rw (e, lt-ltb 0 (form_refusal b) h) (starts (form_refusal b))
     where
-      starts : (n : ℕ) → two_numbers refused13 2 n ≡ (if some (two_numbers refused13 2 n) then two_numbers refused13 2 n else from_part part.Header a b)
-      starts n = sym (ap (λ (t : Bool). if t then two_numbers refused13 2 n else from_part part.Header a b) (some_refusal 2 n))
+      starts : (n : ℕ) → two_numbers refused13 2 n ≡ (if some (two_numbers refused13 2 n) then two_numbers refused13 2 n otherwise from_part part.Header a b)
+      starts n = sym (ap (λ (t : Bool). if t then two_numbers refused13 2 n otherwise from_part part.Header a b) (some_refusal 2 n))
 
 -- ---- whether anything was reported
 

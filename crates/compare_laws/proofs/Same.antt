@@ -8,7 +8,7 @@ use native.Mathlib.Omega.{arith}
 use borrow.Author.Tests.{le-ltb, eq-eqb, eqb-true, ltb-false}
 use lib.Dec.{ltb, eqb}
 use lib.ListN.{length, get_or}
-use Rattle.base.specs.Choice.{if◌then◌else◌}
+use Rattle.base.specs.Choice.{if◌then◌otherwise◌}
 use Rattle.base.proofs.Bools.{clash}
 use Rattle.text_write.specs.Numerals.{decimal_of}
 use Rattle.text_write.proofs.Back.{Spells, decimal_spells}
@@ -84,7 +84,7 @@ is_same (x ∷ a) [] e = absurd (clash e refl)
 is_same [] (y ∷ b) e = absurd (clash e refl)
 is_same (x ∷ a) (y ∷ b) e = go (eqb x y) refl e (is_same a b)
   where
-    go : (t : Bool) → eqb x y ≡ t → (if t then same a b else false) ≡ true → (same a b ≡ true → a ≡ b) → x ∷ a ≡ y ∷ b
+    go : (t : Bool) → eqb x y ≡ t → (if t then same a b otherwise false) ≡ true → (same a b ≡ true → a ≡ b) → x ∷ a ≡ y ∷ b
     go true q e later = ap₂ (λ (z : ℕ) (l : List ℕ). z ∷ l) (eqb-true x y q) (later e)
     go false q e later = absurd (clash e refl)
 
@@ -97,7 +97,7 @@ module _ (rest : List ℕ) where
   unfolding lines_text
   lines_alike w word a b other e = go (same a b) refl e
     where
-      go : (t : Bool) → same a b ≡ t → first ((if t then [] else (w ∷ word) ++ a ++ bar ++ b ++ line_feed) ++ rest) ≡ 83 → a ≡ b
+      go : (t : Bool) → same a b ≡ t → first ((if t then [] otherwise (w ∷ word) ++ a ++ bar ++ b ++ line_feed) ++ rest) ≡ 83 → a ≡ b
       go true q e = is_same a b q
       go false q e = absurd (other e)
 
@@ -110,7 +110,7 @@ module _ (rest : List ℕ) where
 bits_alike : (t : ℕ) (k : Component) (a b : ℕ) → component t k a b ≡ [] → a ≡ b
 bits_alike t k a b e = go (eqb a b) refl e
   where
-    go : (x : Bool) → eqb a b ≡ x → (if x then [] else differs t k (steps a b) ∷ []) ≡ [] → a ≡ b
+    go : (x : Bool) → eqb a b ≡ x → (if x then [] otherwise differs t k (steps a b) ∷ []) ≡ [] → a ≡ b
     go true q e = eqb-true a b q
     go false q e = let z : ◌≡◌ {A = ℕ} 0 1 = cc in absurd (omega arith)
 
@@ -137,7 +137,7 @@ states_alike [] (s ∷ ss) e = let z : ◌≡◌ {A = ℕ} 0 1 = cc in absurd (o
 states_alike (r ∷ rs) (s ∷ ss) e = go (ltb r.moment s.moment) (ltb s.moment r.moment) refl refl e (states_alike rs ss)
   where
     go : (x y : Bool) → ltb r.moment s.moment ≡ x → ltb s.moment r.moment ≡ y
-        → (if x then only 1 r.moment ∷ parted rs (s ∷ ss) else if y then only 2 s.moment ∷ parted (r ∷ rs) ss else at_one r s ++ parted rs ss) ≡ []
+        → (if x then only 1 r.moment ∷ parted rs (s ∷ ss) otherwise if y then only 2 s.moment ∷ parted (r ∷ rs) ss otherwise at_one r s ++ parted rs ss) ≡ []
         → (parted rs ss ≡ [] → rs ≡ ss) → r ∷ rs ≡ s ∷ ss
     go true y p q e later = let z : ◌≡◌ {A = ℕ} 0 1 = cc in absurd (omega arith)
     go false true p q e later = let z : ◌≡◌ {A = ℕ} 0 1 = cc in absurd (omega arith)
@@ -163,9 +163,9 @@ module _ (a b : List ℕ) (n : ℕ) where
   both_pass e = go (ltb 0 (form_refusal a)) (ltb 0 (form_refusal b)) refl refl (ap first e ∙ same_first n)
     where
       refused : Bool → Bool → List ℕ
-      refused x y = if x then two_numbers refused13 1 (form_refusal a) else if y then two_numbers refused13 2 (form_refusal b) else []
+      refused x y = if x then two_numbers refused13 1 (form_refusal a) otherwise if y then two_numbers refused13 2 (form_refusal b) otherwise []
 
-      go : (x y : Bool) → ltb 0 (form_refusal a) ≡ x → ltb 0 (form_refusal b) ≡ y → first (if some (refused x y) then refused x y else from_part Header a b) ≡ 83
+      go : (x y : Bool) → ltb 0 (form_refusal a) ≡ x → ltb 0 (form_refusal b) ≡ y → first (if some (refused x y) then refused x y otherwise from_part Header a b) ≡ 83
           → (form_refusal a ≡ 0) × (form_refusal b ≡ 0)
       go true y p q e = absurd (omega arith)
       go false true p q e = absurd (omega arith)

@@ -9,7 +9,7 @@ use borrow.Author.Tests.{lt-ltb, le-ltb, ltb-true, ltb-false, ne_eqb, eqb-true, 
 use lib.Dec.{ltb, eqb}
 use lib.ListN.{length, drop, length-append}
 use lib.Seq.{drop-append_seam}
-use Rattle.base.specs.Choice.{if◌then◌else◌}
+use Rattle.base.specs.Choice.{if◌then◌otherwise◌}
 use Rattle.listing_read.specs.declared.Judge.{Judge}
 use Rattle.listing_read.specs.declared.Place.TheVariants.{Top}
 use Rattle.listing_scan.specs.declared.Scan.TheVariants.{Start}
@@ -40,7 +40,7 @@ unfolding lines_of until_feed
 first_line [] = refl
 first_line (b ∷ text) = go (eqb b 10) (first_line text)
   where
-    go : (t : Bool) → first_of (lines_of text) ≡ until_feed text → first_of (if t then [] ∷ lines_of text else in_first b (lines_of text)) ≡ (if t then [] else b ∷ until_feed text)
+    go : (t : Bool) → first_of (lines_of text) ≡ until_feed text → first_of (if t then [] ∷ lines_of text otherwise in_first b (lines_of text)) ≡ (if t then [] otherwise b ∷ until_feed text)
     go true later = refl
     go false later = first_in b (lines_of text) ∙ ap (λ (l : List ℕ). b ∷ l) later
 
@@ -159,7 +159,7 @@ unfolding lines_of until_feed last_of
 no_line [] [] e = refl
 no_line (b ∷ text) [] e = absurd (go (eqb b 10) e)
   where
-    go : (t : Bool) → (if t then [] ∷ lines_of text else in_first b (lines_of text)) ≡ [] → ⊥
+    go : (t : Bool) → (if t then [] ∷ lines_of text otherwise in_first b (lines_of text)) ≡ [] → ⊥
     go true e = let z : ◌≡◌ {A = ℕ} 0 1 = cc in absurd (omega arith)
     go false e = some_line b (lines_of text) e
 no_line text (l ∷ ls) e = refl
@@ -172,30 +172,30 @@ last_line text = sym (last_from text 0 [] [] plain_none ∙ no_line text (lines_
 -- ---- lines in blocks
 
 -- "any length": the bytes before a line feed in a block; if it has none, also those of the next blocks
-pub until_cut : (a b : List ℕ) → until_feed (a ++ b) ≡ (if ltb (length (until_feed a)) (length a) then until_feed a else a ++ until_feed b)
+pub until_cut : (a b : List ℕ) → until_feed (a ++ b) ≡ (if ltb (length (until_feed a)) (length a) then until_feed a otherwise a ++ until_feed b)
 unfolding until_feed
 until_cut [] b = refl
 until_cut (x ∷ a) b = go (eqb x 10) (until_cut a b)
   where
-    shift : (t : Bool) → ltb (length (until_feed a)) (length a) ≡ t → until_feed (a ++ b) ≡ (if t then until_feed a else a ++ until_feed b)
-        → x ∷ until_feed (a ++ b) ≡ (if ltb (suc (length (until_feed a))) (suc (length a)) then x ∷ until_feed a else x ∷ (a ++ until_feed b))
+    shift : (t : Bool) → ltb (length (until_feed a)) (length a) ≡ t → until_feed (a ++ b) ≡ (if t then until_feed a otherwise a ++ until_feed b)
+        → x ∷ until_feed (a ++ b) ≡ (if ltb (suc (length (until_feed a))) (suc (length a)) then x ∷ until_feed a otherwise x ∷ (a ++ until_feed b))
     shift true e later = rw (lt-ltb (suc (length (until_feed a))) (suc (length a)) (omega (arith, ltb-true (length (until_feed a)) (length a) e))) (ap (λ (l : List ℕ). x ∷ l) later)
     shift false e later = rw (le-ltb (suc (length (until_feed a))) (suc (length a)) (omega (arith, ltb-false (length (until_feed a)) (length a) e))) (ap (λ (l : List ℕ). x ∷ l) later)
 
-    go : (t : Bool) → until_feed (a ++ b) ≡ (if ltb (length (until_feed a)) (length a) then until_feed a else a ++ until_feed b)
-        → (if t then [] else x ∷ until_feed (a ++ b)) ≡ (if ltb (length (if t then [] else x ∷ until_feed a)) (suc (length a)) then (if t then [] else x ∷ until_feed a) else x ∷ (a ++ until_feed b))
+    go : (t : Bool) → until_feed (a ++ b) ≡ (if ltb (length (until_feed a)) (length a) then until_feed a otherwise a ++ until_feed b)
+        → (if t then [] otherwise x ∷ until_feed (a ++ b)) ≡ (if ltb (length (if t then [] otherwise x ∷ until_feed a)) (suc (length a)) then (if t then [] otherwise x ∷ until_feed a) otherwise x ∷ (a ++ until_feed b))
     go true later = rw (lt-ltb 0 (suc (length a)) (omega arith))
     go false later = shift (ltb (length (until_feed a)) (length a)) refl later
 
 -- lines of one length are the same if each of their blocks is
-pub same_cut : (a b c d : List ℕ) → length a ≡ length b → same (a ++ c) (b ++ d) ≡ (if same a b then same c d else false)
+pub same_cut : (a b c d : List ℕ) → length a ≡ length b → same (a ++ c) (b ++ d) ≡ (if same a b then same c d otherwise false)
 unfolding same
 same_cut [] [] c d e = refl
 same_cut [] (y ∷ b) c d e = absurd (omega arith)
 same_cut (x ∷ a) [] c d e = absurd (omega arith)
 same_cut (x ∷ a) (y ∷ b) c d e = go (eqb x y) (same_cut a b c d (omega arith))
   where
-    go : (t : Bool) → same (a ++ c) (b ++ d) ≡ (if same a b then same c d else false)
-        → (if t then same (a ++ c) (b ++ d) else false) ≡ (if (if t then same a b else false) then same c d else false)
+    go : (t : Bool) → same (a ++ c) (b ++ d) ≡ (if same a b then same c d otherwise false)
+        → (if t then same (a ++ c) (b ++ d) otherwise false) ≡ (if (if t then same a b otherwise false) then same c d otherwise false)
     go true later = later
     go false later = refl

@@ -8,7 +8,7 @@ use native.Mathlib.Omega.{arith}
 use borrow.Author.Tests.{lt-ltb}
 use lib.Dec.{ltb}
 use lib.ListN.{length, drop, drop_of_length-le}
-use Rattle.base.specs.Choice.{if◌then◌else◌}
+use Rattle.base.specs.Choice.{if◌then◌otherwise◌}
 use Rattle.listing_scan.specs.declared.Row.{Row}
 use Rattle.listing_read.specs.declared.Found.{Found}
 use Rattle.listing_read.specs.declared.Found.TheVariants.{Is, None}
@@ -53,7 +53,7 @@ module _ (r : Reading) (block : List ℕ) (none : r.found ≡ None) (used : leng
 -- when the report is over, no state is to come
 
 abbrev side_by : Bool → Bool → Bool × Bool
-side_by x y = ((if x then takes true false else if y then takes false true else takes true true).first, (if x then takes true false else if y then takes false true else takes true true).second)
+side_by x y = ((if x then takes true false otherwise if y then takes false true otherwise takes true true).first, (if x then takes true false otherwise if y then takes false true otherwise takes true true).second)
 
 one_next : (x y : Bool) → (side_by x y).0 ≡ false → (side_by x y).1 ≡ false → ⊥
 one_next true y e f = let z : ◌≡◌ {A = ℕ} 0 1 = cc in absurd (omega arith)
@@ -73,8 +73,8 @@ pub record Ended (p q x y : Bool) : Type 0 where
   pub no_second : y ≡ false
 
 is_over : (p q x y : Bool)
-    → (if p then waits_for true false false else if q then waits_for false true false
-    else if x then waits_for false false false else if y then waits_for false false false else waits_for false false true).over ≡ true
+    → (if p then waits_for true false false otherwise if q then waits_for false true false
+    otherwise if x then waits_for false false false otherwise if y then waits_for false false false otherwise waits_for false false true).over ≡ true
     → Ended p q x y
 is_over true q x y e = let z : ◌≡◌ {A = ℕ} 0 1 = cc in absurd (omega arith)
 is_over false true x y e = let z : ◌≡◌ {A = ℕ} 0 1 = cc in absurd (omega arith)

@@ -1,6 +1,6 @@
 -- Definitions for the laws of the report.
 use Rattle.std.specs.Prelude.{ℕ, ◌+◌, ◌≤◌, List, [], ◌∷◌, length}
-use Rattle.base.specs.Choice.{if◌then◌else◌, ◌=?◌}
+use Rattle.base.specs.Choice.{if◌then◌otherwise◌, ◌=?◌}
 use Rattle.listing_scan.specs.declared.Row.{Row}
 use Rattle.listing_read.specs.declared.Found.{Found}
 use Rattle.listing_read.specs.declared.Found.TheVariants.{Is, None}
@@ -21,7 +21,7 @@ Rising low (r ∷ rs) = (low ≤ r.moment) × Rising (r.moment + 1) rs
 -- the state of a moment, if a listing has one
 abbrev pub state_of : ℕ → List Row → Found
 state_of t [] = None
-state_of t (r ∷ rs) = if r.moment =? t then Is r else state_of t rs
+state_of t (r ∷ rs) = if r.moment =? t then Is r otherwise state_of t rs
 
 abbrev pub moment_of : Difference → ℕ
 moment_of (only k t) = t
@@ -30,7 +30,7 @@ moment_of (differs t k n) = t
 -- what the report says about a moment
 abbrev pub reported_at : ℕ → List Difference → List Difference
 reported_at t [] = []
-reported_at t (d ∷ ds) = if moment_of d =? t then d ∷ reported_at t ds else reported_at t ds
+reported_at t (d ∷ ds) = if moment_of d =? t then d ∷ reported_at t ds otherwise reported_at t ds
 
 -- differences in moment order, from `low` on
 abbrev pub InOrder : ℕ → List Difference → Type 0

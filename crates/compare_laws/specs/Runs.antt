@@ -1,6 +1,6 @@
 -- Definitions for the laws of the report: a whole run of the program on two texts, which it reads in blocks of any lengths.
 use Rattle.std.specs.Prelude.{ℕ, ◌<◌, Bool, true, false, List, [], ◌∷◌, ◌++◌, ◌≡◌, length, take, drop}
-use Rattle.base.specs.Choice.{if◌then◌else◌}
+use Rattle.base.specs.Choice.{if◌then◌otherwise◌}
 use Rattle.listing_words.specs.Words.{dash}
 use Rattle.listing_read.specs.declared.Judge.{Judge}
 use Rattle.listing_read.specs.declared.Verdict.{Verdict}
@@ -81,7 +81,7 @@ states_printed (t ∷ ts) = take t.answer.written t.after ++ states_printed ts
 
 -- the text from the start of a line on; - for a header that is not there
 abbrev pub line_in : Line → List ℕ → List ℕ
-line_in l text = if l.there then drop l.from text else dash
+line_in l text = if l.there then drop l.from text otherwise dash
 
 -- a refusal, or the rest of a report, in a caller's buffer
 pub record Printed (text : List ℕ) : Type 0 where

@@ -9,7 +9,7 @@ use borrow.Author.Tests.{lt-ltb, ltb-false, eq-eqb, ne_eqb, eqb-true}
 use lib.Dec.{ltb, eqb}
 use lib.ListN.{length, get_or, take, drop, drop_of_length-le}
 use lib.Seq.{drop-cons}
-use Rattle.base.specs.Choice.{if◌then◌else◌}
+use Rattle.base.specs.Choice.{if◌then◌otherwise◌}
 use Rattle.text_write.specs.Written.{Wrote}
 use Rattle.text_write.proofs.Writing.{nothing, both}
 use Rattle.compare_report.specs.declared.Part.{Part}
@@ -30,7 +30,7 @@ unfolding until_feed
 take_line [] = refl
 take_line (x ∷ a) = go (eqb x 10) (take_line a)
   where
-    go : (t : Bool) → take (length (until_feed a)) a ≡ until_feed a → take (length (if t then [] else x ∷ until_feed a)) (x ∷ a) ≡ (if t then [] else x ∷ until_feed a)
+    go : (t : Bool) → take (length (until_feed a)) a ≡ until_feed a → take (length (if t then [] otherwise x ∷ until_feed a)) (x ∷ a) ≡ (if t then [] otherwise x ∷ until_feed a)
     go true later = refl
     go false later = ap (λ (l : List ℕ). x ∷ l) later
 
@@ -39,7 +39,7 @@ unfolding until_feed
 line_short [] = omega arith
 line_short (x ∷ a) = go (eqb x 10) (line_short a)
   where
-    go : (t : Bool) → length (until_feed a) ≤ length a → length (if t then [] else x ∷ until_feed a) ≤ suc (length a)
+    go : (t : Bool) → length (until_feed a) ≤ length a → length (if t then [] otherwise x ∷ until_feed a) ≤ suc (length a)
     go true later = omega arith
     go false later = omega arith
 
@@ -109,12 +109,12 @@ module _ (y : ℕ) (v : List ℕ) where
   unfolding until_feed same
   open_none e = rw e
 
-first_over : (b rb : List ℕ) → (b ≡ [] → rb ≡ []) → Says 0 [] (b ++ rb) (if both_end [] b then Same else Differ)
+first_over : (b rb : List ℕ) → (b ≡ [] → rb ≡ []) → Says 0 [] (b ++ rb) (if both_end [] b then Same otherwise Differ)
 unfolding until_feed same
 first_over [] rb h = rw (h refl) refl
 first_over (y ∷ b) rb h = by_bool (eqb y 10) (λ e. rw e (none_ended y (b ++ rb) e)) (λ e. rw (e, ne_eqb (suc (length (until_feed b))) 0 (λ n. omega arith)) (none_open y (b ++ rb) e))
 
-second_over : (x : ℕ) (a ra : List ℕ) → Says 0 (x ∷ (a ++ ra)) [] (if both_end (x ∷ a) [] then Same else Differ)
+second_over : (x : ℕ) (a ra : List ℕ) → Says 0 (x ∷ (a ++ ra)) [] (if both_end (x ∷ a) [] then Same otherwise Differ)
 unfolding until_feed same
 second_over x a ra = by_bool (eqb x 10) (λ e. rw e (ended_none x (a ++ ra) e)) (λ e. rw (e, ne_eqb (suc (length (until_feed a))) 0 (λ n. omega arith)) (open_none x (a ++ ra) e))
 
@@ -172,20 +172,20 @@ pub so_far_short : (a b : List ℕ) (i k : ℕ) → likeness i a b ≡ SoFar k �
 unfolding likeness
 so_far_short [] b i k e = go (ltb 0 i) (both_end [] b) e
   where
-    go : (t u : Bool) → (if t then SoFar i else if u then Same else Differ) ≡ SoFar k → k ≤ i + 0
+    go : (t u : Bool) → (if t then SoFar i otherwise if u then Same otherwise Differ) ≡ SoFar k → k ≤ i + 0
     go true u e = let z : i ≡ k = cc in omega arith
     go false true e = let z : ◌≡◌ {A = ℕ} 0 1 = cc in absurd (omega arith)
     go false false e = let z : ◌≡◌ {A = ℕ} 0 1 = cc in absurd (omega arith)
 so_far_short (x ∷ a) [] i k e = go (ltb 0 i) (both_end (x ∷ a) []) e
   where
-    go : (t u : Bool) → (if t then SoFar i else if u then Same else Differ) ≡ SoFar k → k ≤ i + suc (length a)
+    go : (t u : Bool) → (if t then SoFar i otherwise if u then Same otherwise Differ) ≡ SoFar k → k ≤ i + suc (length a)
     go true u e = let z : i ≡ k = cc in omega arith
     go false true e = let z : ◌≡◌ {A = ℕ} 0 1 = cc in absurd (omega arith)
     go false false e = let z : ◌≡◌ {A = ℕ} 0 1 = cc in absurd (omega arith)
 so_far_short (x ∷ a) (y ∷ b) i k e = go (eqb x 10) (eqb y 10) (eqb x y) (so_far_short a b (i + 1) k) e
   where
     go : (t u v : Bool) → (likeness (i + 1) a b ≡ SoFar k → k ≤ i + 1 + length a)
-        → (if t then (if u then Same else Differ) else if v then likeness (i + 1) a b else Differ) ≡ SoFar k → k ≤ i + suc (length a)
+        → (if t then (if u then Same otherwise Differ) otherwise if v then likeness (i + 1) a b otherwise Differ) ≡ SoFar k → k ≤ i + suc (length a)
     go true true v later e = let z : ◌≡◌ {A = ℕ} 0 1 = cc in absurd (omega arith)
     go true false v later e = let z : ◌≡◌ {A = ℕ} 0 1 = cc in absurd (omega arith)
     go false u true later e = let s = later e in omega arith

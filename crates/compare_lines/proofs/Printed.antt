@@ -9,7 +9,7 @@ use borrow.Author.Tests.{ltb-true, ltb-false, eqb-true}
 use lib.Dec.{ltb, eqb}
 use lib.ListN.{length, take, drop}
 use lib.Seq.{drop-drop, drop-append_seam, take_all}
-use Rattle.base.specs.Choice.{if◌then◌else◌}
+use Rattle.base.specs.Choice.{if◌then◌otherwise◌}
 use Rattle.listing_words.specs.Words.{line_feed, bar}
 use Rattle.compare_report.specs.declared.Part.{Part}
 use Rattle.compare_report.specs.Report.{until_feed, same, lines_text}
@@ -29,10 +29,10 @@ until_front [] b h = absurd (omega arith)
 until_front (x ∷ a) b h = go (eqb x 10) refl (until_front a b)
   where
     go : (t : Bool) → eqb x 10 ≡ t → (length (until_feed a) < length a → until_feed (a ++ b) ≡ until_feed a)
-        → (if t then [] else x ∷ until_feed (a ++ b)) ≡ (if t then [] else x ∷ until_feed a)
+        → (if t then [] otherwise x ∷ until_feed (a ++ b)) ≡ (if t then [] otherwise x ∷ until_feed a)
     go true e later = refl
     go false e later =
-        let k : length (if eqb x 10 then [] else x ∷ until_feed a) ≡ length (x ∷ until_feed a) = rw e in
+        let k : length (if eqb x 10 then [] otherwise x ∷ until_feed a) ≡ length (x ∷ until_feed a) = rw e in
         ap (λ (l : List ℕ). x ∷ l) (later (omega (arith, h, k)))
 
 until_all : (a b : List ℕ) → length a ≤ length (until_feed a) → until_feed (a ++ b) ≡ a ++ until_feed b
@@ -41,10 +41,10 @@ until_all [] b h = refl
 until_all (x ∷ a) b h = go (eqb x 10) refl (until_all a b)
   where
     go : (t : Bool) → eqb x 10 ≡ t → (length a ≤ length (until_feed a) → until_feed (a ++ b) ≡ a ++ until_feed b)
-        → (if t then [] else x ∷ until_feed (a ++ b)) ≡ x ∷ (a ++ until_feed b)
-    go true e later = let k : length (if eqb x 10 then [] else x ∷ until_feed a) ≡ 0 = rw e in absurd (omega (arith, h, k))
+        → (if t then [] otherwise x ∷ until_feed (a ++ b)) ≡ x ∷ (a ++ until_feed b)
+    go true e later = let k : length (if eqb x 10 then [] otherwise x ∷ until_feed a) ≡ 0 = rw e in absurd (omega (arith, h, k))
     go false e later =
-        let k : length (if eqb x 10 then [] else x ∷ until_feed a) ≡ length (x ∷ until_feed a) = rw e in
+        let k : length (if eqb x 10 then [] otherwise x ∷ until_feed a) ≡ length (x ∷ until_feed a) = rw e in
         ap (λ (l : List ℕ). x ∷ l) (later (omega (arith, h, k)))
 
 empty : (a : List ℕ) → length a ≡ 0 → a ≡ []
@@ -57,7 +57,7 @@ no_line = refl
 
 -- the bytes of a line from a place on, and what follows it
 line_turn : (text behind rest : List ℕ) (d : ℕ) (block : List ℕ) → Reads text d block
-    → until_feed (drop d text) ++ (behind ++ rest) ≡ line_text block behind ++ (if line_ends block then rest else until_feed (drop (d + length block) text) ++ (behind ++ rest))
+    → until_feed (drop d text) ++ (behind ++ rest) ≡ line_text block behind ++ (if line_ends block then rest otherwise until_feed (drop (d + length block) text) ++ (behind ++ rest))
 unfolding line_text
 line_turn text behind rest d block w =
     by_bool (ltb (length (until_feed block)) (length block))
@@ -84,7 +84,7 @@ module _ (p : Part) (first second : List ℕ) where
   both_lines = until_feed first ++ (bar ++ last_line)
 
   abbrev to_come : Stage → List ℕ
-  to_come (Comparing d) = if same (until_feed (drop d first)) (until_feed (drop d second)) then [] else word_of p ++ both_lines
+  to_come (Comparing d) = if same (until_feed (drop d first)) (until_feed (drop d second)) then [] otherwise word_of p ++ both_lines
   to_come (First d) = until_feed (drop d first) ++ (bar ++ last_line)
   to_come (Second d) = until_feed (drop d second) ++ (line_feed ++ [])
   to_come Over = []
@@ -124,7 +124,7 @@ module _ (p : Part) (first second : List ℕ) where
       let b = until_feed second in
       let w = word_of p in
       all_turns ts (Comparing 0) h
-      ∙ ap (λ (l : List ℕ). if same a b then [] else l)
+      ∙ ap (λ (l : List ℕ). if same a b then [] otherwise l)
       (sym (append_assoc w a (bar ++ (b ++ line_feed)))
       ∙ sym (append_assoc (w ++ a) bar (b ++ line_feed))
       ∙ sym (append_assoc (w ++ a ++ bar) b line_feed))

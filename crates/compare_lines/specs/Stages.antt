@@ -1,7 +1,7 @@
 -- "Header and outcome lines .. are compared whole" (document 02, R-1), one block of each at a time: what the next block changes, and what
 -- is printed.
 use Rattle.std.specs.Prelude.{ℕ, ◌+◌, ◌≤◌, Bool, true, false, List, [], ◌∷◌, ◌++◌, ◌≡◌, length}
-use Rattle.base.specs.Choice.{if◌then◌else◌, ◌<?◌, ◌=?◌}
+use Rattle.base.specs.Choice.{if◌then◌otherwise◌, ◌<?◌, ◌=?◌}
 use Rattle.text_write.specs.Written.{Wrote}
 use Rattle.listing_words.specs.Words.{line_feed, header_word, outcome_word, bar, dash}
 use Rattle.listing_read.specs.declared.Verdict.{Verdict}
@@ -25,7 +25,7 @@ line_of part.Over v = record { from = v.outcome; there = true }
 
 -- a header that is not there is printed as the line -
 abbrev pub absent_from : ℕ → List ℕ
-absent_from from = if 0 <? from then [] else dash
+absent_from from = if 0 <? from then [] otherwise dash
 
 -- the word before the two lines
 abbrev pub word_of : Part → List ℕ
@@ -56,26 +56,26 @@ place_of Over = 0
 
 -- a line ends in a block of it: at a line feed, or at the end of the text, where the block is empty
 abbrev pub line_ends : List ℕ → Bool
-line_ends block = if length (until_feed block) <? length block then true else length block =? 0
+line_ends block = if length (until_feed block) <? length block then true otherwise length block =? 0
 
 abbrev pub both_end : List ℕ → List ℕ → Bool
-both_end a b = if length (until_feed a) =? 0 then length (until_feed b) =? 0 else false
+both_end a b = if length (until_feed a) =? 0 then length (until_feed b) =? 0 otherwise false
 
 -- i bytes are the same in both blocks, and one of the blocks has no more
 abbrev pub used_up : ℕ → List ℕ → List ℕ → Likeness
-used_up i a b = if 0 <? i then SoFar i else if both_end a b then Same else Differ
+used_up i a b = if 0 <? i then SoFar i otherwise if both_end a b then Same otherwise Differ
 
 -- the same from there on
 unfoldable pub likeness : ℕ → List ℕ → List ℕ → Likeness
 likeness i [] b = used_up i [] b
 likeness i (x ∷ a) [] = used_up i (x ∷ a) []
 likeness i (x ∷ a) (y ∷ b) =
-    if x =? 10 then (if y =? 10 then Same else Differ) else
-    if x =? y then likeness (i + 1) a b else Differ
+    if x =? 10 then (if y =? 10 then Same otherwise Differ) otherwise
+    if x =? y then likeness (i + 1) a b otherwise Differ
 
 -- the bytes of a line in a block, and a text after the line
 unfoldable pub line_text : List ℕ → List ℕ → List ℕ
-line_text block behind = until_feed block ++ (if line_ends block then behind else [])
+line_text block behind = until_feed block ++ (if line_ends block then behind otherwise [])
 
 -- ---- a turn
 
@@ -85,10 +85,10 @@ after_likeness d Differ = First 0
 after_likeness d (SoFar k) = Comparing (d + k)
 
 abbrev pub after_first : ℕ → List ℕ → Stage
-after_first d a = if line_ends a then Second 0 else First (d + length a)
+after_first d a = if line_ends a then Second 0 otherwise First (d + length a)
 
 abbrev pub after_second : ℕ → List ℕ → Stage
-after_second d b = if line_ends b then Over else Second (d + length b)
+after_second d b = if line_ends b then Over otherwise Second (d + length b)
 
 abbrev pub stage_after : Stage → List ℕ → List ℕ → Stage
 stage_after (Comparing d) a b = after_likeness d (likeness 0 a b)

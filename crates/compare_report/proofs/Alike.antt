@@ -9,7 +9,7 @@ use borrow.Author.Tests.{eq-eqb, ne_eqb}
 use lib.Dec.{eqb}
 use lib.ListN.{length, get_or, drop, drop_of_length-le}
 use lib.Seq.{drop-cons}
-use Rattle.base.specs.Choice.{if◌then◌else◌}
+use Rattle.base.specs.Choice.{if◌then◌otherwise◌}
 use Rattle.compare_report.specs.Report.{until_feed, same}
 
 module _ (b : List ℕ) (i : ℕ) where
@@ -32,7 +32,7 @@ lengths_differ (x ∷ a) [] n = refl
 lengths_differ [] (y ∷ b) n = refl
 lengths_differ (x ∷ a) (y ∷ b) n = go (eqb x y) (lengths_differ a b (λ e. n (omega arith)))
   where
-    go : (t : Bool) → false ≡ same a b → false ≡ (if t then same a b else false)
+    go : (t : Bool) → false ≡ same a b → false ≡ (if t then same a b otherwise false)
     go true later = later
     go false later = refl
 

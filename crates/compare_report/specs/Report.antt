@@ -1,6 +1,6 @@
 -- Document 02, R-1, "Say where two strips part": the report on two listings, as one definition over their texts.
 use Rattle.std.specs.Prelude.{ℕ, Bool, true, false, ◌||◌, List, [], ◌∷◌, ◌++◌, ◌≡◌, length}
-use Rattle.base.specs.Choice.{if◌then◌else◌, ◌<?◌, ◌=?◌}
+use Rattle.base.specs.Choice.{if◌then◌otherwise◌, ◌<?◌, ◌=?◌}
 use Rattle.text_write.specs.Numerals.{decimal_of}
 use Rattle.listing_words.specs.Words.{space, line_feed, same_word, only_word, diff_word, header_word, outcome_word, refused13, bar, dash, x_name, y_name, z_name, vx_name, vy_name, vz_name}
 use Rattle.listing_scan.specs.declared.Row.{Row}
@@ -18,7 +18,7 @@ pub data Difference : Type 0 where
 
 -- "every component whose bits differ"
 abbrev pub component : ℕ → Component → ℕ → ℕ → List Difference
-component t k a b = if a =? b then [] else differs t k (steps a b) ∷ []
+component t k a b = if a =? b then [] otherwise differs t k (steps a b) ∷ []
 
 -- "for each moment in both": x, y, z, vx, vy, vz in this order
 unfoldable pub at_one : Row → Row → List Difference
@@ -36,8 +36,8 @@ parted [] [] = []
 parted (r ∷ rs) [] = only 1 r.moment ∷ parted rs []
 parted [] (s ∷ ss) = only 2 s.moment ∷ parted [] ss
 parted (r ∷ rs) (s ∷ ss) =
-    if r.moment <? s.moment then only 1 r.moment ∷ parted rs (s ∷ ss) else
-    if s.moment <? r.moment then only 2 s.moment ∷ parted (r ∷ rs) ss else
+    if r.moment <? s.moment then only 1 r.moment ∷ parted rs (s ∷ ss) otherwise
+    if s.moment <? r.moment then only 2 s.moment ∷ parted (r ∷ rs) ss otherwise
     at_one r s ++ parted rs ss
 
 -- ---- the lines
@@ -82,7 +82,7 @@ last_of (l ∷ []) = l
 last_of (l ∷ m ∷ ls) = last_of (m ∷ ls)
 
 unfoldable pub header_of : ℕ → List ℕ → List ℕ
-header_of states text = if states =? 0 then dash else first_of (lines_of text)
+header_of states text = if states =? 0 then dash otherwise first_of (lines_of text)
 
 unfoldable pub outcome_of : List ℕ → List ℕ
 outcome_of text = last_of (lines_of text)
@@ -90,17 +90,17 @@ outcome_of text = last_of (lines_of text)
 -- the first line of a text
 unfoldable pub until_feed : List ℕ → List ℕ
 until_feed [] = []
-until_feed (b ∷ bs) = if b =? 10 then [] else b ∷ until_feed bs
+until_feed (b ∷ bs) = if b =? 10 then [] otherwise b ∷ until_feed bs
 
 unfoldable pub same : List ℕ → List ℕ → Bool
 same [] [] = true
 same (a ∷ rest) [] = false
 same [] (b ∷ more) = false
-same (a ∷ rest) (b ∷ more) = if a =? b then same rest more else false
+same (a ∷ rest) (b ∷ more) = if a =? b then same rest more otherwise false
 
 -- WORD FIRST-LINE | SECOND-LINE, if the lines differ
 unfoldable pub lines_text : List ℕ → List ℕ → List ℕ → List ℕ
-lines_text word a b = if same a b then [] else word ++ a ++ bar ++ b ++ line_feed
+lines_text word a b = if same a b then [] otherwise word ++ a ++ bar ++ b ++ line_feed
 
 unfoldable pub header_text : List ℕ → List ℕ → List ℕ
 header_text a b = lines_text header_word (header_of (length (rows_in a)) a) (header_of (length (rows_in b)) b)
@@ -138,8 +138,8 @@ part_text Over a b = []
 -- "13 with its line number, first listing first": REFUSED 13 LISTING LINE; nothing if both are of the form
 unfoldable pub first_refusal : ℕ → ℕ → ℕ → ℕ → List ℕ
 first_refusal k line l other =
-    if 0 <? line then two_numbers refused13 k line else
-    if 0 <? other then two_numbers refused13 l other else []
+    if 0 <? line then two_numbers refused13 k line otherwise
+    if 0 <? other then two_numbers refused13 l other otherwise []
 
 abbrev pub refusal_text : ℕ → ℕ → List ℕ
 refusal_text first second = first_refusal 1 first 2 second
@@ -177,4 +177,4 @@ Follows p q = (a b : List ℕ) → from_part p a b ≡ part_text p a b ++ from_p
 unfoldable pub report : List ℕ → List ℕ → List ℕ
 report a b =
     let refused = refusal_text (form_refusal a) (form_refusal b) in
-    if some refused then refused else from_part Header a b
+    if some refused then refused otherwise from_part Header a b

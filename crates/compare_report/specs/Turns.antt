@@ -1,6 +1,6 @@
 -- How the states of two listings are compared as they are read: the next state of each side, if there is one.
 use Rattle.std.specs.Prelude.{ℕ, ◌+◌, ◌≤◌, Bool, true, false, List, [], ◌∷◌, ◌++◌, ◌≡◌}
-use Rattle.base.specs.Choice.{if◌then◌else◌, ◌<?◌}
+use Rattle.base.specs.Choice.{if◌then◌otherwise◌, ◌<?◌}
 use Rattle.text_write.specs.Written.{Wrote}
 use Rattle.listing_scan.specs.declared.Row.{Row}
 use Rattle.listing_read.specs.declared.Found.{Found}
@@ -26,8 +26,8 @@ side_of None None = takes false false
 side_of (Is r) None = takes true false
 side_of None (Is s) = takes false true
 side_of (Is r) (Is s) =
-    if r.moment <? s.moment then takes true false else
-    if s.moment <? r.moment then takes false true else takes true true
+    if r.moment <? s.moment then takes true false otherwise
+    if s.moment <? r.moment then takes false true otherwise takes true true
 
 -- what the report says about it
 abbrev pub differences_at : Found → Found → List Difference
@@ -35,8 +35,8 @@ differences_at None None = []
 differences_at (Is r) None = only 1 r.moment ∷ []
 differences_at None (Is s) = only 2 s.moment ∷ []
 differences_at (Is r) (Is s) =
-    if r.moment <? s.moment then only 1 r.moment ∷ [] else
-    if s.moment <? r.moment then only 2 s.moment ∷ [] else at_one r s
+    if r.moment <? s.moment then only 1 r.moment ∷ [] otherwise
+    if s.moment <? r.moment then only 2 s.moment ∷ [] otherwise at_one r s
 
 -- the rows of a listing after its state was taken or not
 abbrev pub left : Bool → Found → List Row → List Row

@@ -1,7 +1,7 @@
 -- Document 01, "Earth-fixed turn and conic", and document 02, R-6: the figures of the conic for a centre coefficient m, and their refusals.
 use Rattle.std.specs.Prelude.{not, ◌&&◌, ℕ, Float}
 use Rattle.std.specs.Float.Ieee.Scale.{finite}
-use Rattle.base.specs.Choice.{if◌then◌else◌, ◌=?◌}
+use Rattle.base.specs.Choice.{if◌then◌otherwise◌, ◌=?◌}
 use Rattle.base.specs.Floats.{above0, below0}
 use Rattle.state.specs.declared.State.{State}
 use Rattle.state.specs.State.{finite_state, is_body}
@@ -16,21 +16,21 @@ unfoldable pub use Rattle.conic_formulas.specs.Orbit.{cross, eccentricity, last_
 -- "an ellipse when c3 is below 0, a hyperbola when above"
 unfoldable pub conic_of : Orbit → Conic
 conic_of o =
-    if below0 o.c3 then Ellipse o.a o.e o.p o.q o.last else
+    if below0 o.c3 then Ellipse o.a o.e o.p o.q o.last otherwise
     Hyperbola o.a o.e o.p o.q o.last
 
 -- "A conic answer names its centre and holds one kind"; R-6: the state's own centre
 unfoldable pub orbit_answer : ℕ → Orbit → ConicAnswer
 orbit_answer centre o =
-    if refusal o =? 0 then Figures (record { centre = centre; conic = conic_of o }) else
+    if refusal o =? 0 then Figures (record { centre = centre; conic = conic_of o }) otherwise
     Refused (refusal o)
 
 -- "4 (m not finite or not above 0), 7 (state), then" the figures; R-6: a centre outside 1 to 6 is 14, "directly after 4"
 unfoldable pub figures_about : Float → State → ConicAnswer
 figures_about m state =
-    if not (is_body state.centre) then Refused 14 else
-    if not (finite_state state) then Refused 7 else
+    if not (is_body state.centre) then Refused 14 otherwise
+    if not (finite_state state) then Refused 7 otherwise
     orbit_answer state.centre (orbit m state)
 
 unfoldable pub conic_answer : Float → State → ConicAnswer
-conic_answer m state = if not (finite m && above0 m) then Refused 4 else figures_about m state
+conic_answer m state = if not (finite m && above0 m) then Refused 4 otherwise figures_about m state

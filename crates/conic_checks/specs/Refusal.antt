@@ -2,19 +2,19 @@
 use Rattle.std.specs.Prelude.{not, ℕ, Float}
 use Rattle.std.specs.Float.Ieee.{eq}
 use Rattle.std.specs.Float.Ieee.Scale.{finite}
-use Rattle.base.specs.Choice.{if◌then◌else◌, ◌=?◌}
+use Rattle.base.specs.Choice.{if◌then◌otherwise◌, ◌=?◌}
 use Rattle.base.specs.Floats.{zero64}
 use Rattle.conic_checks.specs.declared.Orbit.{Orbit}
 
 -- the refusal number of a figure: 7 if it is not finite, its own number if it is zero, else 0. The own number is 0 if the figure may be
 -- zero.
 unfoldable pub unfit : Float → ℕ → ℕ
-unfit x own = if not (finite x) then 7 else if eq x zero64 then own else 0
+unfit x own = if not (finite x) then 7 otherwise if eq x zero64 then own otherwise 0
 
 -- the first of two refusals
 infixl 20 ◌before◌
 unfoldable pub ◌before◌ : ℕ → ℕ → ℕ
-k before next = if k =? 0 then next else k
+k before next = if k =? 0 then next otherwise k
 
 -- "in written order ..: one not finite or n zero 7, c3 zero 9, n(C) zero 10"
 unfoldable pub refusal : Orbit → ℕ

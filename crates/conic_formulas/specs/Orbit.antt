@@ -1,7 +1,7 @@
 -- Document 01, "Earth-fixed turn and conic": the figures of the conic for a centre coefficient m.
 use Rattle.std.specs.Prelude.{Float}
 use Rattle.std.specs.Float.Ieee.{neg}
-use Rattle.base.specs.Choice.{if◌then◌else◌}
+use Rattle.base.specs.Choice.{if◌then◌otherwise◌}
 use Rattle.base.specs.Floats.{◌⊕◌, ◌⊖◌, ◌⊗◌, ◌⊘◌, zero64, below0, whole}
 use Rattle.state.specs.declared.State.{State}
 use Rattle.state.specs.declared.Vector.{Vector}
@@ -20,11 +20,11 @@ cross p v =
 
 -- "e = root of e2, or 0 if e2 < 0"
 unfoldable pub eccentricity : Float → Float
-eccentricity e2 = if below0 e2 then zero64 else root_of e2
+eccentricity e2 = if below0 e2 then zero64 otherwise root_of e2
 
 -- "far distance a·(1 + e)" for an ellipse, "root of c3" for a hyperbola
 unfoldable pub last_figure : Float → Float → Float → Float
-last_figure c3 a e = if below0 c3 then a ⊗ (whole 1 ⊕ e) else root_of c3
+last_figure c3 a e = if below0 c3 then a ⊗ (whole 1 ⊕ e) otherwise root_of c3
 
 -- n of the position, v2, c3, n(C), p, e2, e, a, q and the last figure, by their formulas
 unfoldable pub orbit : Float → State → Orbit

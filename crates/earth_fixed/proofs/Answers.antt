@@ -3,7 +3,7 @@ use mathlib.Core.Bool.{true, false, not}
 use mathlib.Core.Path.{◌≡◌}
 use borrow.Author.Tests.{eq-eqb}
 use Prim.Native.Nat.{ℕ}
-use Rattle.base.specs.Choice.{if◌then◌else◌}
+use Rattle.base.specs.Choice.{if◌then◌otherwise◌}
 use Rattle.base.specs.Limits.{is_dut}
 use Rattle.hour.specs.Hour.{is_rule, sidereal_answer}
 use Rattle.state.specs.declared.State.{State}
@@ -21,7 +21,7 @@ pub answer-is :
     (rule dut : ℕ) (state : State) (fixed : EarthFixed)
     → finite_state state ≡ true
     → fixed ≡ turned (rotation rule state.moment dut) state
-    → (if not (finite_fixed fixed) then Refused 7 else Fixed fixed) ≡ finite_answer rule dut state
+    → (if not (finite_fixed fixed) then Refused 7 otherwise Fixed fixed) ≡ finite_answer rule dut state
 unfolding finite_answer
 answer-is rule dut state fixed is_finite e = rw (e, is_finite)
 

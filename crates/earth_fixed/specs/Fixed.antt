@@ -1,6 +1,6 @@
 -- Document 01, "Earth-fixed turn and conic", and document 02, R-2, R-6 and R-9: a state in coordinates that turn with the Earth.
 use Rattle.std.specs.Prelude.{Bool, not, ◌&&◌, ℕ}
-use Rattle.base.specs.Choice.{if◌then◌else◌, ◌=?◌}
+use Rattle.base.specs.Choice.{if◌then◌otherwise◌, ◌=?◌}
 use Rattle.base.specs.Floats.{◌⊕◌, ◌⊖◌, ◌⊗◌}
 use Rattle.base.specs.Limits.{is_dut}
 use Rattle.state.specs.declared.State.{State}
@@ -34,8 +34,8 @@ finite_fixed f =
 unfoldable pub finite_answer : ℕ → ℕ → State → FixedAnswer
 finite_answer rule dut state =
     let fixed = turned (rotation rule state.moment dut) state in
-    if not (finite_state state) then Refused 7 else
-    if not (finite_fixed fixed) then Refused 7 else
+    if not (finite_state state) then Refused 7 otherwise
+    if not (finite_fixed fixed) then Refused 7 otherwise
     Fixed fixed
 
 -- an answer after the refusals of the hour angle
@@ -47,7 +47,7 @@ after_hour (HourAnswer.Refused number) answer = Refused number
 -- directly after 4. After that the hour angle can only refuse with 3.
 unfoldable pub fixed_answer : ℕ → ℕ → State → FixedAnswer
 fixed_answer rule dut state =
-    if not (is_dut dut) then Refused 4 else
-    if not (is_rule rule) then Refused 4 else
-    if not (state.centre =? 1) then Refused 14 else
+    if not (is_dut dut) then Refused 4 otherwise
+    if not (is_rule rule) then Refused 4 otherwise
+    if not (state.centre =? 1) then Refused 14 otherwise
     after_hour (sidereal_answer rule state.moment dut) (finite_answer rule dut state)

@@ -4,7 +4,7 @@ use mathlib.Core.Path.{◌≡◌, refl, sym}
 use Prim.Native.Nat.{ℕ, ◌≤◌, ◌<◌}
 use native.Mathlib.Omega.{arith}
 use borrow.Author.Tests.{ltb-true, ltb-false}
-use Rattle.base.specs.Choice.{if◌then◌else◌, ◌<?◌}
+use Rattle.base.specs.Choice.{if◌then◌otherwise◌, ◌<?◌}
 use Rattle.base.specs.Limits.{end_of_time, is_moment, is_dut, circle}
 use Rattle.hour.specs.Hour.{ut_day, ut_time, is_rule, sidereal_angle, sidereal_answer}
 use Rattle.hour.proofs.BothRules.{angle_below}
@@ -20,10 +20,10 @@ by_tests :
     (rule moment dut parts : ℕ) (allowed known in_time before : Bool)
     → in_time ≡ is_moment moment
     → before ≡ (moment <? dut)
-    → (if not allowed then Refused 4 else
-    if not known then Refused 4 else
-    if not in_time then Refused 3 else
-    if before then Refused 3 else
+    → (if not allowed then Refused 4 otherwise
+    if not known then Refused 4 otherwise
+    if not in_time then Refused 3 otherwise
+    if before then Refused 3 otherwise
     Parts (sidereal_angle rule (ut_day moment dut) (ut_time moment dut)))
     ≡ Parts parts
     → Accepted rule moment dut parts

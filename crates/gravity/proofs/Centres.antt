@@ -18,11 +18,11 @@ pub data One : ℕ → Type 0 where
   six : One 6
 
 pick : (c k : ℕ) → One k → ((c =? k) ≡ false → One c) → One c
-pick c k here else = go (c =? k) refl
+pick c k here otherwise = go (c =? k) refl
   where
     go : (is : Bool) → (c =? k) ≡ is → One c
     go true is = subst One (sym (eqb→eq c k (subst T (sym is) tt))) here
-    go false is = else is
+    go false is = otherwise is
 
 no_body : used zero64 ≡ false
 unfolding lt of_bits

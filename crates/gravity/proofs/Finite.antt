@@ -4,7 +4,7 @@ use mathlib.Core.List.{List}
 use mathlib.Core.Path.{◌≡◌, refl, sym, ap, ◌∙◌}
 use Prim.Native.Nat.{ℕ}
 use native.Mathlib.Omega.{arith}
-use Rattle.base.specs.Choice.{if◌then◌else◌}
+use Rattle.base.specs.Choice.{if◌then◌otherwise◌}
 use Rattle.state.specs.State.{finite_vector}
 use Rattle.state.specs.declared.Vector.{Vector}
 use Rattle.state.specs.declared.Setting.{Setting}
@@ -17,7 +17,7 @@ use Rattle.gravity.specs.declared.AccelerationAnswer.TheVariants.{Is, Refused}
 settled_finite : (ok : Bool) (v a : Vector) → settled ok v ≡ Is a → finite_vector a ≡ true
 settled_finite ok v a = go (ok && finite_vector v) refl
   where
-    go : (both : Bool) → (ok && finite_vector v) ≡ both → (if both then Is v else Refused 7) ≡ Is a → finite_vector a ≡ true
+    go : (both : Bool) → (ok && finite_vector v) ≡ both → (if both then Is v otherwise Refused 7) ≡ Is a → finite_vector a ≡ true
     go true f e = let same : v ≡ a = cc in ap finite_vector (sym same) ∙ right ok (finite_vector v) f
     go false f e = let z : ◌≡◌ {A = ℕ} 0 1 = cc in absurd (omega arith)
 

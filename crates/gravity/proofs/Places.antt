@@ -2,7 +2,7 @@
 use mathlib.Core.Bool.{Bool, true, false, ◌||◌, true≢false}
 use mathlib.Core.Path.{◌≡◌, refl, sym, ap, ◌∙◌}
 use lib.Ieee.{Float}
-use Rattle.base.specs.Choice.{if◌then◌else◌}
+use Rattle.base.specs.Choice.{if◌then◌otherwise◌}
 use Rattle.root.specs.Root.{root_of}
 use Rattle.root.specs.declared.ThreeRoots.{ThreeRoots}
 use Rattle.state.specs.State.{n, used}
@@ -14,7 +14,7 @@ use Rattle.gravity_pull.specs.declared.Other.{Other}
 use Rattle.gravity_bodies.specs.declared.Sight.{Sight}
 use Rattle.gravity.specs.Sight.{other_by, other_of, any_used}
 
-one : {A : Type 0} (f : Other → A) (b : Bool) (x y : Other) (r : A) → f x ≡ r → f y ≡ r → f (if b then x else y) ≡ r
+one : {A : Type 0} (f : Other → A) (b : Bool) (x y : Other) (r : A) → f x ≡ r → f y ≡ r → f (if b then x otherwise y) ≡ r
 one f true x y r p q = p
 one f false x y r p q = q
 

@@ -7,7 +7,7 @@ use lib.Dec.{eqb-suc-zero}
 use borrow.Author.Tests.{ne_eqb}
 use native.Mathlib.Omega.{arith}
 use Rattle.base.specs.Checks.{or_later}
-use Rattle.base.specs.Choice.{if◌then◌else◌, ◌=?◌}
+use Rattle.base.specs.Choice.{if◌then◌otherwise◌, ◌=?◌}
 use Rattle.state.specs.State.{used, coefficient_of, centre_allowed}
 use Rattle.state.specs.declared.Vector.{Vector}
 use Rattle.state.specs.declared.Setting.{Setting}
@@ -95,7 +95,7 @@ module _ (st : Setting) (Q S P : Vector) (centre : ℕ) (C : Vector) (body : Lis
 others_by : List ℕ → ℕ → ℕ → Vector → List Listed → List Other
 others_by b t centre C [] = []
 others_by b t centre C (body ∷ rest) =
-    if body.number =? centre then others_by b t centre C rest else other_of C (sight_of b t body) ∷ others_by b t centre C rest
+    if body.number =? centre then others_by b t centre C rest otherwise other_of C (sight_of b t body) ∷ others_by b t centre C rest
 
 module _ (b : List ℕ) (st : Setting) (t : ℕ) (P home sun : Vector) (centre : ℕ) (C : Vector) where
   Agree : List Listed → Pull → Type 0
@@ -115,7 +115,7 @@ module _ (b : List ℕ) (st : Setting) (t : ℕ) (P home sun : Vector) (centre :
     one_more : (near pulls : Bool) → (body.number =? centre) ≡ near → used body.m ≡ pulls → (sum : Pull) (s : Sight)
         → Looked b body.number body.m body.for_light t s
         → finished_by st home sun P sum (or_later s.refusal (refusal_of (sights_of b t rest)))
-        (if near then others_by b t centre C rest else other_of C s ∷ others_by b t centre C rest)
+        (if near then others_by b t centre C rest otherwise other_of C s ∷ others_by b t centre C rest)
         ≡ finished st (minus P home) (minus P sun) P sum.sound (vector_of sum) (from_centre centre C (sky_of b t (body ∷ rest)))
     unfolding Agree pull_of
     one_more true pulls near m sum s (unlooked u) = rw u (later sum)

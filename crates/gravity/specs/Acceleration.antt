@@ -1,7 +1,7 @@
 -- Document 01, "Setting, state, acceleration", and document 02, R-6 and R-7: the acceleration about a centre by the bodies looked up, with
 -- an oblate Earth and sunlight.
 use Rattle.std.specs.Prelude.{Bool, true, not, ◌&&◌, List, [], ◌∷◌, ℕ, Float}
-use Rattle.base.specs.Choice.{if◌then◌else◌, ◌=?◌}
+use Rattle.base.specs.Choice.{if◌then◌otherwise◌, ◌=?◌}
 use Rattle.base.specs.Limits.{is_moment}
 use Rattle.state.specs.State.{finite_vector, used, coefficient_of, centre_allowed}
 use Rattle.state.specs.declared.Vector.{Vector}
@@ -20,8 +20,8 @@ use Rattle.gravity.specs.declared.AccelerationAnswer.TheVariants as answer
 abbrev pub others : ℕ → Vector → List Body → List Body
 others centre C [] = []
 others centre C (body ∷ rest) =
-    if body.number =? centre then others centre C rest else
-    if not (used body.m) then others centre C rest else
+    if body.number =? centre then others centre C rest otherwise
+    if not (used body.m) then others centre C rest otherwise
     record { number = body.number; m = body.m; R = minus body.R C } ∷ others centre C rest
 
 -- the coefficient of the centre, the other used bodies, and the positions of the Earth and the Sun, all seen from the centre
@@ -50,7 +50,7 @@ all_sound P (body ∷ rest) = sound (minus P body.R) && sound body.R && all_soun
 
 -- "refused with 7 if some n is not finite, some r3 is zero or not finite, or a final component is not finite"
 abbrev pub settled : Bool → Vector → AccelerationAnswer
-settled ok a = if ok && finite_vector a then answer.Is a else answer.Refused 7
+settled ok a = if ok && finite_vector a then answer.Is a otherwise answer.Refused 7
 
 -- "Acceleration at position P: start with -g(P, Earth)", or (R-6) "the centre's own pull"; "for each used body .. subtract". Then (R-7) the
 -- last terms, "after all others", at Q from the Earth and S from the Sun.
@@ -78,4 +78,4 @@ acceleration_at b s centre t P =
 unfoldable pub acceleration_answer : List ℕ → Setting → ℕ → ℕ → Vector → AccelerationAnswer
 acceleration_answer b s centre t P =
     let k = common_refusal b s (centre_allowed s centre) (is_moment t) (finite_vector P) in
-    if k =? 0 then acceleration_at b s centre t P else answer.Refused k
+    if k =? 0 then acceleration_at b s centre t P otherwise answer.Refused k

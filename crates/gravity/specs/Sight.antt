@@ -1,6 +1,6 @@
 -- What the code keeps for a moment about a centre: the other bodies, each with its pull on the centre, computed once.
 use Rattle.std.specs.Prelude.{Bool, ◌||◌, List, [], ◌∷◌, ◌≡◌, ℕ, Float}
-use Rattle.base.specs.Choice.{if◌then◌else◌, ◌=?◌}
+use Rattle.base.specs.Choice.{if◌then◌otherwise◌, ◌=?◌}
 use Rattle.state.specs.State.{used, coefficient_of}
 use Rattle.state.specs.declared.Vector.{Vector}
 use Rattle.state.specs.declared.Setting.{Setting}
@@ -27,7 +27,7 @@ use Rattle.gravity.specs.declared.Sights.{Sights}
 
 -- a body seen from the centre; if it is used, with its pull on the centre
 abbrev pub other_by : Vector → Float → Pull → Other
-other_by R m pull = if used m then record { m = m; place = R; pull = pull } else record { m = m; place = R; pull = no_pull }
+other_by R m pull = if used m then record { m = m; place = R; pull = pull } otherwise record { m = m; place = R; pull = no_pull }
 
 unfoldable pub other_of : Vector → Sight → Other
 other_of C s = let R = minus s.place C in other_by R s.m (pull_of R s.m)
@@ -79,7 +79,7 @@ abbrev pub settled_by : Pull → AccelerationAnswer
 settled_by p = settled p.sound (vector_of p)
 
 abbrev pub finished_by : Setting → Vector → Vector → Vector → Pull → ℕ → List Other → AccelerationAnswer
-finished_by s home sun P sum k os = if k =? 0 then settled_by (sunlit_by s sun P (oblate_by s home P (less_all P sum os))) else Refused k
+finished_by s home sun P sum k os = if k =? 0 then settled_by (sunlit_by s sun P (oblate_by s home P (less_all P sum os))) otherwise Refused k
 
 unfoldable pub acceleration_by : Sights → Setting → Vector → AccelerationAnswer
 acceleration_by s setting P = finished_by setting s.home s.sun P (start_by P s.own) s.refusal (listed s.others)

@@ -6,7 +6,7 @@ use Prim.Native.Nat.{ℕ, suc}
 use lib.Ieee.{Float}
 use native.Mathlib.Omega.{arith}
 use Rattle.base.proofs.Checks.{first_of}
-use Rattle.base.specs.Choice.{if◌then◌else◌, ◌=?◌}
+use Rattle.base.specs.Choice.{if◌then◌otherwise◌, ◌=?◌}
 use Rattle.state.specs.State.{finite_vector, used, looked_up}
 use Rattle.book.specs.Lookup.{lookup}
 use Rattle.book.specs.Series.{place, velocity}
@@ -40,7 +40,7 @@ unpulling m for_light = go (used m)
 
 -- the Earth is at zero; another body must be looked up
 unfoldable pub sight_of : List ℕ → ℕ → Listed → Sight
-sight_of b t body = if body.number =? 1 then blank body.m 0 else found_of b body.number body.m body.for_light t
+sight_of b t body = if body.number =? 1 then blank body.m 0 otherwise found_of b body.number body.m body.for_light t
 
 module _ (b : List ℕ) (number : ℕ) (m : Float) (for_light : Bool) (t : ℕ) where
   pub found : (number =? 1) ≡ false → Looked b number m for_light t (found_of b number m for_light t)
@@ -60,7 +60,7 @@ module _ (b : List ℕ) (number : ℕ) (m : Float) (for_light : Bool) (t : ℕ) 
       by u Nothing e = refused_by_lem 5 u (is (no_cover b number t e))
       by u (Entry i) e = at u i (finite_vector (standing (place b i t))) (finite_velocity (velocity b i t)) e refl refl
 
-      go : (u : Bool) → looked_up m for_light ≡ u → Looked b number m for_light t (if u then found_by b m t (lookup b number t) else blank m 0)
+      go : (u : Bool) → looked_up m for_light ≡ u → Looked b number m for_light t (if u then found_by b m t (lookup b number t) otherwise blank m 0)
       go true u = by u (lookup b number t) refl
       go false u = unlooked u
 
@@ -77,10 +77,10 @@ module _ (b : List ℕ) (number : ℕ) (m : Float) (for_light : Bool) (t : ℕ) 
       go true u = there at_rest 0 u (rw near)
       go false u = unlooked u
 
-  pub looked : Looked b number m for_light t (if number =? 1 then blank m 0 else found_of b number m for_light t)
+  pub looked : Looked b number m for_light t (if number =? 1 then blank m 0 otherwise found_of b number m for_light t)
   looked = go (number =? 1) refl
     where
-      go : (near : Bool) → (number =? 1) ≡ near → Looked b number m for_light t (if near then blank m 0 else found_of b number m for_light t)
+      go : (near : Bool) → (number =? 1) ≡ near → Looked b number m for_light t (if near then blank m 0 otherwise found_of b number m for_light t)
       go true near = earth near
       go false near = found near
 
@@ -111,7 +111,7 @@ all_clear (s ∷ rest) e = let f = first_of s.refusal (refusal_of rest) e in (f.
 
 -- the new guess of a body that was seen is the covering entry
 pub seen_entry : (b : List ℕ) (number : ℕ) (m : Float) (for_light : Bool) (t given : ℕ) → (found_of b number m for_light t).refusal ≡ 0
-    → (if looked_up m for_light then (found_of b number m for_light t).entry else given) ≡ (if looked_up m for_light then entry_or given (lookup b number t) else given)
+    → (if looked_up m for_light then (found_of b number m for_light t).entry otherwise given) ≡ (if looked_up m for_light then entry_or given (lookup b number t) otherwise given)
 unfolding found_of
 seen_entry b number m for_light t given = go (looked_up m for_light)
   where
@@ -125,8 +125,8 @@ seen_entry b number m for_light t given = go (looked_up m for_light)
     by Nothing r = absurd (omega arith)
     by (Entry i) r = at i (finite_vector (standing (place b i t))) (finite_velocity (velocity b i t)) refl r
 
-    go : (u : Bool) → (if u then found_by b m t (lookup b number t) else blank m 0).refusal ≡ 0
-        → (if u then (if u then found_by b m t (lookup b number t) else blank m 0).entry else given)
-        ≡ (if u then entry_or given (lookup b number t) else given)
+    go : (u : Bool) → (if u then found_by b m t (lookup b number t) otherwise blank m 0).refusal ≡ 0
+        → (if u then (if u then found_by b m t (lookup b number t) otherwise blank m 0).entry otherwise given)
+        ≡ (if u then entry_or given (lookup b number t) otherwise given)
     go true r = by (lookup b number t) r
     go false r = refl

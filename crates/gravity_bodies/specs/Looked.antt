@@ -1,7 +1,7 @@
 -- What the code keeps of the bodies looked up, seen from the Earth.
 use Rattle.std.specs.Prelude.{Bool, false, List, [], ◌∷◌, ℕ, Float}
 use Rattle.base.specs.Checks.{or_later}
-use Rattle.base.specs.Choice.{if◌then◌else◌, ◌=?◌, ◌≤?◌}
+use Rattle.base.specs.Choice.{if◌then◌otherwise◌, ◌=?◌, ◌≤?◌}
 use Rattle.state.specs.State.{finite_vector, used, looked_up}
 use Rattle.state.specs.declared.Vector.{Vector}
 use Rattle.state.specs.declared.Setting.{Setting}
@@ -24,15 +24,15 @@ blank m k = record { refusal = k; entry = 0; m = m; place = nowhere }
 abbrev pub found_at : Place → Bool → ℕ → Float → Sight
 found_at p slow i m =
     if finite_vector (standing p)
-    then (if slow then record { refusal = 0; entry = i; m = m; place = standing p } else blank m 7)
-    else blank m 7
+    then (if slow then record { refusal = 0; entry = i; m = m; place = standing p } otherwise blank m 7)
+    otherwise blank m 7
 
 abbrev pub found_by : List ℕ → Float → ℕ → Lookup → Sight
 found_by b m t Nothing = blank m 6
 found_by b m t (Entry i) = found_at (place b i t) (finite_velocity (velocity b i t)) i m
 
 unfoldable pub found_of : List ℕ → ℕ → Float → Bool → ℕ → Sight
-found_of b number m for_light t = if looked_up m for_light then found_by b m t (lookup b number t) else blank m 0
+found_of b number m for_light t = if looked_up m for_light then found_by b m t (lookup b number t) otherwise blank m 0
 
 unfoldable pub found_in : List ℕ → Setting → ℕ → Found
 found_in b s t =
@@ -47,21 +47,21 @@ found_in b s t =
 -- the position of the centre, seen from the Earth
 unfoldable pub place_in : Found → ℕ → Vector
 place_in f centre =
-    if centre =? 2 then f.moon.place else
-    if centre =? 3 then f.sun.place else
-    if centre =? 4 then f.venus.place else
-    if centre =? 5 then f.mars.place else
-    if centre =? 6 then f.jupiter.place else nowhere
+    if centre =? 2 then f.moon.place otherwise
+    if centre =? 3 then f.sun.place otherwise
+    if centre =? 4 then f.venus.place otherwise
+    if centre =? 5 then f.mars.place otherwise
+    if centre =? 6 then f.jupiter.place otherwise nowhere
 
 -- the five bodies other than the centre, in rising number
 unfoldable pub besides : ℕ → Sight → Found → Besides
 besides centre earth f =
     record {
-      first = if centre ≤? 1 then f.moon else earth;
-      second = if centre ≤? 2 then f.sun else f.moon;
-      third = if centre ≤? 3 then f.venus else f.sun;
-      fourth = if centre ≤? 4 then f.mars else f.venus;
-      fifth = if centre ≤? 5 then f.jupiter else f.mars;
+      first = if centre ≤? 1 then f.moon otherwise earth;
+      second = if centre ≤? 2 then f.sun otherwise f.moon;
+      third = if centre ≤? 3 then f.venus otherwise f.sun;
+      fourth = if centre ≤? 4 then f.mars otherwise f.venus;
+      fifth = if centre ≤? 5 then f.jupiter otherwise f.mars;
     }
 
 -- the first refusal in rising number, 0 if there is none

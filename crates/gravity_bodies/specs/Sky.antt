@@ -1,6 +1,6 @@
 -- Document 01, "Setting, state, acceleration", and document 02, R-6 and R-7: the bodies looked up at a moment, seen from the Earth.
 use Rattle.std.specs.Prelude.{Bool, false, List, [], ◌∷◌, ℕ, Float}
-use Rattle.base.specs.Choice.{if◌then◌else◌, ◌=?◌}
+use Rattle.base.specs.Choice.{if◌then◌otherwise◌, ◌=?◌}
 use Rattle.base.specs.Floats.{zero64}
 use Rattle.state.specs.State.{used, looked_up}
 pub use Rattle.state.specs.State.{nowhere}
@@ -31,7 +31,7 @@ abbrev pub at_rest : Motion
 at_rest = record { place = record { x = zero64; y = zero64; z = zero64 }; velocity = record { x = zero64; y = zero64; z = zero64 } }
 
 abbrev pub stands : List ℕ → ℕ → ℕ → PositionAnswer
-stands b number t = if number =? 1 then At at_rest else body_at b number t
+stands b number t = if number =? 1 then At at_rest otherwise body_at b number t
 
 -- a body of the setting: its number, its coefficient, and whether its light counts. R-7: "With K above 0 the Sun is looked up as a used
 -- body, even where its coefficient is 0 and it does not pull."
@@ -49,7 +49,7 @@ seen body (Refused k) later = Refusal k
 -- "looked up in rising number first, each for cover (6), then for a finite position (7)"; and, document 02, R-5, for a finite velocity (7)
 abbrev pub sky_of : List ℕ → ℕ → List Listed → Sky
 sky_of b t [] = Bodies []
-sky_of b t (body ∷ rest) = if looked_up body.m body.for_light then seen body (stands b body.number t) (sky_of b t rest) else sky_of b t rest
+sky_of b t (body ∷ rest) = if looked_up body.m body.for_light then seen body (stands b body.number t) (sky_of b t rest) otherwise sky_of b t rest
 
 -- "1 Earth, 2 Moon, 3 Sun, 4 Venus, 5 Mars, 6 Jupiter"
 abbrev pub bodies_of : Setting → List Listed

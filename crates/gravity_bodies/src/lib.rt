@@ -5,7 +5,7 @@
 pub mod inner;
 
 ghost use Rattle.std.specs.Prelude.{◌≡◌};
-ghost use Rattle.base.specs.Choice.{if◌then◌else◌};
+ghost use Rattle.base.specs.Choice.{if◌then◌otherwise◌};
 ghost use Rattle.gravity_bodies.specs.Looked.{blank, refusal_in, place_in, besides};
 ghost use Rattle.base.specs.Checks.{or_later};
 
@@ -109,7 +109,7 @@ pub fn centre_place(centre: u64, bodies: Found) -> Vector
 }
 
 fn either(a: bool, x: Sight, y: Sight) -> Sight
-    ensures { result ≡ (if a then x else y) }
+    ensures { result ≡ (if a then x otherwise y) }
 {
     if a { x } else { y }
 }

@@ -1,7 +1,7 @@
 -- How the code computes pulls: a pull, whether its lengths are allowed, and sums of pulls.
 use Rattle.std.specs.Prelude.{Bool, true, ◌&&◌, List, [], ◌∷◌, ◌≡◌, Float}
 use Rattle.std.specs.Float.Ieee.{neg}
-use Rattle.base.specs.Choice.{if◌then◌else◌}
+use Rattle.base.specs.Choice.{if◌then◌otherwise◌}
 use Rattle.base.specs.Floats.{◌⊕◌, ◌⊖◌, ◌⊗◌, ◌⊘◌, zero64}
 use Rattle.root.specs.Root.{root_of, roots_of}
 use Rattle.root.specs.declared.ThreeRoots.{ThreeRoots}
@@ -44,7 +44,7 @@ taken_off sum near far =
     }
 
 abbrev pub less_near : Pull → Other → Pull → Pull
-less_near sum b near = if used b.m then taken_off sum near b.pull else sum
+less_near sum b near = if used b.m then taken_off sum near b.pull otherwise sum
 
 unfoldable pub less_by : Vector → Pull → Other → Pull
 less_by P sum b = less_near sum b (pull_of (minus P b.place) b.m)

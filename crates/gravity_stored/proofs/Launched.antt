@@ -3,7 +3,7 @@ use mathlib.Core.Bool.{Bool, true, false}
 use mathlib.Core.List.{List}
 use mathlib.Core.Path.{◌≡◌, refl, ap}
 use Prim.Native.Nat.{ℕ}
-use Rattle.base.specs.Choice.{if◌then◌else◌, ◌=?◌}
+use Rattle.base.specs.Choice.{if◌then◌otherwise◌, ◌=?◌}
 use Rattle.base.specs.Limits.{is_moment}
 use Rattle.state.specs.State.{position, acceleration, bare, finite_state, setting_allowed, centre_allowed}
 use Rattle.state.specs.declared.State.{State}
@@ -27,7 +27,7 @@ module _ (b : List ℕ) (setting : Setting) where
   unfolding launched injection_answer kept
   launched_bare i = go (injection_refusal b setting i =? 0)
     where
-      go : (none : Bool) → bare (or_none i (if none then kept_by i (rule_at b setting i) else Refused (injection_refusal b setting i))) ≡ i
+      go : (none : Bool) → bare (or_none i (if none then kept_by i (rule_at b setting i) otherwise Refused (injection_refusal b setting i))) ≡ i
       go true = by_rule i (rule_at b setting i)
       go false = refl
 

@@ -7,7 +7,7 @@ use native.Mathlib.Omega.{arith}
 use borrow.Author.Tests.{eq-eqb}
 use lib.Ieee.{Float, binary64, to_bits}
 use lib.Ieee.Scale.{finite}
-use Rattle.base.specs.Choice.{if◌then◌else◌, ◌=?◌}
+use Rattle.base.specs.Choice.{if◌then◌otherwise◌, ◌=?◌}
 use Rattle.state.specs.State.{position, acceleration, carrying, bare, same_bits, same_vector, finite_vector}
 use Rattle.state.specs.declared.Vector.{Vector}
 use Rattle.state.specs.declared.State.{State}
@@ -57,7 +57,7 @@ module _ (b : List ℕ) (setting : Setting) where
   unfolding stored_is_rule stored_refusal
   only_stored s = go (rule_at b setting (bare s)) (rule_refused (λ (k : ℕ). not (k =? 0)) refl refl b setting s.centre s.moment (position s))
     where
-      by : (same : Bool) → ◌≡◌ {A = ℕ} (if same then 0 else 15) 0 → same ≡ true
+      by : (same : Bool) → ◌≡◌ {A = ℕ} (if same then 0 otherwise 15) 0 → same ≡ true
       by true e = refl
       by false e = absurd (omega arith)
 
@@ -82,6 +82,6 @@ module _ (b : List ℕ) (setting : Setting) where
   unfolding injection_answer
   injection_is_rule i s = go (injection_refusal b setting i =? 0)
     where
-      go : (none : Bool) → (if none then kept b setting i else Refused (injection_refusal b setting i)) ≡ Injected s → stored_is_rule b setting s ≡ true
+      go : (none : Bool) → (if none then kept b setting i otherwise Refused (injection_refusal b setting i)) ≡ Injected s → stored_is_rule b setting s ≡ true
       go true e = kept_is_rule i s e
       go false e = let z : ◌≡◌ {A = ℕ} 0 1 = cc in absurd (omega arith)

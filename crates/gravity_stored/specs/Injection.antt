@@ -1,6 +1,6 @@
 -- Document 02, R-8: "Injection, step and change of centre must keep it equal to the rule at that state".
 use Rattle.std.specs.Prelude.{Bool, false, List, ℕ}
-use Rattle.base.specs.Choice.{if◌then◌else◌, ◌=?◌}
+use Rattle.base.specs.Choice.{if◌then◌otherwise◌, ◌=?◌}
 use Rattle.base.specs.Limits.{is_moment}
 use Rattle.state.specs.State.{acceleration, starting_position, carrying, bare, same_vector, finite_injection, centre_allowed}
 use Rattle.state.specs.declared.State.{State}
@@ -34,7 +34,7 @@ injection_refusal b setting i =
 unfoldable pub injection_answer : List ℕ → Setting → Injection → InjectionAnswer
 injection_answer b setting i =
     let k = injection_refusal b setting i in
-    if k =? 0 then kept b setting i else Refused k
+    if k =? 0 then kept b setting i otherwise Refused k
 
 -- Whether the acceleration stored with a state is the rule's at that state, "by its bits".
 abbrev pub stored_is_rule_by : State → AccelerationAnswer → Bool
@@ -46,7 +46,7 @@ stored_is_rule b setting s = stored_is_rule_by s (rule_at b setting (bare s))
 
 -- "A run call checks it once": "the rule's own 6 or 7, then, in a run, 15 for a stored value that is not the rule's"; 0 if it is
 abbrev pub stored_refusal_by : State → AccelerationAnswer → ℕ
-stored_refusal_by s (rule.Is a) = if same_vector a (acceleration s) then 0 else 15
+stored_refusal_by s (rule.Is a) = if same_vector a (acceleration s) then 0 otherwise 15
 stored_refusal_by s (rule.Refused k) = k
 
 unfoldable pub stored_refusal : List ℕ → Setting → State → ℕ

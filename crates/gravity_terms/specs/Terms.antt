@@ -1,6 +1,6 @@
 -- Document 02, R-7: the two last terms of the acceleration, an oblate Earth and sunlight.
 use Rattle.std.specs.Prelude.{Bool, true, ◌&&◌}
-use Rattle.base.specs.Choice.{if◌then◌else◌}
+use Rattle.base.specs.Choice.{if◌then◌otherwise◌}
 use Rattle.base.specs.Floats.{◌⊖◌, ◌⊗◌, ◌⊘◌, whole}
 use Rattle.state.specs.State.{n, used}
 use Rattle.state.specs.declared.Vector.{Vector}
@@ -22,11 +22,11 @@ flattened s Q pull a =
 
 -- "A term whose J or K is zero is left out"
 abbrev pub oblate : Setting → Vector → Vector → Vector
-oblate s Q a = if used s.j then flattened s Q (g Q s.earth) a else a
+oblate s Q a = if used s.j then flattened s Q (g Q s.earth) a otherwise a
 
 -- "Sunlight, with setting K ..: plus g of the position from the Sun with K"; S is that position
 abbrev pub sunlit : Setting → Vector → Vector → Vector
-sunlit s S a = if used s.k then plus a (g S s.k) else a
+sunlit s S a = if used s.k then plus a (g S s.k) otherwise a
 
 -- "two accelerations, after all others and in this order"
 abbrev pub last_terms : Setting → Vector → Vector → Vector → Vector
@@ -34,7 +34,7 @@ last_terms s Q S a = sunlit s S (oblate s Q a)
 
 -- n and r3 of a term must be allowed, as for every pull; a term that is left out is not checked
 abbrev pub sound_if : Bool → Vector → Bool
-sound_if on v = if on then sound v else true
+sound_if on v = if on then sound v otherwise true
 
 abbrev pub last_sound : Setting → Vector → Vector → Bool
 last_sound s Q S = sound_if (used s.j) Q && sound_if (used s.k) S

@@ -3,7 +3,7 @@ use mathlib.Core.Bool.{Bool, true, false}
 use mathlib.Core.Path.{◌≡◌, refl}
 use Prim.Native.Nat.{ℕ, ◌/◌, ◌%◌, ◌<◌}
 use native.Mathlib.Omega.{arith}
-use Rattle.base.specs.Choice.{if◌then◌else◌, ◌=?◌}
+use Rattle.base.specs.Choice.{if◌then◌otherwise◌, ◌=?◌}
 use Rattle.base.specs.Limits.{circle}
 use Rattle.hour_1982.specs.Sidereal.{sidereal1982}
 use Rattle.hour_old.specs.DocumentOne.{denominator, numerator, document_one}
@@ -13,7 +13,7 @@ use Rattle.hour_rounding.proofs.Rounding.{Rounded, rounded, into_circle_below}
 denominator_above : (rule d t : ℕ) → 0 < (rule_of rule d t).denominator
 denominator_above rule d t = by (rule =? 0)
   where
-    by : (b : Bool) → 0 < (if b then document_one d t else sidereal1982 d t).denominator
+    by : (b : Bool) → 0 < (if b then document_one d t otherwise sidereal1982 d t).denominator
     by true = omega arith
     by false = omega arith
 

@@ -3,7 +3,7 @@ use mathlib.Core.Bool.{Bool, true, false, not}
 use mathlib.Core.Path.{◌≡◌, refl}
 use Prim.Native.Nat.{ℕ, ◌<◌}
 use native.Mathlib.Omega.{arith}
-use Rattle.base.specs.Choice.{if◌then◌else◌, ◌<?◌}
+use Rattle.base.specs.Choice.{if◌then◌otherwise◌, ◌<?◌}
 use Rattle.base.specs.Limits.{is_moment, is_dut, circle}
 use Rattle.base.proofs.OneAnswer.{OneAnswer, one_answer}
 use Rattle.hour.specs.declared.HourAnswer.TheVariants.{Parts, Refused}
@@ -19,7 +19,7 @@ pub hour_angle_answers_once : OneAnswer hour_angle.ended (λ M 𝓤 𝓛. hour_a
 hour_angle_answers_once = one_answer (λ κs inputs. hour_answer inputs.0 inputs.1.0) (λ M 𝓤 𝓛 mem run κs inputs g r after. refl)
 
 answer_cases : (a b c d : Bool) (x p : ℕ) → x < circle
-    → (if not a then Refused 4 else if not b then Refused 4 else if not c then Refused 3 else if d then Refused 3 else Parts x) ≡ Parts p → p < circle
+    → (if not a then Refused 4 otherwise if not b then Refused 4 otherwise if not c then Refused 3 otherwise if d then Refused 3 otherwise Parts x) ≡ Parts p → p < circle
 answer_cases true true true false x p h e = let q : x ≡ p = cc in omega arith
 answer_cases true true true true x p h e = let z : ◌≡◌ {A = ℕ} 0 1 = cc in absurd (omega arith)
 answer_cases true true false d x p h e = let z : ◌≡◌ {A = ℕ} 0 1 = cc in absurd (omega arith)

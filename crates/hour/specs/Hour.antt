@@ -1,6 +1,6 @@
 -- Document 01, "Time" and "Hour angle", and document 02, R-9: UT, and the two rules as exact fractions. The answer has the refusals.
 use Rattle.std.specs.Prelude.{Bool, not, ℕ, ◌-◌, ◌/◌, ◌%◌}
-use Rattle.base.specs.Choice.{if◌then◌else◌, ◌<?◌, ◌≤?◌, ◌=?◌}
+use Rattle.base.specs.Choice.{if◌then◌otherwise◌, ◌<?◌, ◌≤?◌, ◌=?◌}
 use Rattle.base.specs.Limits.{is_moment, is_dut, day_length}
 use Rattle.hour_rounding.specs.Fraction.{Fraction, into_circle}
 use Rattle.hour_old.specs.DocumentOne.{document_one}
@@ -20,7 +20,7 @@ abbrev pub is_rule : ℕ → Bool
 is_rule rule = rule ≤? 1
 
 abbrev pub rule_of : ℕ → ℕ → ℕ → Fraction
-rule_of rule d t = if rule =? 0 then document_one d t else sidereal1982 d t
+rule_of rule d t = if rule =? 0 then document_one d t otherwise sidereal1982 d t
 
 -- the hour angle by a rule, from d whole days and t milliseconds of UT
 unfoldable pub sidereal_angle : ℕ → ℕ → ℕ → ℕ
@@ -29,10 +29,10 @@ sidereal_angle rule d t = into_circle (rule_of rule d t)
 -- refusals "4 (DUT), 3", and "a rule other than the two is 4": a moment out of range, then "UT below 0"
 abbrev pub sidereal_answer : ℕ → ℕ → ℕ → HourAnswer
 sidereal_answer rule moment dut =
-    if not (is_dut dut) then Refused 4 else
-    if not (is_rule rule) then Refused 4 else
-    if not (is_moment moment) then Refused 3 else
-    if moment <? dut then Refused 3 else
+    if not (is_dut dut) then Refused 4 otherwise
+    if not (is_rule rule) then Refused 4 otherwise
+    if not (is_moment moment) then Refused 3 otherwise
+    if moment <? dut then Refused 3 otherwise
     Parts (sidereal_angle rule (ut_day moment dut) (ut_time moment dut))
 
 -- document 01's hour angle: "an old setting means the old rule"

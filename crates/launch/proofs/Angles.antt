@@ -5,7 +5,7 @@ use Prim.Native.Nat.{◌-◌, ◌≤◌, ◌<◌}
 use native.Mathlib.Omega.{arith}
 use lib.Dec.{eqb}
 use borrow.Author.Tests.{ltb-true, leb-true, eqb-false}
-use Rattle.base.specs.Choice.{if◌then◌else◌, ◌<?◌, ◌≤?◌, ◌=?◌}
+use Rattle.base.specs.Choice.{if◌then◌otherwise◌, ◌<?◌, ◌≤?◌, ◌=?◌}
 use Rattle.base.specs.Limits.{circle}
 use Rattle.base.proofs.Bools.{left, right}
 use Rattle.launch.specs.declared.Signed.{Signed}
@@ -36,7 +36,7 @@ angles s h =
 pub within_circle : (a : Signed) → a.parts ≤ quarter → parts_of a < circle
 within_circle a l = go a.below (a.parts =? 0) refl
   where
-    go : (below zero : Bool) → (a.parts =? 0) ≡ zero → (if below then (if zero then 0 else circle - a.parts) else a.parts) < circle
+    go : (below zero : Bool) → (a.parts =? 0) ≡ zero → (if below then (if zero then 0 otherwise circle - a.parts) otherwise a.parts) < circle
     go true true e = omega arith
     go true false e = let n : a.parts ≡ 0 → ⊥ = eqb-false _ _ e in omega arith
     go false zero e = omega arith

@@ -3,14 +3,14 @@ use mathlib.Core.Bool.{Bool, true, false, not}
 use mathlib.Core.Path.{◌≡◌, refl}
 use Prim.Native.Nat.{ℕ}
 use native.Mathlib.Omega.{arith}
-use Rattle.base.specs.Choice.{if◌then◌else◌}
+use Rattle.base.specs.Choice.{if◌then◌otherwise◌}
 use Rattle.state.specs.State.{finite_injection}
 use Rattle.launch.specs.declared.Sphere.{Sphere}
 use Rattle.launch.specs.declared.SphereAnswer.TheVariants.{Injected, Refused}
 use Rattle.launch.specs.Sphere.{angles_allowed, sizes_allowed, injected, injection_answer}
 
 abbrev pub checks : Bool → Bool → ℕ
-checks angles sizes = if not angles then 12 else if not sizes then 7 else 0
+checks angles sizes = if not angles then 12 otherwise if not sizes then 7 otherwise 0
 
 pub angles_pass : (angles sizes : Bool) → checks angles sizes ≡ 0 → angles ≡ true
 angles_pass true sizes e = refl
@@ -28,9 +28,9 @@ module _ (s : Sphere) (rule moment dut : ℕ) (angles sizes : Bool) (a : angles 
     where
       go : (angles sizes : Bool) → (checks angles sizes ≡ 0 → ⊥)
           → Refused (checks angles sizes)
-          ≡ (if not angles then Refused 12 else
-          if not sizes then Refused 7 else
-          if finite_injection (injected s rule moment dut) then Injected (injected s rule moment dut) else Refused 7)
+          ≡ (if not angles then Refused 12 otherwise
+          if not sizes then Refused 7 otherwise
+          if finite_injection (injected s rule moment dut) then Injected (injected s rule moment dut) otherwise Refused 7)
       go true true some = absurd (some refl)
       go true false some = refl
       go false sizes some = refl

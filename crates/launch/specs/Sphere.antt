@@ -1,7 +1,7 @@
 -- Document 02, R-4: an injection as launch crews speak it.
 use Rattle.std.specs.Prelude.{Bool, not, ◌&&◌, ℕ, ◌-◌}
 use Rattle.std.specs.Float.Ieee.Scale.{finite}
-use Rattle.base.specs.Choice.{if◌then◌else◌, ◌<?◌, ◌≤?◌, ◌=?◌}
+use Rattle.base.specs.Choice.{if◌then◌otherwise◌, ◌<?◌, ◌≤?◌, ◌=?◌}
 use Rattle.base.specs.Limits.{circle}
 use Rattle.base.specs.Floats.{above0}
 use Rattle.state.specs.declared.Injection.{Injection}
@@ -28,7 +28,7 @@ angles_allowed s =
 
 -- "Sine and cosine of a negative angle are those of the angle plus a circle"; an angle of 0 parts is not negative
 abbrev pub parts_of : Signed → ℕ
-parts_of a = if a.below then (if a.parts =? 0 then 0 else circle - a.parts) else a.parts
+parts_of a = if a.below then (if a.parts =? 0 then 0 otherwise circle - a.parts) otherwise a.parts
 
 -- Earth-fixed position and velocity of the injection
 unfoldable pub place_of : Sphere → Vector
@@ -50,9 +50,9 @@ sizes_allowed s = finite s.radius && finite s.speed && above0 s.radius
 -- "Refusals, after 4 and 3: angle out of range 12; radius or speed not finite, radius not above 0, or a non-finite result, 7"
 unfoldable pub injection_answer : Sphere → ℕ → ℕ → ℕ → SphereAnswer
 injection_answer s rule moment dut =
-    if not (angles_allowed s) then Refused 12 else
-    if not (sizes_allowed s) then Refused 7 else
-    if finite_injection (injected s rule moment dut) then Injected (injected s rule moment dut) else Refused 7
+    if not (angles_allowed s) then Refused 12 otherwise
+    if not (sizes_allowed s) then Refused 7 otherwise
+    if finite_injection (injected s rule moment dut) then Injected (injected s rule moment dut) otherwise Refused 7
 
 -- an answer after the refusals of the hour angle, 4 (DUT, rule) and 3
 abbrev pub after_hour : HourAnswer → SphereAnswer → SphereAnswer

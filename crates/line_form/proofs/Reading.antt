@@ -1,7 +1,7 @@
 -- How the loops over a line's bytes and fields come to what the definitions say of the whole line.
 use Prim.Native.Nat.{ℕ, ◌+◌, ◌<◌}
 use mathlib.Core.Bool.{Bool, true, false, ◌&&◌}
-use Rattle.base.specs.Choice.{if◌then◌else◌}
+use Rattle.base.specs.Choice.{if◌then◌otherwise◌}
 use mathlib.Core.List.{List, [], ◌∷◌, ◌++◌}
 use mathlib.Core.Path.{◌≡◌, refl, sym, ap, ◌∙◌}
 use native.Mathlib.Numerals.{add-one}
@@ -81,7 +81,7 @@ module _ (line kinds : List ℕ) (from : ℕ) where
   unfolding fields_from
   read_all numbers at r = sym (r ∙ rw (drop-length kinds) (by_end (eqb at (length line))))
     where
-      by_end : (t : Bool) → prepend (take (length kinds) numbers) (if t then These [] else Unreadable) ≡ or_unreadable t (take (length kinds) numbers)
+      by_end : (t : Bool) → prepend (take (length kinds) numbers) (if t then These [] otherwise Unreadable) ≡ or_unreadable t (take (length kinds) numbers)
       by_end true = prepend_none (take (length kinds) numbers)
       by_end false = prepend_unreadable (take (length kinds) numbers)
 

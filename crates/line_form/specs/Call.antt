@@ -1,6 +1,6 @@
 -- The line of a call: a name, and then one field for each kind of the call, each after one space.
 use Rattle.std.specs.Prelude.{ℕ, ◌+◌, ◌-◌, Bool, true, false, ◌&&◌, List, [], ◌∷◌, length, get_or, drop}
-use Rattle.base.specs.Choice.{if◌then◌else◌, ◌<?◌, ◌≤?◌, ◌=?◌}
+use Rattle.base.specs.Choice.{if◌then◌otherwise◌, ◌<?◌, ◌≤?◌, ◌=?◌}
 use Rattle.text_read.specs.declared.Field.{Field}
 use Rattle.text_read.specs.declared.Field.TheVariants.{Value, Bad}
 use Rattle.text_write.specs.Fields.{read_decimal, read_hex16}
@@ -8,11 +8,11 @@ use Rattle.text_write.specs.Fields.{read_decimal, read_hex16}
 -- a number that fits 32 bits
 abbrev pub below32 : Field → Field
 below32 Bad = Bad
-below32 (Value n next) = if n <? 0x1_0000_0000 then Value n next else Bad
+below32 (Value n next) = if n <? 0x1_0000_0000 then Value n next otherwise Bad
 
 -- an angle that may have a minus sign is kept as 64 bits with a sign; a number from 2^62 on counts as 2^62, which no angle reaches
 abbrev pub cap : ℕ → ℕ
-cap n = if n <? 0x4000_0000_0000_0000 then n else 0x4000_0000_0000_0000
+cap n = if n <? 0x4000_0000_0000_0000 then n otherwise 0x4000_0000_0000_0000
 
 abbrev pub above_zero : Field → Field
 above_zero Bad = Bad
@@ -20,14 +20,14 @@ above_zero (Value n next) = Value (cap n) next
 
 abbrev pub below_zero : Field → Field
 below_zero Bad = Bad
-below_zero (Value n next) = Value (if n =? 0 then 0 else 0x1_0000_0000_0000_0000 - cap n) next
+below_zero (Value n next) = Value (if n =? 0 then 0 otherwise 0x1_0000_0000_0000_0000 - cap n) next
 
 -- a minus sign is 45
 unfoldable pub read_signed : List ℕ → ℕ → Field
 read_signed line at =
     if at <? length line
-    then (if get_or line at 0 =? 45 then below_zero (read_decimal line (at + 1)) else above_zero (read_decimal line at))
-    else Bad
+    then (if get_or line at 0 =? 45 then below_zero (read_decimal line (at + 1)) otherwise above_zero (read_decimal line at))
+    otherwise Bad
 
 unfoldable pub starts_with : List ℕ → List ℕ → Bool
 starts_with line [] = true
@@ -39,21 +39,21 @@ unfoldable pub read_printed : List ℕ → ℕ → Field
 read_printed line at =
     if (at ≤? length line) && starts_with (drop at line) (110 ∷ 97 ∷ 110 ∷ [])
     then Value 0x7ff8_0000_0000_0000 (at + 3)
-    else read_hex16 line at
+    otherwise read_hex16 line at
 
 -- the number at a place, by its kind: F (70) is a float, as its bits; S (83) a decimal of 32 bits; N (78) one that may have a minus sign. P
 -- (80) is a float as it is printed, and any other kind a decimal of 64 bits.
 abbrev pub number_at : ℕ → List ℕ → ℕ → Field
 number_at kind line at =
-    if kind =? 70 then read_hex16 line at else
-    if kind =? 83 then below32 (read_decimal line at) else
-    if kind =? 78 then read_signed line at else
-    if kind =? 80 then read_printed line at else read_decimal line at
+    if kind =? 70 then read_hex16 line at otherwise
+    if kind =? 83 then below32 (read_decimal line at) otherwise
+    if kind =? 78 then read_signed line at otherwise
+    if kind =? 80 then read_printed line at otherwise read_decimal line at
 
 -- the same after a space
 unfoldable pub field_at : ℕ → List ℕ → ℕ → Field
 field_at kind line at =
-    if at <? length line then (if get_or line at 0 =? 32 then number_at kind line (at + 1) else Bad) else Bad
+    if at <? length line then (if get_or line at 0 =? 32 then number_at kind line (at + 1) otherwise Bad) otherwise Bad
 
 -- the numbers of a call
 pub data Call : Type 0 where
@@ -70,11 +70,11 @@ and_then (Value n next) rest = ahead n (rest next)
 
 -- the fields of these kinds, from a place to the end of the line
 unfoldable pub fields_from : List ℕ → List ℕ → ℕ → Call
-fields_from line [] at = if at =? length line then These [] else Unreadable
+fields_from line [] at = if at =? length line then These [] otherwise Unreadable
 fields_from line (kind ∷ kinds) at = and_then (field_at kind line at) (fields_from line kinds)
 
 unfoldable pub call_of : List ℕ → List ℕ → List ℕ → Call
-call_of line name kinds = if starts_with line name then fields_from line kinds (length name) else Unreadable
+call_of line name kinds = if starts_with line name then fields_from line kinds (length name) otherwise Unreadable
 
 -- the result of a reader: whether the line has these fields; it leaves their numbers in an array of the caller
 abbrev pub or_unreadable : Bool → List ℕ → Call

@@ -8,7 +8,7 @@ use borrow.Author.Tests.{leb-true, leb-false, eqb-true}
 use lib.Dec.{leb, ltb, eqb}
 use lib.ListN.{length, take, drop, get_or}
 use lib.Seq.{length-take-le, take_all}
-use Rattle.base.specs.Choice.{if◌then◌else◌, ◌<?◌, ◌≤?◌, ◌=?◌}
+use Rattle.base.specs.Choice.{if◌then◌otherwise◌, ◌<?◌, ◌≤?◌, ◌=?◌}
 use Rattle.base.proofs.Bools.{left, right}
 use Rattle.text_read.specs.declared.Field.{Field}
 use Rattle.text_read.specs.declared.Field.TheVariants.{Value, Bad}
@@ -28,14 +28,14 @@ later : (a b : ℕ) (f : Field) → a ≤ b → Before a f → Before b f
 later a b Bad h w = tt
 later a b (Value n next) h w = omega arith
 
-if_else : (end : ℕ) (t : Bool) (f g : Field) → Before end f → Before end g → Before end (if t then f else g)
+if_else : (end : ℕ) (t : Bool) (f g : Field) → Before end f → Before end g → Before end (if t then f otherwise g)
 if_else end true f g w v = w
 if_else end false f g w v = v
 
 sized_before : (least count_most count n at : ℕ) → Before (at + count_most) (sized least count_most count n (at + count))
 sized_before least count_most count n at = go (leb least count) (leb count count_most) (leb-true count count_most)
   where
-    go : (t u : Bool) → (u ≡ true → count ≤ count_most) → Before (at + count_most) (if t && u then Value n (at + count) else Bad)
+    go : (t u : Bool) → (u ≡ true → count ≤ count_most) → Before (at + count_most) (if t && u then Value n (at + count) otherwise Bad)
     go true true h = let k : count ≤ count_most = h refl in omega arith
     go true false h = tt
     go false u h = tt
@@ -69,7 +69,7 @@ hex_before line at = later (at + 16) (at + 21) (read_hex16 line at) (omega arith
 signed_before : (line : List ℕ) (at : ℕ) → Before (at + 21) (read_signed line at)
 unfolding read_signed
 signed_before line at =
-    if_else (at + 21) (at <? length line) (if get_or line at 0 =? 45 then below_zero (read_decimal line (at + 1)) else above_zero (read_decimal line at)) Bad
+    if_else (at + 21) (at <? length line) (if get_or line at 0 =? 45 then below_zero (read_decimal line (at + 1)) otherwise above_zero (read_decimal line at)) Bad
     (if_else (at + 21) (get_or line at 0 =? 45) (below_zero (read_decimal line (at + 1))) (above_zero (read_decimal line at))
     (below_before (at + 21) (read_decimal line (at + 1)) (later (at + 1 + 20) (at + 21) (read_decimal line (at + 1)) (omega arith) (decimal_before line (at + 1))))
     (above_before (at + 21) (read_decimal line at) (later (at + 20) (at + 21) (read_decimal line at) (omega arith) (decimal_before line at))))
@@ -91,7 +91,7 @@ at_before kind line at =
 field_before : (kind : ℕ) (line : List ℕ) (at : ℕ) → Before (at + widest) (field_at kind line at)
 unfolding field_at
 field_before kind line at =
-    if_else (at + widest) (at <? length line) (if get_or line at 0 =? 32 then number_at kind line (at + 1) else Bad) Bad
+    if_else (at + widest) (at <? length line) (if get_or line at 0 =? 32 then number_at kind line (at + 1) otherwise Bad) Bad
     (if_else (at + widest) (get_or line at 0 =? 32) (number_at kind line (at + 1)) Bad
     (later (at + 1 + 21) (at + widest) (number_at kind line (at + 1)) (omega arith) (at_before kind line (at + 1)))
     tt)
@@ -121,7 +121,7 @@ fields_fit : (line kinds : List ℕ) (at : ℕ) → NoLonger (length line) (at +
 unfolding fields_from
 fields_fit line [] at = go (eqb at (length line)) (eqb-true at (length line))
   where
-    go : (t : Bool) → (t ≡ true → at ≡ length line) → NoLonger (length line) (at + 0) (if t then These [] else Unreadable)
+    go : (t : Bool) → (t ≡ true → at ≡ length line) → NoLonger (length line) (at + 0) (if t then These [] otherwise Unreadable)
     go true h = let e : at ≡ length line = h refl in omega arith
     go false h = tt
 fields_fit line (kind ∷ kinds) at = then_fits (length line) at (length kinds) (field_at kind line at) (fields_from line kinds) (field_before kind line at) (λ next. fields_fit line kinds next)
@@ -130,7 +130,7 @@ call_fits : (line name kinds : List ℕ) → NoLonger (length line) (length name
 unfolding call_of
 call_fits line name kinds = go (starts_with line name)
   where
-    go : (t : Bool) → NoLonger (length line) (length name + widest * length kinds) (if t then fields_from line kinds (length name) else Unreadable)
+    go : (t : Bool) → NoLonger (length line) (length name + widest * length kinds) (if t then fields_from line kinds (length name) otherwise Unreadable)
     go true = fields_fit line kinds (length name)
     go false = tt
 

@@ -9,7 +9,7 @@ use native.Mathlib.Omega.{arith}
 use borrow.Author.Tests.{lt-ltb, le-ltb, le-leb, lt-leb, ltb-true, leb-true, leb-false, eqb-true}
 use lib.Dec.{ltb, leb, eqb}
 use lib.ListN.{drop}
-use Rattle.base.specs.Choice.{if◌then◌else◌}
+use Rattle.base.specs.Choice.{if◌then◌otherwise◌}
 use Rattle.base.specs.Limits.{end_of_time, is_moment}
 use Rattle.base.proofs.Bools.{halves}
 use Rattle.text_write.specs.Numerals.{glyph, hex16, decimal_of}
@@ -121,7 +121,7 @@ record StateRead (k : Line) (given : List ℕ) : Type 0 where
   pub line_of : LineOf given row
 
 abbrev finite_then : ℕ → Row → ℕ → List ℕ → Line
-finite_then more before bits behind = if finite_bits bits then components more (pushed before bits) behind else line.Bad
+finite_then more before bits behind = if finite_bits bits then components more (pushed before bits) behind otherwise line.Bad
 
 -- a line is read as k, and k is not Bad
 module _ (k : Line) (good : line.Bad ≡ k → ⊥) where
@@ -133,7 +133,7 @@ module _ (k : Line) (good : line.Bad ≡ k → ⊥) where
   word_back (w ∷ ws) after [] e = absurd (good e)
   word_back (w ∷ ws) after (b ∷ rest) e = go (eqb b w) refl e (word_back ws after rest)
     where
-      go : (t : Bool) → eqb b w ≡ t → (if t then word ws after rest else line.Bad) ≡ k → (word ws after rest ≡ k → Worded ws after k rest) → Worded (w ∷ ws) after k (b ∷ rest)
+      go : (t : Bool) → eqb b w ≡ t → (if t then word ws after rest otherwise line.Bad) ≡ k → (word ws after rest ≡ k → Worded ws after k rest) → Worded (w ∷ ws) after k (b ∷ rest)
       go true q e later = let o = later e in
           record { rest = o.rest; is = ap₂ (λ (x : ℕ) (l : List ℕ). x ∷ l) (eqb-true b w q) o.is; goes_on = o.goes_on }
       go false q e later = absurd (good e)
@@ -144,7 +144,7 @@ module _ (k : Line) (good : line.Bad ≡ k → ⊥) where
     digits_back [] n e = alone n (append-nil (decimal_of n)) e
     digits_back (b ∷ rest) n e = go (eqb b 32) refl (ltb 0 n && is_decimal b) refl e (digits_back rest)
       where
-        go : (s : Bool) → eqb b 32 ≡ s → (t : Bool) → (ltb 0 n && is_decimal b) ≡ t → (if s then after rest else if t then digits (ltb 0 n) ends after rest else line.Bad) ≡ k
+        go : (s : Bool) → eqb b 32 ≡ s → (t : Bool) → (ltb 0 n && is_decimal b) ≡ t → (if s then after rest otherwise if t then digits (ltb 0 n) ends after rest otherwise line.Bad) ≡ k
             → ((n : ℕ) → digits (ltb 0 n) ends after rest ≡ k → Numbered ends after k (decimal_of n ++ rest)) → Numbered ends after k (decimal_of n ++ (b ∷ rest))
         go true q t u e later = spaced n rest (ap (λ (x : ℕ). decimal_of n ++ (x ∷ rest)) (eqb-true b 32 q)) e
         go false q true u e later =
@@ -160,7 +160,7 @@ module _ (k : Line) (good : line.Bad ≡ k → ⊥) where
     number_back [] e = absurd (good e)
     number_back (b ∷ rest) e = go (is_decimal b) refl e
       where
-        go : (t : Bool) → is_decimal b ≡ t → (if t then digits (ltb 48 b) ends after rest else line.Bad) ≡ k → Numbered ends after k (b ∷ rest)
+        go : (t : Bool) → is_decimal b ≡ t → (if t then digits (ltb 48 b) ends after rest otherwise line.Bad) ≡ k → Numbered ends after k (b ∷ rest)
         go true q e =
             let digit = decimal_byte b q in
             let low = digit.0 in
@@ -181,7 +181,7 @@ module _ (k : Line) (good : line.Bad ≡ k → ⊥) where
     component_back (suc left) j n [] s h e = absurd (good e)
     component_back (suc left) j n (b ∷ rest) s h e = go (ltb (hex_value b) 16) refl e (component_back left)
       where
-        go : (t : Bool) → ltb (hex_value b) 16 ≡ t → (if t then component left (appended n (hex_value b)) after rest else line.Bad) ≡ k
+        go : (t : Bool) → ltb (hex_value b) 16 ≡ t → (if t then component left (appended n (hex_value b)) after rest otherwise line.Bad) ≡ k
             → ((j n : ℕ) (rest : List ℕ) → j + left ≡ 16 → n < 16 ^ j → component left n after rest ≡ k → Spelled after k (text.digits 16 j n ++ rest))
             → Spelled after k (text.digits 16 j n ++ (b ∷ rest))
         go true q e later =
@@ -199,7 +199,7 @@ module _ (k : Line) (good : line.Bad ≡ k → ⊥) where
 
   -- ---- six components
 
-  if_good : (t : Bool) (l : Line) → (if t then l else line.Bad) ≡ k → (t ≡ true) × (l ≡ k)
+  if_good : (t : Bool) (l : Line) → (if t then l otherwise line.Bad) ≡ k → (t ≡ true) × (l ≡ k)
   if_good true l e = (refl, e)
   if_good false l e = absurd (good e)
 
@@ -262,7 +262,7 @@ module _ (k : Line) (good : line.Bad ≡ k → ⊥) where
   moment_back [] t h e = absurd (good e)
   moment_back (b ∷ rest) t h e = go (is_decimal b && ltb 0 t && is_moment (10 * t + (b - 48))) refl e (moment_back rest)
     where
-      go : (x : Bool) → (is_decimal b && ltb 0 t && is_moment (10 * t + (b - 48))) ≡ x → (if x then moment_from (10 * t + (b - 48)) rest else components 6 (blank t) (b ∷ rest)) ≡ k
+      go : (x : Bool) → (is_decimal b && ltb 0 t && is_moment (10 * t + (b - 48))) ≡ x → (if x then moment_from (10 * t + (b - 48)) rest otherwise components 6 (blank t) (b ∷ rest)) ≡ k
           → ((t : ℕ) → t < end_of_time → moment_from t rest ≡ k → StateRead k (decimal_of t ++ rest)) → StateRead k (decimal_of t ++ (b ∷ rest))
       go true q e later =
           let three = halves (is_decimal b && ltb 0 t) (is_moment (10 * t + (b - 48))) q in
@@ -276,7 +276,7 @@ module _ (k : Line) (good : line.Bad ≡ k → ⊥) where
   state_read [] e = absurd (good e)
   state_read (b ∷ rest) e = go (is_decimal b) refl e
     where
-      go : (t : Bool) → is_decimal b ≡ t → (if t then moment_from (b - 48) rest else line.Bad) ≡ k → StateRead k (b ∷ rest)
+      go : (t : Bool) → is_decimal b ≡ t → (if t then moment_from (b - 48) rest otherwise line.Bad) ≡ k → StateRead k (b ∷ rest)
       go true q e =
           let digit = decimal_byte b q in
           let high = digit.1 in
@@ -326,7 +326,7 @@ module _ (k : Line) (good : line.Bad ≡ k → ⊥) where
   kind_back (b ∷ rest) e = go (eqb b 83) (eqb b 65) (eqb b 82) e
     where
       go : (s a d : Bool)
-          → (if s then header_line (b ∷ rest) else if a then arrived_line (b ∷ rest) else if d then refused_line (b ∷ rest) else state_line (b ∷ rest)) ≡ k
+          → (if s then header_line (b ∷ rest) otherwise if a then arrived_line (b ∷ rest) otherwise if d then refused_line (b ∷ rest) otherwise state_line (b ∷ rest)) ≡ k
           → HasKind (b ∷ rest) k
       go true a d e = header_back (b ∷ rest) e
       go false true d e = arrived_back (b ∷ rest) e

@@ -1,6 +1,6 @@
 -- The digits in the lines of a listing, and the numbers that they spell.
 use Rattle.std.specs.Prelude.{ℕ, ◌+◌, ◌-◌, ◌*◌, ◌%◌, ◌<◌, Bool, ◌&&◌}
-use Rattle.base.specs.Choice.{if◌then◌else◌, ◌<?◌, ◌≤?◌}
+use Rattle.base.specs.Choice.{if◌then◌otherwise◌, ◌<?◌, ◌≤?◌}
 
 abbrev pub between : ℕ → ℕ → ℕ → Bool
 between low b high = (low ≤? b) && (b ≤? high)
@@ -12,8 +12,8 @@ is_decimal b = between 48 b 57
 -- "16 lowercase hexadecimal digits": 0 to 9, a to f; 16 for any other byte
 abbrev pub hex_value : ℕ → ℕ
 hex_value b =
-    if is_decimal b then b - 48 else
-    if between 97 b 102 then b - 87 else 16
+    if is_decimal b then b - 48 otherwise
+    if between 97 b 102 then b - 87 otherwise 16
 
 -- the 64 bits that hexadecimal digits spell, after one digit more
 abbrev pub appended : ℕ → ℕ → ℕ

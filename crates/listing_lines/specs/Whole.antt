@@ -1,7 +1,7 @@
 -- The line of a state that lies whole in a block with its line feed, read at once. The law `whole_line` of listing_read says that the
 -- result is the same as reading byte by byte.
 use Rattle.std.specs.Prelude.{ℕ, zero, suc, ◌+◌, ◌-◌, ◌*◌, ◌<◌, Bool, true, false, ◌&&◌, List, [], ◌∷◌, ◌≡◌, length, get_or, drop}
-use Rattle.base.specs.Choice.{if◌then◌else◌, ◌<?◌, ◌=?◌}
+use Rattle.base.specs.Choice.{if◌then◌otherwise◌, ◌<?◌, ◌=?◌}
 use Rattle.base.specs.Limits.{is_moment}
 use Rattle.listing_lines.specs.Digits.{is_decimal, hex_value, appended, finite_bits}
 use Rattle.listing_lines.specs.declared.Spelled.{Spelled}
@@ -19,14 +19,14 @@ unspelled = record { bits = 0; whole = false }
 unfoldable pub spelled_from : List ℕ → ℕ → ℕ → ℕ → Spelled
 spelled_from block zero at bits = record { bits = bits; whole = true }
 spelled_from block (suc left) at bits =
-    if hex_value (get_or block at 0) <? 16 then spelled_from block left (at + 1) (appended bits (hex_value (get_or block at 0))) else unspelled
+    if hex_value (get_or block at 0) <? 16 then spelled_from block left (at + 1) (appended bits (hex_value (get_or block at 0))) otherwise unspelled
 
 abbrev pub finite_only : Spelled → Spelled
-finite_only s = if s.whole then (if finite_bits s.bits then s else unspelled) else unspelled
+finite_only s = if s.whole then (if finite_bits s.bits then s otherwise unspelled) otherwise unspelled
 
 -- a space and a component after it
 unfoldable pub component_at : List ℕ → ℕ → Spelled
-component_at block at = if get_or block at 0 =? 32 then finite_only (spelled_from block 16 (at + 1) 0) else unspelled
+component_at block at = if get_or block at 0 =? 32 then finite_only (spelled_from block 16 (at + 1) 0) otherwise unspelled
 
 -- whether a byte is one more digit of a moment: no digit follows a leading zero, and the moment must stay in range
 unfoldable pub goes_on : ℕ → ℕ → Bool
@@ -36,7 +36,7 @@ goes_on t b = is_decimal b && (0 <? t) && is_moment (10 * t + (b - 48))
 unfoldable pub moment_on : List ℕ → ℕ → ℕ → Numbered
 moment_on [] t at = record { t = t; end = at }
 moment_on (b ∷ rest) t at =
-    if goes_on t b then moment_on rest (10 * t + (b - 48)) (at + 1) else record { t = t; end = at }
+    if goes_on t b then moment_on rest (10 * t + (b - 48)) (at + 1) otherwise record { t = t; end = at }
 
 abbrev pub no_line : WholeLine
 no_line = record { whole = false; moment = 0; x = 0; y = 0; z = 0; vx = 0; vy = 0; vz = 0; end = 0 }
@@ -66,12 +66,12 @@ six_at block at t =
 unfoldable pub after_moment : List ℕ → Numbered → WholeLine
 after_moment block m =
     if m.end + 102 <? length block
-    then (if get_or block (m.end + 102) 0 =? 10 then six_at block m.end m.t else no_line)
-    else no_line
+    then (if get_or block (m.end + 102) 0 =? 10 then six_at block m.end m.t otherwise no_line)
+    otherwise no_line
 
 -- the line that begins at a place, by its first byte
 abbrev pub from_byte : List ℕ → ℕ → ℕ → WholeLine
-from_byte block at b = if is_decimal b then after_moment block (moment_on (drop (at + 1) block) (b - 48) (at + 1)) else no_line
+from_byte block at b = if is_decimal b then after_moment block (moment_on (drop (at + 1) block) (b - 48) (at + 1)) otherwise no_line
 
 unfoldable pub state_line_at : List ℕ → ℕ → WholeLine
-state_line_at block at = if at <? length block then from_byte block at (get_or block at 0) else no_line
+state_line_at block at = if at <? length block then from_byte block at (get_or block at 0) otherwise no_line

@@ -7,7 +7,7 @@ use native.Mathlib.Nat.{add-zero}
 use native.Mathlib.Omega.{arith}
 use borrow.Author.Tests.{lt-ltb, le-ltb, ne_eqb}
 use lib.ListN.{length, length-append}
-use Rattle.base.specs.Choice.{if◌then◌else◌}
+use Rattle.base.specs.Choice.{if◌then◌otherwise◌}
 use Rattle.listing_scan.specs.declared.Line.{Line}
 use Rattle.listing_scan.specs.declared.Line.TheVariants as line
 use Rattle.listing_read.specs.declared.Place.{Place}
@@ -27,7 +27,7 @@ unfolding refused_from
 off_stays n [] = refl
 off_stays n (l ∷ ls) = refl
 
-onward : (q : Place) (n : ℕ) (ls : List Line) → (if is_off q then n else refused_from q (n + 1) ls) ≡ refused_from q (line_after q n) ls
+onward : (q : Place) (n : ℕ) (ls : List Line) → (if is_off q then n otherwise refused_from q (n + 1) ls) ≡ refused_from q (line_after q n) ls
 onward Off n ls = sym (off_stays n ls)
 onward Top n ls = refl
 onward First n ls = refl
@@ -140,7 +140,7 @@ unfolding rows_of
 no_rows = refl
 
 module _ (j : Judge) (known : Counted j) where
-  start_is : (t : Bool) → begun j.scan ≡ t → outcome_with j [] ≡ (if t then j.from else j.last)
+  start_is : (t : Bool) → begun j.scan ≡ t → outcome_with j [] ≡ (if t then j.from otherwise j.last)
   unfolding last_start
   start_is t e = rw (← known.fresh, e)
 

@@ -1,6 +1,6 @@
 -- How a listing is read byte by byte, in blocks.
 use Rattle.std.specs.Prelude.{ℕ, ◌+◌, ◌≤◌, List, [], ◌∷◌, ◌++◌, map, ◌≡◌, length, drop}
-use Rattle.base.specs.Choice.{if◌then◌else◌, ◌<?◌, ◌=?◌}
+use Rattle.base.specs.Choice.{if◌then◌otherwise◌, ◌<?◌, ◌=?◌}
 use Rattle.listing_scan.specs.declared.Line.{Line}
 use Rattle.listing_scan.specs.declared.Line.TheVariants as line
 use Rattle.listing_scan.specs.declared.Scan.{Scan}
@@ -18,7 +18,7 @@ use Rattle.listing_scan.specs.Bytes.{told, begun, on_byte}
 
 -- the kinds of the lines of a text; the scan has read some bytes of the first line before
 abbrev pub kinds_after : Scan → List (List ℕ) → List Line
-kinds_after s [] = if begun s then told s [] ∷ [] else []
+kinds_after s [] = if begun s then told s [] ∷ [] otherwise []
 kinds_after s (l ∷ ls) = told s l ∷ map kind_of ls
 
 unfoldable pub kinds_from : Scan → List ℕ → List Line
@@ -26,8 +26,8 @@ kinds_from s text = kinds_after s (lines_of text)
 
 -- the place of the first byte of the last line. The last line seen starts at `last`, the one being read at `from`, and the text at `at`.
 unfoldable pub last_start : ℕ → ℕ → ℕ → List ℕ → ℕ
-last_start last from at [] = if from <? at then from else last
-last_start last from at (b ∷ rest) = if b =? 10 then last_start from (at + 1) (at + 1) rest else last_start last from (at + 1) rest
+last_start last from at [] = if from <? at then from otherwise last
+last_start last from at (b ∷ rest) = if b =? 10 then last_start from (at + 1) (at + 1) rest otherwise last_start last from (at + 1) rest
 
 -- the result of reading a listing, by the rest of its text
 abbrev pub refusal_with : Judge → List ℕ → ℕ
@@ -41,7 +41,7 @@ outcome_with j rest = last_start j.last j.from j.read rest
 
 -- one more line, unless it is not of the form; one more state
 abbrev pub line_after : Place → ℕ → ℕ
-line_after q n = if is_off q then n else n + 1
+line_after q n = if is_off q then n otherwise n + 1
 
 abbrev pub rows_after : Line → ℕ → ℕ
 rows_after (line.State r) n = n + 1
@@ -93,11 +93,11 @@ closed j = record { refusal = missing j.place j.line; rows = j.rows; outcome = j
 
 -- a byte ends the line of a state if it is a line feed
 abbrev pub row_here : Scan → ℕ → Found
-row_here s b = if b =? 10 then row_of (told s []) else None
+row_here s b = if b =? 10 then row_of (told s []) otherwise None
 
 -- after one more byte of the text: a line feed starts a new line
 abbrev pub behind_byte : Scan → ℕ → Scan
-behind_byte s b = if b =? 10 then Start else on_byte s b
+behind_byte s b = if b =? 10 then Start otherwise on_byte s b
 
 -- the search ends at a state, otherwise it continues
 abbrev pub found_or : Found → Scan → ℕ → Next → Next

@@ -1,7 +1,7 @@
 -- The form of a listing as a whole (document 02, R-1): a lone refusal, or a header, states whose moments rise, and an outcome.
 -- "Form is judged line by line, not by h or the step count; a missing line is the one after the last."
 use Rattle.std.specs.Prelude.{ℕ, ◌+◌, Bool, true, false, List, [], ◌∷◌, ◌++◌, map}
-use Rattle.base.specs.Choice.{if◌then◌else◌, ◌<?◌, ◌=?◌}
+use Rattle.base.specs.Choice.{if◌then◌otherwise◌, ◌<?◌, ◌=?◌}
 use Rattle.listing_scan.specs.declared.Row.{Row}
 use Rattle.listing_scan.specs.declared.Line.{Line}
 use Rattle.listing_scan.specs.declared.Line.TheVariants as line
@@ -18,7 +18,7 @@ in_first b (l ∷ ls) = (b ∷ l) ∷ ls
 
 unfoldable pub lines_of : List ℕ → List (List ℕ)
 lines_of [] = []
-lines_of (b ∷ bs) = if b =? 10 then [] ∷ lines_of bs else in_first b (lines_of bs)
+lines_of (b ∷ bs) = if b =? 10 then [] ∷ lines_of bs otherwise in_first b (lines_of bs)
 
 unfoldable pub kinds_of : List ℕ → List Line
 kinds_of text = map kind_of (lines_of text)
@@ -37,7 +37,7 @@ found_rows (Is r) = r ∷ []
 
 -- "whose moments do not rise" is not of the form
 abbrev pub later : ℕ → ℕ → Place
-later t moment = if t <? moment then After moment else Off
+later t moment = if t <? moment then After moment otherwise Off
 
 -- the first line is a header or a lone refusal
 abbrev pub after_top : Line → Place
@@ -89,7 +89,7 @@ missing Off n = n
 -- the number of the first line that is not of the form, if line n is next at a stage of the reading; 0 if all are of the form
 unfoldable pub refused_from : Place → ℕ → List Line → ℕ
 refused_from p n [] = missing p n
-refused_from p n (l ∷ ls) = if is_off (placed p l) then n else refused_from (placed p l) (n + 1) ls
+refused_from p n (l ∷ ls) = if is_off (placed p l) then n otherwise refused_from (placed p l) (n + 1) ls
 
 -- "13 with its line number"; 0 for a text that is a listing
 unfoldable pub form_refusal : List ℕ → ℕ

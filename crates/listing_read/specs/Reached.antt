@@ -1,6 +1,6 @@
 -- A line up to its line feed, byte by byte.
 use Rattle.std.specs.Prelude.{ℕ, ◌+◌, ◌-◌, List, [], ◌∷◌, length, drop}
-use Rattle.base.specs.Choice.{if◌then◌else◌, ◌<?◌, ◌=?◌}
+use Rattle.base.specs.Choice.{if◌then◌otherwise◌, ◌<?◌, ◌=?◌}
 use Rattle.listing_lines.specs.declared.WholeLine.{WholeLine}
 use Rattle.listing_scan.specs.declared.Row.{Row}
 use Rattle.listing_scan.specs.declared.Scan.{Scan}
@@ -13,7 +13,7 @@ use Rattle.listing_read.specs.Bytes.{line_ended}
 -- the scan at the first line feed of some bytes, which begin at `at`, and its place; or after all of them
 unfoldable pub up_to_feed : List ℕ → ℕ → Scan → Reached
 up_to_feed [] at s = record { scan = s; at = at }
-up_to_feed (b ∷ bytes) at s = if b =? 10 then record { scan = s; at = at } else up_to_feed bytes (at + 1) (on_byte s b)
+up_to_feed (b ∷ bytes) at s = if b =? 10 then record { scan = s; at = at } otherwise up_to_feed bytes (at + 1) (on_byte s b)
 
 abbrev pub to_feed : List ℕ → ℕ → Scan → Reached
 to_feed block at s = up_to_feed (drop at block) at s
@@ -32,7 +32,7 @@ abbrev pub judged_to : List ℕ → ℕ → Judge → Reached → Judged
 judged_to block at j r =
     if r.at <? length block
     then record { judge = line_ended (read_on j r at) ((read_on j r at).read + 1); at = r.at + 1 }
-    else record { judge = read_on j r at; at = r.at }
+    otherwise record { judge = read_on j r at; at = r.at }
 
 unfoldable pub judged_line : List ℕ → ℕ → Judge → Judged
 judged_line block at j = judged_to block at j (to_feed block at j.scan)

@@ -1,6 +1,6 @@
 -- How a line is read byte by byte: what each value of a scan says about the rest of its line.
 use Rattle.std.specs.Prelude.{ℕ, suc, ◌+◌, ◌-◌, ◌*◌, Bool, true, false, ◌&&◌, List, [], ◌∷◌, ◌≡◌, length, drop, get_or}
-use Rattle.base.specs.Choice.{if◌then◌else◌, ◌<?◌, ◌=?◌}
+use Rattle.base.specs.Choice.{if◌then◌otherwise◌, ◌<?◌, ◌=?◌}
 use Rattle.base.specs.Limits.{is_moment}
 use Rattle.listing_words.specs.Words.{strip_word, arrived_word, refused_word}
 use Rattle.listing_scan.specs.declared.Row.{Row}
@@ -34,7 +34,7 @@ after_number Steps = nothing
 
 -- a component is complete: it must be finite
 abbrev pub settled : ℕ → Row → ℕ → List ℕ → Line
-settled more r bits behind = if finite_bits bits then components more (pushed r bits) behind else line.Bad
+settled more r bits behind = if finite_bits bits then components more (pushed r bits) behind otherwise line.Bad
 
 -- the kind of the line, by the rest of it
 unfoldable pub told : Scan → List ℕ → Line
@@ -64,16 +64,16 @@ Spaced w r = ((rest : List ℕ) → after_number w rest ≡ told r rest) × (beg
 
 abbrev pub on_first : ℕ → Scan
 on_first b =
-    if b =? 83 then Letters Strip 1 else
-    if b =? 65 then Letters Arrived 1 else
-    if b =? 82 then Letters Refused 1 else
-    if is_decimal b then Moment (b - 48) else Bad
+    if b =? 83 then Letters Strip 1 otherwise
+    if b =? 65 then Letters Arrived 1 otherwise
+    if b =? 82 then Letters Refused 1 otherwise
+    if is_decimal b then Moment (b - 48) otherwise Bad
 
 abbrev pub on_letter : Word → ℕ → ℕ → Scan
 on_letter w i b =
     if i <? length (letters_of w)
-    then (if b =? get_or (letters_of w) i 0 then Letters w (i + 1) else Bad)
-    else (if is_decimal b then Digits w (48 <? b) else Bad)
+    then (if b =? get_or (letters_of w) i 0 then Letters w (i + 1) otherwise Bad)
+    otherwise (if is_decimal b then Digits w (48 <? b) otherwise Bad)
 
 -- after the number of a refusal and a space: the steps; otherwise nothing
 abbrev pub behind_number : Word → Scan
@@ -84,28 +84,28 @@ behind_number Steps = Bad
 
 abbrev pub on_digit : Word → Bool → ℕ → Scan
 on_digit w more b =
-    if b =? 32 then behind_number w else
-    if more then (if is_decimal b then Digits w more else Bad) else Bad
+    if b =? 32 then behind_number w otherwise
+    if more then (if is_decimal b then Digits w more otherwise Bad) otherwise Bad
 
 abbrev pub on_behind : ℕ → Row → ℕ → Scan
 on_behind more r b =
-    if more =? 0 then Bad else
-    if b =? 32 then Component (more - 1) 15 0 r else Bad
+    if more =? 0 then Bad otherwise
+    if b =? 32 then Component (more - 1) 15 0 r otherwise Bad
 
 abbrev pub on_moment : ℕ → ℕ → Scan
 on_moment t b =
     if is_decimal b && (0 <? t) && is_moment (10 * t + (b - 48))
     then Moment (10 * t + (b - 48))
-    else on_behind 6 (blank t) b
+    otherwise on_behind 6 (blank t) b
 
 abbrev pub whole_component : ℕ → ℕ → Row → Scan
-whole_component more bits r = if finite_bits bits then Behind more (pushed r bits) else Bad
+whole_component more bits r = if finite_bits bits then Behind more (pushed r bits) otherwise Bad
 
 abbrev pub on_hex : ℕ → ℕ → ℕ → Row → ℕ → Scan
 on_hex more left bits r b =
     if hex_value b <? 16
-    then (if 0 <? left then Component more (left - 1) (appended bits (hex_value b)) r else whole_component more (appended bits (hex_value b)) r)
-    else Bad
+    then (if 0 <? left then Component more (left - 1) (appended bits (hex_value b)) r otherwise whole_component more (appended bits (hex_value b)) r)
+    otherwise Bad
 
 unfoldable pub on_byte : Scan → ℕ → Scan
 on_byte Start b = on_first b

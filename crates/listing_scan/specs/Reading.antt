@@ -1,7 +1,7 @@
 -- How the code reads a line byte by byte, from front to end: what kind of line it is, and its state if it has one. The law `kind_only_if` of
 -- listing_laws says that this is the form of Line.
 use Rattle.std.specs.Prelude.{ℕ, zero, suc, ◌+◌, ◌-◌, ◌*◌, Bool, ◌&&◌, List, [], ◌∷◌}
-use Rattle.base.specs.Choice.{if◌then◌else◌, ◌<?◌, ◌=?◌}
+use Rattle.base.specs.Choice.{if◌then◌otherwise◌, ◌<?◌, ◌=?◌}
 use Rattle.base.specs.Limits.{is_moment}
 pub use Rattle.listing_lines.specs.Digits.{is_decimal, hex_value, appended, finite_bits}
 use Rattle.listing_words.specs.Words.{strip_word, arrived_word, refused_word}
@@ -13,7 +13,7 @@ use Rattle.listing_scan.specs.declared.Line.TheVariants.{Header, State, Outcome,
 unfoldable pub word : List ℕ → (List ℕ → Line) → List ℕ → Line
 word [] after rest = after rest
 word (w ∷ ws) after [] = Bad
-word (w ∷ ws) after (b ∷ rest) = if b =? w then word ws after rest else Bad
+word (w ∷ ws) after (b ∷ rest) = if b =? w then word ws after rest otherwise Bad
 
 -- nothing more may follow in the line
 abbrev pub nothing : List ℕ → Line
@@ -23,13 +23,13 @@ nothing rest = Bad
 unfoldable pub digits : Bool → Line → (List ℕ → Line) → List ℕ → Line
 digits more ends after [] = ends
 digits more ends after (b ∷ rest) =
-    if b =? 32 then after rest else
-    if more && is_decimal b then digits more ends after rest else Bad
+    if b =? 32 then after rest otherwise
+    if more && is_decimal b then digits more ends after rest otherwise Bad
 
 -- a decimal number of any length, without a leading zero: 0 itself is one digit
 unfoldable pub number : Line → (List ℕ → Line) → List ℕ → Line
 number ends after [] = Bad
-number ends after (b ∷ rest) = if is_decimal b then digits (48 <? b) ends after rest else Bad
+number ends after (b ∷ rest) = if is_decimal b then digits (48 <? b) ends after rest otherwise Bad
 
 -- "a header with h": STRIP and a number
 unfoldable pub header_line : List ℕ → Line
@@ -48,7 +48,7 @@ unfoldable pub component : ℕ → ℕ → (ℕ → List ℕ → Line) → List 
 component zero bits after rest = after bits rest
 component (suc left) bits after [] = Bad
 component (suc left) bits after (b ∷ rest) =
-    if hex_value b <? 16 then component left (appended bits (hex_value b)) after rest else Bad
+    if hex_value b <? 16 then component left (appended bits (hex_value b)) after rest otherwise Bad
 
 -- one more component: the six are pushed in from the right, so that after all six the first is x
 abbrev pub pushed : Row → ℕ → Row
@@ -60,7 +60,7 @@ unfoldable pub components : ℕ → Row → List ℕ → Line
 components zero r [] = State r
 components zero r (b ∷ rest) = Bad
 components (suc more) r rest =
-    word (32 ∷ []) (component 16 0 (λ bits behind. if finite_bits bits then components more (pushed r bits) behind else Bad)) rest
+    word (32 ∷ []) (component 16 0 (λ bits behind. if finite_bits bits then components more (pushed r bits) behind otherwise Bad)) rest
 
 -- a moment, and no component yet
 abbrev pub blank : ℕ → Row
@@ -71,17 +71,17 @@ unfoldable pub moment_from : ℕ → List ℕ → Line
 moment_from t [] = Bad
 moment_from t (b ∷ rest) =
     if is_decimal b && (0 <? t) && is_moment (10 * t + (b - 48)) then moment_from (10 * t + (b - 48)) rest
-    else components 6 (blank t) (b ∷ rest)
+    otherwise components 6 (blank t) (b ∷ rest)
 
 -- "each state": its moment and six components
 unfoldable pub state_line : List ℕ → Line
 state_line [] = Bad
-state_line (b ∷ rest) = if is_decimal b then moment_from (b - 48) rest else Bad
+state_line (b ∷ rest) = if is_decimal b then moment_from (b - 48) rest otherwise Bad
 
 -- the kind of a line: its first byte shows which kind it can be
 unfoldable pub kind_of : List ℕ → Line
 kind_of [] = Bad
 kind_of (b ∷ rest) =
-    if b =? 83 then header_line (b ∷ rest) else
-    if b =? 65 then arrived_line (b ∷ rest) else
-    if b =? 82 then refused_line (b ∷ rest) else state_line (b ∷ rest)
+    if b =? 83 then header_line (b ∷ rest) otherwise
+    if b =? 65 then arrived_line (b ∷ rest) otherwise
+    if b =? 82 then refused_line (b ∷ rest) otherwise state_line (b ∷ rest)

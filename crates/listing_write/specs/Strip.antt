@@ -1,6 +1,6 @@
 -- Document 01, "strip": the text that it prints, from the bytes that it reads. (02, R-7) strip144 has the same definition.
 use Rattle.std.specs.Prelude.{ℕ, zero, suc, ◌-◌, ◌/◌, List, [], ◌∷◌, ◌++◌, drop}
-use Rattle.base.specs.Choice.{if◌then◌else◌, ◌=?◌}
+use Rattle.base.specs.Choice.{if◌then◌otherwise◌, ◌=?◌}
 use Rattle.state.specs.declared.State.{State}
 use Rattle.run.specs.Step.{Moved, On, Off, step}
 use Rattle.gravity_stored.specs.Injection.{launched}
@@ -43,7 +43,7 @@ order_text book o =
     let k = start_refusal book o.setting s o.h o.target in
     if k =? 0
     then header_line o.h ++ run_text (step book o.setting o.h) o.target (steps_to s o.h o.target) s
-    else lone_refusal k
+    otherwise lone_refusal k
 
 abbrev pub answer_text : List ℕ → OrderAnswer → List ℕ
 answer_text book (answer.Is o) = order_text book o

@@ -1,6 +1,6 @@
 -- What a frame shows. Assumes nothing.
 use Rattle.std.proofs.Common.{◌≡◌, ℕ, ◌-◌, ◌<◌, ◌≤◌, Bool, true, false, sym, refl, ap, ◌∙◌, arith, ltb-false, le-ltb, lt-ltb, eq-eqb, ne_eqb}
-use Rattle.base.specs.Choice.{if◌then◌else◌, ◌<?◌}
+use Rattle.base.specs.Choice.{if◌then◌otherwise◌, ◌<?◌}
 use Rattle.state.specs.State.{position, finite_vector}
 use Rattle.state.specs.declared.State.{State}
 use Rattle.state.specs.declared.Vector.{Vector}
@@ -14,7 +14,7 @@ use Rattle.pane_live.specs.declared.FrameAnswer.TheVariants as frame
 shown_once : (p q : Vector) → shown p ≡ frame.Current q → p ≡ q
 shown_once p q = go (finite_vector p)
   where
-    go : (fin : Bool) → (if fin then frame.Current p else frame.Refused 7) ≡ frame.Current q → p ≡ q
+    go : (fin : Bool) → (if fin then frame.Current p otherwise frame.Refused 7) ≡ frame.Current q → p ≡ q
     go true e = cc
     go false e = let z : ◌≡◌ {A = ℕ} 0 1 = cc in absurd (omega arith)
 
@@ -24,7 +24,7 @@ unfolding frame_at
 between_them a b t p e = go (b.moment <? t) refl (t <? a.moment) refl e
   where
     go : (late : Bool) → (b.moment <? t) ≡ late → (early : Bool) → (t <? a.moment) ≡ early
-        → (if late then frame.Late (t - b.moment) else if early then frame.Empty else shown (figure a b t)) ≡ frame.Current p
+        → (if late then frame.Late (t - b.moment) otherwise if early then frame.Empty otherwise shown (figure a b t)) ≡ frame.Current p
         → (a.moment ≤ t) × (t ≤ b.moment) × (p ≡ figure a b t)
     go true l early e c = let z : ◌≡◌ {A = ℕ} 0 1 = cc in absurd (omega arith)
     go false l true e c = let z : ◌≡◌ {A = ℕ} 0 1 = cc in absurd (omega arith)

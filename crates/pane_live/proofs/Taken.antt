@@ -1,6 +1,6 @@
 -- The states in the pane. Assumes nothing.
 use Rattle.std.proofs.Common.{◌≡◌, ℕ, ◌<◌, ◌≤◌, Bool, true, false, ◌&&◌, List, [], ◌∷◌, sym, refl, ap, ◌∙◌, arith, ltb-true, le-ltb, eqb-true}
-use Rattle.base.specs.Choice.{if◌then◌else◌, ◌<?◌, ◌=?◌}
+use Rattle.base.specs.Choice.{if◌then◌otherwise◌, ◌<?◌, ◌=?◌}
 use Rattle.state.specs.declared.State.{State}
 use Rattle.run.specs.declared.Outcome.{Outcome}
 use Rattle.run.specs.declared.Outcome.TheVariants as outcome
@@ -17,7 +17,7 @@ use Rattle.pane_live.specs.declared.TakeAnswer.TheVariants.{Taken, Unchanged, Re
 after_one : (pane : Pane) (a s : State) → InOrder pane → InOrder (after pane (taken_after a s))
 after_one pane a s order = go (follows a s) refl
   where
-    go : (ok : Bool) → follows a s ≡ ok → InOrder (after pane (if ok then Taken (Two a s) else Refused 18))
+    go : (ok : Bool) → follows a s ≡ ok → InOrder (after pane (if ok then Taken (Two a s) otherwise Refused 18))
     go true e =
         record {
           later = ltb-true a.moment s.moment (right (s.centre =? a.centre) (a.moment <? s.moment) e);
@@ -58,7 +58,7 @@ cleared_takes s = refl
 not_later : (newer s : State) → s.moment ≤ newer.moment → taken_after newer s ≡ Refused 18
 not_later newer s old = rw (le-ltb newer.moment s.moment old) (go (s.centre =? newer.centre))
   where
-    go : (same : Bool) → (if same && false then Taken (Two newer s) else Refused 18) ≡ Refused 18
+    go : (same : Bool) → (if same && false then Taken (Two newer s) otherwise Refused 18) ≡ Refused 18
     go true = refl
     go false = refl
 

@@ -1,6 +1,6 @@
 -- Document 02, R-14: the live pane. "It keeps the last two reached states and answers each frame with current, late or empty."
 use Rattle.std.specs.Prelude.{ℕ, ◌-◌, Bool, ◌&&◌, Float}
-use Rattle.base.specs.Choice.{if◌then◌else◌, ◌<?◌, ◌=?◌}
+use Rattle.base.specs.Choice.{if◌then◌otherwise◌, ◌<?◌, ◌=?◌}
 use Rattle.base.specs.Floats.{◌⊕◌, ◌⊖◌, ◌⊗◌, ◌⊘◌, whole}
 use Rattle.state.specs.State.{position, velocity, finite_vector}
 use Rattle.state.specs.declared.Vector.{Vector}
@@ -23,7 +23,7 @@ follows newer s = (s.centre =? newer.centre) && (newer.moment <? s.moment)
 
 -- "Refusals: such a state is 18"
 abbrev pub taken_after : State → State → TakeAnswer
-taken_after newer s = if follows newer s then Taken (Two newer s) else Refused 18
+taken_after newer s = if follows newer s then Taken (Two newer s) otherwise Refused 18
 
 unfoldable pub take : Pane → State → TakeAnswer
 take Blank s = Taken (One s)
@@ -80,19 +80,19 @@ between a b gone span =
 -- "at either end it is that state's position, to the bit"
 unfoldable pub figure : State → State → ℕ → Vector
 figure a b t =
-    if t =? a.moment then position a else
-    if t =? b.moment then position b else between a b (t - a.moment) (b.moment - a.moment)
+    if t =? a.moment then position a otherwise
+    if t =? b.moment then position b otherwise between a b (t - a.moment) (b.moment - a.moment)
 
 -- "a figure not finite is 7"
 abbrev pub shown : Vector → FrameAnswer
-shown p = if finite_vector p then frame.Current p else frame.Refused 7
+shown p = if finite_vector p then frame.Current p otherwise frame.Refused 7
 
 -- "Late: the moment is past the newer state; the pane gives how late, and no position"; "Empty: .. the moment is before the older"; "Current:
 -- the frame's moment lies between them, ends included"
 abbrev pub frame_between : State → State → ℕ → FrameAnswer
 frame_between a b t =
-    if b.moment <? t then frame.Late (t - b.moment) else
-    if t <? a.moment then frame.Empty else shown (figure a b t)
+    if b.moment <? t then frame.Late (t - b.moment) otherwise
+    if t <? a.moment then frame.Empty otherwise shown (figure a b t)
 
 -- "Empty: fewer than two states"
 unfoldable pub frame_at : Pane → ℕ → FrameAnswer

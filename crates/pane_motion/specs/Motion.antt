@@ -1,7 +1,7 @@
 -- Document 02, R-14, with a velocity: a frame shows the position on "the cubic through both positions and velocities", and the derivative
 -- of the cubic there (docs/DECISIONS.md, "what velocity has a frame").
 use Rattle.std.specs.Prelude.{ℕ, ◌-◌, Float}
-use Rattle.base.specs.Choice.{if◌then◌else◌, ◌=?◌}
+use Rattle.base.specs.Choice.{if◌then◌otherwise◌, ◌=?◌}
 use Rattle.base.specs.Floats.{◌⊕◌, ◌⊖◌, ◌⊗◌, ◌⊘◌, whole}
 use Rattle.state.specs.State.{velocity, finite_vector}
 use Rattle.state.specs.declared.Vector.{Vector}
@@ -37,15 +37,15 @@ rate_between a b gone span =
 -- "At t0 and at t1 it is the state's own velocity, by case"
 unfoldable pub frame_velocity : State → State → ℕ → Vector
 frame_velocity a b t =
-    if t =? a.moment then velocity a else
-    if t =? b.moment then velocity b else rate_between a b (t - a.moment) (b.moment - a.moment)
+    if t =? a.moment then velocity a otherwise
+    if t =? b.moment then velocity b otherwise rate_between a b (t - a.moment) (b.moment - a.moment)
 
 abbrev pub moving : Vector → Vector → Motion
 moving p v = record { position = p; velocity = v }
 
 -- "Any of the six numbers that is not finite is 7": the frame has checked the first three
 abbrev pub shown_motion : Vector → Vector → FrameMotion
-shown_motion p v = if finite_vector v then Current (moving p v) else Refused 7
+shown_motion p v = if finite_vector v then Current (moving p v) otherwise Refused 7
 
 -- the frame, with the velocity v if it is current
 abbrev pub with_velocity : FrameAnswer → Vector → FrameMotion

@@ -6,11 +6,11 @@ use mathlib.Core.Path.{◌≡◌, refl, ◌∙◌}
 use native.Mathlib.Omega.{arith}
 use lib.ListN.{length}
 use borrow.Author.Tests.{ltb-false, eq-eqb, ne_eqb}
-use Rattle.base.specs.Choice.{if◌then◌else◌, ◌<?◌}
+use Rattle.base.specs.Choice.{if◌then◌otherwise◌, ◌<?◌}
 use Rattle.repair_book.specs.Repaired.{repair_refusal, outcome_of, mended, repair_answer, output_after, fates_after, repair_outcome}
 use Rattle.repair_book.specs.declared.RepairAnswer.TheVariants.{Refused}
 
-by_tests : (x y z : Bool) → ◌≡◌ {A = ℕ} (if x || y then 16 else if z then 1 else 0) 0 → (x ≡ false) × (y ≡ false) × (z ≡ false)
+by_tests : (x y z : Bool) → ◌≡◌ {A = ℕ} (if x || y then 16 otherwise if z then 1 otherwise 0) 0 → (x ≡ false) × (y ≡ false) × (z ≡ false)
 by_tests true y z h = absurd (omega arith)
 by_tests false true z h = absurd (omega arith)
 by_tests false false true h = absurd (omega arith)

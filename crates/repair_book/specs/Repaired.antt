@@ -1,7 +1,7 @@
 -- Document 02, R-10, "Save what can be saved of a damaged book": the answer, and the output and the fates afterwards. They depend on the
 -- bytes of the input and the length of the output.
 use Rattle.std.specs.Prelude.{ℕ, min, ◌||◌, List, [], length}
-use Rattle.base.specs.Choice.{if◌then◌else◌, ◌<?◌, ◌=?◌}
+use Rattle.base.specs.Choice.{if◌then◌otherwise◌, ◌<?◌, ◌=?◌}
 use Rattle.book.specs.Passes.{longest_book}
 use Rattle.repair_sort.specs.Reasons.{looked_at, reasons}
 use Rattle.repair_sort.specs.Ordered.{ordered}
@@ -14,8 +14,8 @@ use Rattle.repair_book.specs.declared.RepairAnswer.TheVariants.{Written, Refused
 -- "Refusals: input or output of fewer than 8 bytes is 16, then input above the limit is 1"; 0 if there is none
 abbrev pub repair_refusal : ℕ → ℕ → ℕ
 repair_refusal input output =
-    if (input <? 8) || (output <? 8) then 16 else
-    if longest_book <? input then 1 else 0
+    if (input <? 8) || (output <? 8) then 16 otherwise
+    if longest_book <? input then 1 otherwise 0
 
 -- "Room is the lent output, at most 61,440 bytes"
 abbrev pub room_of : ℕ → ℕ
@@ -32,15 +32,15 @@ kept_of b room = (repaired b room []).kept
 -- the answer, by the length of the output; then the output and the fates afterwards. A refusal leaves both unchanged.
 unfoldable pub repair_answer : List ℕ → ℕ → RepairAnswer
 repair_answer b output =
-    if repair_refusal (length b) output =? 0 then Written (report_of b (kept_of b (room_of output))) else Refused (repair_refusal (length b) output)
+    if repair_refusal (length b) output =? 0 then Written (report_of b (kept_of b (room_of output))) otherwise Refused (repair_refusal (length b) output)
 
 unfoldable pub output_after : List ℕ → List ℕ → List ℕ
 output_after b out =
-    if repair_refusal (length b) (length out) =? 0 then with_text out 0 (book_anew b (kept_of b (room_of (length out)))) else out
+    if repair_refusal (length b) (length out) =? 0 then with_text out 0 (book_anew b (kept_of b (room_of (length out)))) otherwise out
 
 unfoldable pub fates_after : List ℕ → ℕ → List ℕ → List ℕ
 fates_after b output fates =
-    if repair_refusal (length b) output =? 0 then (repaired b (room_of output) fates).fates else fates
+    if repair_refusal (length b) output =? 0 then (repaired b (room_of output) fates).fates otherwise fates
 
 -- the result of a call for its caller: its answer, and the output and the fates afterwards
 pub record Outcome : Type 0 where

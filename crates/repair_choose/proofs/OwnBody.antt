@@ -8,7 +8,7 @@ use native.Mathlib.Omega.{arith}
 use lib.ListN.{length, get_or}
 use lib.Seq.{append_snoc}
 use borrow.Author.Tests.{eqb-true, eq-eqb, ne_eqb}
-use Rattle.base.specs.Choice.{if◌then◌else◌, ◌=?◌}
+use Rattle.base.specs.Choice.{if◌then◌otherwise◌, ◌=?◌}
 use Rattle.book.specs.Contents.{body_of}
 use Rattle.book.specs.Passes.{ascends, overlaps}
 use Rattle.repair_sort.proofs.Either.{either_way}
@@ -56,7 +56,7 @@ module _ (b : List ℕ) where
   own_last [] i rest s = refl
   own_last (j ∷ []) i rest s = by (body_of b j =? body_of b i) refl
     where
-      by : (y : Bool) → (body_of b j =? body_of b i) ≡ y → overlaps_last b (j ∷ []) i ≡ overlaps_last b (if y then j ∷ [] else []) i
+      by : (y : Bool) → (body_of b j =? body_of b i) ≡ y → overlaps_last b (j ∷ []) i ≡ overlaps_last b (if y then j ∷ [] otherwise []) i
       by true e = refl
       by false e = other_body j i e
   own_last (j ∷ x ∷ xs) i rest s = last_of_more i j x xs ∙ own_last (x ∷ xs) i rest s.1 ∙ by (body_of b j =? body_of b i) refl
@@ -70,7 +70,7 @@ module _ (b : List ℕ) where
           eq-eqb (body_of b x) (body_of b i) (omega arith)
 
       by : (y : Bool) → (body_of b j =? body_of b i) ≡ y
-          → overlaps_last b (of_body b (body_of b i) (x ∷ xs)) i ≡ overlaps_last b (if y then j ∷ of_body b (body_of b i) (x ∷ xs) else of_body b (body_of b i) (x ∷ xs)) i
+          → overlaps_last b (of_body b (body_of b i) (x ∷ xs)) i ≡ overlaps_last b (if y then j ∷ of_body b (body_of b i) (x ∷ xs) otherwise of_body b (body_of b i) (x ∷ xs)) i
       by true e = rw (same e) (sym (last_of_more i j x (of_body b (body_of b i) xs)))
       by false e = refl
 

@@ -11,7 +11,7 @@ use borrow.Author.Tests.{le-leb, lt-leb, eqb-false}
 use Rattle.book.specs.Contents.{block_length}
 use Rattle.repair_sort.specs.Fates.{overlapping, no_room}
 use Rattle.repair_write.specs.Anew.{book_length}
-use Rattle.base.specs.Choice.{if◌then◌else◌, ◌=?◌}
+use Rattle.base.specs.Choice.{if◌then◌otherwise◌, ◌=?◌}
 use Rattle.repair_choose.specs.Forward.{Sofar, overlaps_last, overlaps_last_of_body, has_room, keep, let_go, settle, forward}
 use Rattle.repair_choose.specs.LastKept.{settle_by_last, forward_by_last}
 use Rattle.repair_sort.specs.Held.{Sound}
@@ -87,13 +87,13 @@ module _ (b : List ℕ) (room : ℕ) where
 -- ---- which entries are kept does not depend on the fates
 module _ (b : List ℕ) (room : ℕ) where
   kept_by : List ℕ → ℕ → List ℕ
-  kept_by kept i = if overlaps_last_of_body b kept i then kept else if has_room b room kept i then kept ++ (i ∷ []) else kept
+  kept_by kept i = if overlaps_last_of_body b kept i then kept otherwise if has_room b room kept i then kept ++ (i ∷ []) otherwise kept
 
   settle_kept : (s : Sofar) (i : ℕ) → (settle b room s i).kept ≡ kept_by s.kept i
   unfolding settle kept_by
   settle_kept s i = by (overlaps_last_of_body b s.kept i) (has_room b room s.kept i)
     where
-      by : (x y : Bool) → (if x then let_go overlapping s i else if y then keep s i else let_go no_room s i).kept ≡ (if x then s.kept else if y then s.kept ++ (i ∷ []) else s.kept)
+      by : (x y : Bool) → (if x then let_go overlapping s i otherwise if y then keep s i otherwise let_go no_room s i).kept ≡ (if x then s.kept otherwise if y then s.kept ++ (i ∷ []) otherwise s.kept)
       by true y = refl
       by false true = refl
       by false false = refl

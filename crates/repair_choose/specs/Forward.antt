@@ -1,7 +1,7 @@
 -- Document 02, R-10: "then, going forward, one that overlaps the last kept of its body is dropped, then one for which the output has
 -- no room. Nothing else is dropped".
 use Rattle.std.specs.Prelude.{ℕ, ◌-◌, Bool, false, List, [], ◌∷◌, ◌++◌, length, get_or, set}
-use Rattle.base.specs.Choice.{if◌then◌else◌, ◌≤?◌, ◌=?◌}
+use Rattle.base.specs.Choice.{if◌then◌otherwise◌, ◌≤?◌, ◌=?◌}
 use Rattle.book.specs.Contents.{body_of}
 use Rattle.book.specs.Passes.{overlaps}
 use Rattle.repair_sort.specs.Fates.{overlapping, no_room}
@@ -15,11 +15,11 @@ pub record Sofar : Type 0 where
 -- the entries of a list that have this body, in their order
 abbrev pub of_body : List ℕ → ℕ → List ℕ → List ℕ
 of_body b body [] = []
-of_body b body (j ∷ js) = if body_of b j =? body then j ∷ of_body b body js else of_body b body js
+of_body b body (j ∷ js) = if body_of b j =? body then j ∷ of_body b body js otherwise of_body b body js
 
 -- whether entry i overlaps the last entry of a list; if the list is empty, it does not
 abbrev pub overlaps_last : List ℕ → List ℕ → ℕ → Bool
-overlaps_last b l i = if length l =? 0 then false else overlaps b (get_or l (length l - 1) 0) i
+overlaps_last b l i = if length l =? 0 then false otherwise overlaps b (get_or l (length l - 1) 0) i
 
 -- "one that overlaps the last kept of its body"
 abbrev pub overlaps_last_of_body : List ℕ → List ℕ → ℕ → Bool
@@ -38,8 +38,8 @@ let_go why s i = record { kept = s.kept; fates = set s.fates i why }
 -- overlap first, then room
 unfoldable pub settle : List ℕ → ℕ → Sofar → ℕ → Sofar
 settle b room s i =
-    if overlaps_last_of_body b s.kept i then let_go overlapping s i else
-    if has_room b room s.kept i then keep s i else let_go no_room s i
+    if overlaps_last_of_body b s.kept i then let_go overlapping s i otherwise
+    if has_room b room s.kept i then keep s i otherwise let_go no_room s i
 
 -- the entries of a list, one after the other
 abbrev pub forward : List ℕ → ℕ → Sofar → List ℕ → Sofar

@@ -1,6 +1,6 @@
 -- How two arrays and three numbers represent the pass.
 use Rattle.std.specs.Prelude.{ℕ, ◌-◌, ◌<◌, ◌≤◌, Bool, false, List, ◌≡◌, length, take, get_or}
-use Rattle.base.specs.Choice.{if◌then◌else◌, ◌=?◌}
+use Rattle.base.specs.Choice.{if◌then◌otherwise◌, ◌=?◌}
 use Rattle.book.specs.Passes.{overlaps}
 use Rattle.repair_sort.specs.Held.{AllSound}
 use Rattle.repair_write.specs.Anew.{book_length}
@@ -20,4 +20,4 @@ pub record Sized (b : List ℕ) (room : ℕ) (kept : List ℕ) (count last booke
 
 -- whether entry i overlaps the last of `count` entries, if there is one
 abbrev pub overlaps_at : List ℕ → ℕ → ℕ → ℕ → Bool
-overlaps_at b count last i = if count =? 0 then false else overlaps b last i
+overlaps_at b count last i = if count =? 0 then false otherwise overlaps b last i

@@ -10,7 +10,7 @@ use native.Mathlib.Omega.{arith}
 use lib.ListN.{length, get_or, length-append, get_or-append}
 use lib.Seq.{get_or_at}
 use borrow.Author.Tests.{ltb-false, lt-ltb, eq-eqb, ne_eqb, leb-true}
-use Rattle.base.specs.Choice.{if◌then◌else◌, ◌<?◌, ◌=?◌}
+use Rattle.base.specs.Choice.{if◌then◌otherwise◌, ◌<?◌, ◌=?◌}
 use Rattle.book.specs.Contents.{body_of, start_of, end_of}
 use Rattle.book.specs.Passes.{ascends, overlaps}
 use Rattle.book.proofs.Passing.{InOrder, allowed_of}
@@ -97,7 +97,7 @@ module _ (b : List ℕ) where
   unfolding settle
   settled_chained room s i rest c = by (overlaps_last_of_body b s.kept i) (has_room b room s.kept i) refl refl
     where
-      by : (x y : Bool) → overlaps_last_of_body b s.kept i ≡ x → has_room b room s.kept i ≡ y → Chained room (if x then let_go 3_004 s i else if y then keep s i else let_go 3_005 s i).kept rest
+      by : (x y : Bool) → overlaps_last_of_body b s.kept i ≡ x → has_room b room s.kept i ≡ y → Chained room (if x then let_go 3_004 s i otherwise if y then keep s i otherwise let_go 3_005 s i).kept rest
       by true y e f = let_gone room s.kept i rest c
       by false true e f = one_kept room s.kept i rest c e (leb-true (book_length b (s.kept ++ (i ∷ []))) room f)
       by false false e f = let_gone room s.kept i rest c

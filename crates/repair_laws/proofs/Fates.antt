@@ -10,7 +10,7 @@ use native.Mathlib.Omega.{arith}
 use lib.ListN.{length, get_or, length-set, length-append, get_or-append}
 use lib.Seq.{get_or_at, get_or-set_same, get_or-set_other}
 use borrow.Author.Tests.{eqb-true, eq-eqb, ne_eqb}
-use Rattle.base.specs.Choice.{if◌then◌else◌, ◌=?◌}
+use Rattle.base.specs.Choice.{if◌then◌otherwise◌, ◌=?◌}
 use Rattle.book.specs.Passes.{ascends}
 use Rattle.repair_sort.specs.Fates.{goes_on, overlapping, no_room}
 use Rattle.repair_sort.specs.Reasons.{looked_at, first_reason, reasons}
@@ -87,7 +87,7 @@ module _ (b : List ℕ) where
     unfolding settle
     settle_own s i h = by (overlaps_last_of_body b s.kept i) (has_room b room s.kept i)
       where
-        by : (x y : Bool) → get_or (if x then let_go overlapping s i else if y then keep s i else let_go no_room s i).fates i 0 ≡ (if x then overlapping else if y then length s.kept else no_room)
+        by : (x y : Bool) → get_or (if x then let_go overlapping s i otherwise if y then keep s i otherwise let_go no_room s i).fates i 0 ≡ (if x then overlapping otherwise if y then length s.kept otherwise no_room)
         by true y = get_or-set_same s.fates i overlapping 0 h
         by false true = get_or-set_same s.fates i (length s.kept) 0 h
         by false false = get_or-set_same s.fates i no_room 0 h
@@ -179,9 +179,9 @@ module _ (b : List ℕ) where
     numbered_next s i = by (overlaps_last_of_body b s.kept i) (has_room b room s.kept i)
       where
         by :
-            (x y : Bool) → (if x then overlapping else if y then length s.kept else no_room) < 2559
-            → ((if x then let_go overlapping s i else if y then keep s i else let_go no_room s i).kept ≡ s.kept ++ (i ∷ []))
-            × ((if x then overlapping else if y then length s.kept else no_room) ≡ length s.kept)
+            (x y : Bool) → (if x then overlapping otherwise if y then length s.kept otherwise no_room) < 2559
+            → ((if x then let_go overlapping s i otherwise if y then keep s i otherwise let_go no_room s i).kept ≡ s.kept ++ (i ∷ []))
+            × ((if x then overlapping otherwise if y then length s.kept otherwise no_room) ≡ length s.kept)
         by true y h = absurd (omega arith)
         by false true h = (refl, refl)
         by false false h = absurd (omega arith)

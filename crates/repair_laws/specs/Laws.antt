@@ -1,7 +1,7 @@
 -- Definitions for the laws of a repaired book.
 use Prim
 use Rattle.std.specs.Prelude.{ℕ, zero, suc, ◌<◌, false, List, [], ◌∷◌, ◌++◌, ◌⊎◌, ◌≡◌, length, get_or, set}
-use Rattle.base.specs.Choice.{if◌then◌else◌}
+use Rattle.base.specs.Choice.{if◌then◌otherwise◌}
 use Rattle.book.specs.Passes.{ascends}
 use Rattle.repair_sort.specs.Fates.{overlapping, no_room}
 use Rattle.repair_sort.specs.Reasons.{looked_at}
@@ -45,8 +45,8 @@ kept_among b room before = (forward b room (record { kept = []; fates = [] }) be
 -- there is room, else dropped for room
 abbrev pub fate_after : List ℕ → ℕ → List ℕ → ℕ → ℕ
 fate_after b room kept i =
-    if overlaps_last_of_body b kept i then overlapping else
-    if has_room b room kept i then length kept else no_room
+    if overlaps_last_of_body b kept i then overlapping otherwise
+    if has_room b room kept i then length kept otherwise no_room
 
 -- entry i is in the order, and its fate follows from what is kept of the entries before it
 pub record Settled (b : List ℕ) (room i fate : ℕ) : Type 0 where

@@ -8,7 +8,7 @@ use native.Mathlib.Nat.{not-suc-le-zero, le_of_suc-le-suc}
 use native.Mathlib.Omega.{arith}
 use lib.ListN.{length, get_or, take}
 use borrow.Author.Tests.{leb-true, eqb-true}
-use Rattle.base.specs.Choice.{if◌then◌else◌, ◌=?◌}
+use Rattle.base.specs.Choice.{if◌then◌otherwise◌, ◌=?◌}
 use Rattle.book.specs.Contents.{entry_at, offset_of, block_length}
 use Rattle.book.specs.Passes.{fields_allowed, ascends, coefficients_finite}
 use Rattle.repair_sort.specs.Fates.{goes_on}
@@ -17,7 +17,7 @@ use Rattle.repair_sort.specs.Ordered.{insert, ordered}
 use Rattle.repair_sort.specs.Held.{Sound, AllSound}
 use Rattle.repair_sort.proofs.Either.{either_way}
 
-none : (f k c : Bool) → ◌≡◌ {A = ℕ} (if f then (if k then (if c then 3_000 else 3_003) else 3_002) else 3_001) 3_000 → (f ≡ true) × (k ≡ true) × (c ≡ true)
+none : (f k c : Bool) → ◌≡◌ {A = ℕ} (if f then (if k then (if c then 3_000 otherwise 3_003) otherwise 3_002) otherwise 3_001) 3_000 → (f ≡ true) × (k ≡ true) × (c ≡ true)
 none true true true h = (refl, refl, refl)
 none true true false h = absurd (omega arith)
 none true false c h = absurd (omega arith)

@@ -1,6 +1,6 @@
 -- Document 02, R-10: which entries of a damaged book are looked at, and the reasons for dropping one before the rest are put in order.
 use Rattle.std.specs.Prelude.{ℕ, zero, suc, ◌+◌, ◌-◌, ◌/◌, min, Bool, List, length, set}
-use Rattle.base.specs.Choice.{if◌then◌else◌, ◌≤?◌, ◌=?◌}
+use Rattle.base.specs.Choice.{if◌then◌otherwise◌, ◌≤?◌, ◌=?◌}
 use Rattle.book.specs.Contents.{entry_count, offset_of, block_length}
 use Rattle.book.specs.Passes.{fields_allowed, coefficients_finite}
 use Rattle.repair_sort.specs.Fates.{bad_fields, block_outside, not_finite, goes_on}
@@ -18,13 +18,13 @@ unfoldable pub first_reason : List ℕ → ℕ → ℕ
 first_reason b i =
     if fields_allowed b i then
     (if block_inside b i then
-    (if coefficients_finite b i then goes_on else not_finite)
-    else block_outside)
-    else bad_fields
+    (if coefficients_finite b i then goes_on otherwise not_finite)
+    otherwise block_outside)
+    otherwise bad_fields
 
 -- entry i with this reason, or none
 abbrev pub noted : ℕ → ℕ → List ℕ → List ℕ
-noted why i fates = if why =? goes_on then fates else set fates i why
+noted why i fates = if why =? goes_on then fates otherwise set fates i why
 
 -- the fates of the first n entries by these reasons; `fates` has a place for each entry
 abbrev pub reasons : List ℕ → ℕ → List ℕ → List ℕ

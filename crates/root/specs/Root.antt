@@ -6,7 +6,7 @@ use Rattle.std.specs.Float.Ieee.{low, lt, of_bits, fits}
 use Rattle.std.specs.Float.Ieee.Scale.{finite}
 use Rattle.std.specs.Float.Ieee.Exact.{HasValue}
 use Rattle.std.specs.Float.Ieee.Positive.{positive}
-use Rattle.base.specs.Choice.{if◌then◌else◌}
+use Rattle.base.specs.Choice.{if◌then◌otherwise◌}
 pub use Rattle.root_digits.specs.Nearest.{NearestRoot}
 unfoldable use Rattle.root.specs.Computed.{positive_root}
 use Rattle.root.specs.declared.ThreeRoots.{ThreeRoots}
@@ -63,4 +63,4 @@ negative x = lt x (of_bits binary64 0)
 
 -- refusal 11: "root of a negative or non-finite float"
 unfoldable pub root_answer : Float → RootAnswer
-root_answer x = if negative x || not (finite x) then Refused 11 else Value (root_of x)
+root_answer x = if negative x || not (finite x) then Refused 11 otherwise Value (root_of x)

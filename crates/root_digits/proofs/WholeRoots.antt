@@ -1,7 +1,7 @@
 -- The whole root and the nearest root, as comparisons of squares, and that each is the only one. Assumes nothing.
 use Rattle.std.proofs.Common.{◌≡◌, ℕ, zero, suc, ◌+◌, ◌-◌, ◌*◌, ◌/◌, ◌%◌, ◌^◌, ◌<◌, ◌≤◌, Bool, true, false, ltb, leb, sym, refl, ap, ◌∙◌, subst, add-mul, mul-le-mul, le_antisymm, one-mul, lt_of_not-le, mul-one, mul-add, add-one, arith, ltb-false, ltb-true, le-ltb, lt-ltb, leb-false, leb-true}
 use native.Mathlib.Nat.{mul-mul-mul_comm, pow-succ'}
-use Rattle.base.specs.Choice.{if◌then◌else◌}
+use Rattle.base.specs.Choice.{if◌then◌otherwise◌}
 use Rattle.root_digits.specs.Nearest.{NearestRoot, whole_root, nearest_root}
 
 square_next : (r : ℕ) → (r + 1) * (r + 1) ≡ r * r + 2 * r + 1
@@ -29,10 +29,10 @@ whole_root_is (suc d) n h =
     let h' : n < 4 * 4 ^ d = subst (λ (z : ℕ). n < z) (pow-succ' 4 d) h in
     go (whole_root d (n / 4)) (whole_root_is d (n / 4) (omega arith))
   where
-    go : (r : ℕ) → IsWholeRoot (n / 4) r → IsWholeRoot n (if leb ((2 * r + 1) * (2 * r + 1)) n then 2 * r + 1 else 2 * r)
+    go : (r : ℕ) → IsWholeRoot (n / 4) r → IsWholeRoot n (if leb ((2 * r + 1) * (2 * r + 1)) n then 2 * r + 1 otherwise 2 * r)
     go r i = pick (leb ((2 * r + 1) * (2 * r + 1)) n) refl
       where
-        pick : (b : Bool) → leb ((2 * r + 1) * (2 * r + 1)) n ≡ b → IsWholeRoot n (if b then 2 * r + 1 else 2 * r)
+        pick : (b : Bool) → leb ((2 * r + 1) * (2 * r + 1)) n ≡ b → IsWholeRoot n (if b then 2 * r + 1 otherwise 2 * r)
         pick true t = record {
           within = leb-true _ _ t;
           beyond = omega (arith, i.beyond, square_next r, square_odd r, square_next (2 * r + 1));
@@ -55,7 +55,7 @@ whole_root_unique n r s i j = le_antisymm (root_mono n r s i j) (root_mono n s r
 
 -- with r the whole root of n: r itself or the next, as 2r + 1 is above 2√n or below
 rounded : ℕ → ℕ → ℕ
-rounded n r = if ltb ((2 * r + 1) * (2 * r + 1)) (4 * n) then r + 1 else r
+rounded n r = if ltb ((2 * r + 1) * (2 * r + 1)) (4 * n) then r + 1 otherwise r
 
 odd_square : (n r : ℕ) → 4 * n ≡ (2 * r + 1) * (2 * r + 1) → ⊥
 odd_square n r e = omega (arith, square_odd r)
@@ -74,7 +74,7 @@ rounded_nearest : (n r : ℕ) → IsWholeRoot n r → NearestRoot n (rounded n r
 unfolding rounded
 rounded_nearest n r i = pick (ltb ((2 * r + 1) * (2 * r + 1)) (4 * n)) refl
   where
-    pick : (b : Bool) → ltb ((2 * r + 1) * (2 * r + 1)) (4 * n) ≡ b → NearestRoot n (if b then r + 1 else r)
+    pick : (b : Bool) → ltb ((2 * r + 1) * (2 * r + 1)) (4 * n) ≡ b → NearestRoot n (if b then r + 1 otherwise r)
     pick true t = record {
       from = omega (arith, ltb-true ((2 * r + 1) * (2 * r + 1)) (4 * n) t, square_odd r, square_odd_below r);
       to = omega (arith, i.beyond, square_next r, square_odd (r + 1));
@@ -110,11 +110,11 @@ unfolding nearest_root rounded
 nearest_root_is n h = rounded_nearest n (whole_root 53 n) (whole_root_is 53 n h)
 
 -- if w is left over from the whole root r, the root is nearer to r + 1 exactly if w is above r
-pub nearest_root_by : (n r w : ℕ) → n < 4 ^ 53 → r * r + w ≡ n → w < 2 * r + 1 → nearest_root n ≡ if ltb r w then r + 1 else r
+pub nearest_root_by : (n r w : ℕ) → n < 4 ^ 53 → r * r + w ≡ n → w < 2 * r + 1 → nearest_root n ≡ if ltb r w then r + 1 otherwise r
 unfolding rounded
 nearest_root_by n r w h e l =
     nearest_root_at n r h (record { within = omega arith; beyond = omega (arith, square_next r) })
-    ∙ ap (λ (b : Bool). if b then r + 1 else r) (same (ltb r w) refl)
+    ∙ ap (λ (b : Bool). if b then r + 1 otherwise r) (same (ltb r w) refl)
   where
     same : (b : Bool) → ltb r w ≡ b → ltb ((2 * r + 1) * (2 * r + 1)) (4 * n) ≡ b
     same true t = lt-ltb ((2 * r + 1) * (2 * r + 1)) (4 * n) (omega (arith, ltb-true r w t, square_odd r))

@@ -4,7 +4,7 @@ use mathlib.Core.List.{List}
 use mathlib.Core.Path.{◌≡◌, refl}
 use Prim.Native.Nat.{ℕ, ◌≤◌}
 use borrow.Author.Tests.{ltb-true, le-ltb}
-use Rattle.base.specs.Choice.{if◌then◌else◌, ◌=?◌}
+use Rattle.base.specs.Choice.{if◌then◌otherwise◌, ◌=?◌}
 use Rattle.base.specs.Limits.{end_of_time}
 use Rattle.state.specs.State.{setting_allowed, centre_allowed}
 use Rattle.state.specs.declared.State.{State}
@@ -28,11 +28,11 @@ may_walk b setting s h target e =
 -- past the end of time the target does not matter
 module _ (b : List ℕ) (setting : Setting) (s : State) (given : Guesses) where
   answer_by : ℕ → Reached → RunAnswer
-  answer_by k r = if k =? 0 then with_guesses b setting given r else refused_at_once k s given
+  answer_by k r = if k =? 0 then with_guesses b setting given r otherwise refused_at_once k s given
 
   same_late : (p q c : Bool) (k1 k2 : ℕ) (r1 r2 : Reached)
-      → answer_by (or_later (if p then 1 else if q then 4 else if c then 14 else 3) k1) r1
-      ≡ answer_by (or_later (if p then 1 else if q then 4 else if c then 14 else 3) k2) r2
+      → answer_by (or_later (if p then 1 otherwise if q then 4 otherwise if c then 14 otherwise 3) k1) r1
+      ≡ answer_by (or_later (if p then 1 otherwise if q then 4 otherwise if c then 14 otherwise 3) k2) r2
   unfolding answer_by
   same_late true q c k1 k2 r1 r2 = refl
   same_late false true c k1 k2 r1 r2 = refl

@@ -1,6 +1,6 @@
 -- The state of the loop over the steps: the guesses from step to step, and how far it has come.
 use Rattle.std.specs.Prelude.{Bool, true, false, List, ◌≡◌, ℕ, ◌+◌, ◌-◌, ◌*◌, ◌≤◌, ◌<◌, Float}
-use Rattle.base.specs.Choice.{if◌then◌else◌}
+use Rattle.base.specs.Choice.{if◌then◌otherwise◌}
 use Rattle.base.specs.Limits.{end_of_time}
 use Rattle.book.specs.Passes.{passes}
 use Rattle.state.specs.State.{used, centre_allowed, looked_up}
@@ -14,7 +14,7 @@ use Rattle.run_checks.specs.Start.{within_steps}
 use Rattle.run.specs.Run.{Reached, run_to, guesses_after}
 
 abbrev pub guess_from : Float → Bool → ℕ → ℕ → ℕ
-guess_from m lit entry given = if looked_up m lit then entry else given
+guess_from m lit entry given = if looked_up m lit then entry otherwise given
 
 abbrev pub guesses_from : Setting → Guesses → Guesses → Guesses
 guesses_from setting entries given =

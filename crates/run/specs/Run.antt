@@ -1,6 +1,6 @@
 -- Document 01, "The step and the run" and "Refusal numbers": the run call, for every input.
 use Rattle.std.specs.Prelude.{Bool, false, List, ℕ, zero, suc, ◌+◌, Float}
-use Rattle.base.specs.Choice.{if◌then◌else◌, ◌=?◌}
+use Rattle.base.specs.Choice.{if◌then◌otherwise◌, ◌=?◌}
 use Rattle.state.specs.State.{used, looked_up}
 use Rattle.state.specs.declared.State.{State}
 use Rattle.state.specs.declared.Setting.{Setting}
@@ -35,12 +35,12 @@ afterwards rest s (Off k) = ended (Refused k) s
 
 -- "It takes steps until the target is reached, the budget is spent, or a step is refused"
 unfoldable pub run_to : (State → Moved) → ℕ → ℕ → State → Reached
-run_to f target zero s = if at_target target s then ended Arrived s else ended Going s
-run_to f target (suc budget) s = if at_target target s then ended Arrived s else afterwards (run_to f target budget) s (f s)
+run_to f target zero s = if at_target target s then ended Arrived s otherwise ended Going s
+run_to f target (suc budget) s = if at_target target s then ended Arrived s otherwise afterwards (run_to f target budget) s (f s)
 
 -- "If steps were done, each used body's returned guess is the entry covering the returned moment; all other guesses come back as given"; document 02, R-7: with K above 0 the Sun counts as used
 abbrev pub guess_at : List ℕ → ℕ → ℕ → Float → Bool → ℕ → ℕ
-guess_at b t number m lit given = if looked_up m lit then entry_or given (lookup b number t) else given
+guess_at b t number m lit given = if looked_up m lit then entry_or given (lookup b number t) otherwise given
 
 unfoldable pub guesses_at : List ℕ → Setting → ℕ → Guesses → Guesses
 guesses_at b s t given =
@@ -54,7 +54,7 @@ guesses_at b s t given =
 
 -- after n steps
 abbrev pub guesses_after : List ℕ → Setting → ℕ → ℕ → Guesses → Guesses
-guesses_after b s n t given = if n =? 0 then given else guesses_at b s t given
+guesses_after b s n t given = if n =? 0 then given otherwise guesses_at b s t given
 
 -- "answers arrived, going or refused with the number of steps done"
 abbrev pub handed_back : Outcome → ℕ → State → Guesses → RunAnswer
@@ -70,7 +70,7 @@ refused_at_once k s given = handed_back (Refused k) 0 s given
 unfoldable pub run_answer : List ℕ → Setting → State → ℕ → ℕ → ℕ → Guesses → RunAnswer
 run_answer b setting s h target budget given =
     let k = start_refusal b setting s h target in
-    if k =? 0 then with_guesses b setting given (run_to (step b setting h) target budget s) else refused_at_once k s given
+    if k =? 0 then with_guesses b setting given (run_to (step b setting h) target budget s) otherwise refused_at_once k s given
 
 -- "A single step is a run with budget 1 and the target one step on"
 abbrev pub single_step_answer : List ℕ → Setting → State → ℕ → Guesses → RunAnswer

@@ -5,7 +5,7 @@ use mathlib.Core.Logic.{◌⊎◌, inl, inr}
 use mathlib.Core.Path.{◌≡◌, refl, sym, ap, ◌∙◌}
 use Prim.Native.Nat.{ℕ, zero, suc, ◌+◌, ◌/◌}
 use borrow.Author.Tests.{eqb-true}
-use Rattle.base.specs.Choice.{if◌then◌else◌, ◌=?◌}
+use Rattle.base.specs.Choice.{if◌then◌otherwise◌, ◌=?◌}
 use Rattle.base.specs.Limits.{is_moment}
 use Rattle.base.proofs.Cases.{by_if}
 use Rattle.state.specs.State.{position, velocity, acceleration, injection_at, bare, same_vector, finite_vector, finite_state, centre_allowed}
@@ -119,7 +119,7 @@ module _ (ok : ℕ → Bool) (six : ok 6 ≡ true) (seven : ok 7 ≡ true) where
       where
         go : (none : Bool) → (none || ok (start_refusal b setting s h target)) ≡ true
             → outcome_by ok (if none then with_guesses b setting given (run_to (step b setting h) target budget s)
-            else refused_at_once (start_refusal b setting s h target) s given).outcome ≡ true
+            otherwise refused_at_once (start_refusal b setting s h target) s given).outcome ≡ true
         go true e = run_off (step b setting h) (step_off b setting h) target budget s
         go false e = e
 

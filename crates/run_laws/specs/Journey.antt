@@ -1,6 +1,6 @@
 -- Demand 3: a journey of several calls with any budgets and any guesses, each call continuing from the last, compared with the plain walk.
 use Rattle.std.specs.Prelude.{List, [], ◌∷◌, ◌↔◌, ◌≡◌, ℕ, suc, ◌+◌, ◌*◌, ◌<◌, ◌≤◌}
-use Rattle.base.specs.Choice.{if◌then◌else◌, ◌=?◌}
+use Rattle.base.specs.Choice.{if◌then◌otherwise◌, ◌=?◌}
 use Rattle.state.specs.declared.State.{State}
 use Rattle.state.specs.declared.Setting.{Setting}
 use Rattle.gravity.specs.declared.Guesses.{Guesses}
@@ -60,7 +60,7 @@ AllHold f injection h target n (call ∷ calls) (r ∷ answers) =
 -- is refused with k. Without budget the answer is going.
 abbrev pub met_again : ℕ → State → Call → RunAnswer
 met_again k s call =
-    record { outcome = if call.budget =? 0 then Going else Refused k; steps = 0; state = s; guesses = call.guesses }
+    record { outcome = if call.budget =? 0 then Going otherwise Refused k; steps = 0; state = s; guesses = call.guesses }
 
 -- an answer that ends a journey: arrived at the target, or refused with the number of the step that cannot be taken
 pub data Over (f : State → Moved) (target : ℕ) (r : RunAnswer) : Type 0 where

@@ -4,12 +4,12 @@ use mathlib.Core.Path.{◌≡◌, refl}
 use Prim.Native.Nat.{ℕ, ◌≤◌}
 use native.Mathlib.Omega.{arith}
 use borrow.Author.Tests.{le-leb}
-use Rattle.base.specs.Choice.{if◌then◌else◌, ◌≤?◌}
+use Rattle.base.specs.Choice.{if◌then◌otherwise◌, ◌≤?◌}
 use Rattle.run_target.specs.Target.{step_allowed, within_steps}
 use Rattle.run_target.proofs.Allowed.{long_enough}
 
 abbrev two_checks : Bool → Bool → ℕ
-two_checks length reaches = if not length then 2 else if not reaches then 5 else 0
+two_checks length reaches = if not length then 2 otherwise if not reaches then 5 otherwise 0
 
 pub last_two : (t h target : ℕ) → two_checks (step_allowed h) ((1 ≤? h) && within_steps t h target) ≡ two_checks (step_allowed h) (within_steps t h target)
 last_two t h target = go (step_allowed h) refl

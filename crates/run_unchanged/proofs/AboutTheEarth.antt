@@ -9,7 +9,7 @@ use lib.Ieee.{Float, fits, binary64}
 use lib.Ieee.Scale.{finite}
 use lib.Ieee.Fits.{add-fits}
 use lib.Ieee.Bits.{of_bits-fits}
-use Rattle.base.specs.Choice.{if◌then◌else◌, ◌=?◌}
+use Rattle.base.specs.Choice.{if◌then◌otherwise◌, ◌=?◌}
 use Rattle.base.specs.Limits.{is_moment, is_dut}
 use Rattle.hour.specs.Hour.{is_rule}
 use Rattle.state.specs.State.{used, looked_up, coefficients_allowed, terms_allowed, finite_vector, finite_state, coefficient_allowed, earth_allowed, setting_allowed, coefficient_of, centre_allowed}
@@ -71,7 +71,7 @@ answer_fits b number t = by (lookup b number t)
     by (Entry i) = go (finite_place (place b i t)) (finite_velocity (Rattle.book.specs.Series.velocity b i t))
       where
         go : (a c : Bool)
-            → FitsAt (if a then (if c then position.At (record { place = place b i t; velocity = Rattle.book.specs.Series.velocity b i t }) else position.Refused 7) else position.Refused 7)
+            → FitsAt (if a then (if c then position.At (record { place = place b i t; velocity = Rattle.book.specs.Series.velocity b i t }) otherwise position.Refused 7) otherwise position.Refused 7)
         go true true = place_fits b i t
         go true false = tt
         go false c = tt
@@ -97,8 +97,8 @@ by_list_lem : (b : List ℕ) (t : ℕ) (body : Listed) (rest : List Listed) → 
 by_list_lem b t body rest far dark e = go (looked_up body.m body.for_light) refl
   where
     go : (u : Bool) → looked_up body.m body.for_light ≡ u
-        → from_centre 1 nowhere (if u then seen body (stands b body.number t) (sky_of b t rest) else sky_of b t rest)
-        ≡ (if u then seen body (stands b body.number t) (sky_of b t rest) else sky_of b t rest)
+        → from_centre 1 nowhere (if u then seen body (stands b body.number t) (sky_of b t rest) otherwise sky_of b t rest)
+        ≡ (if u then seen body (stands b body.number t) (sky_of b t rest) otherwise sky_of b t rest)
     go true u =
         rw far (one_more body (body_at b body.number t) (sky_of b t rest) far (pulls (used body.m) body.for_light dark u) (answer_fits b body.number t) e)
     go false u = e
@@ -126,7 +126,7 @@ module _ (b : List ℕ) (s : Setting) (t : ℕ) where
     where
       go : (u : Bool)
           → from_centre 1 nowhere
-          (if u || false then seen (record { number = 1; m = s.earth; for_light = false }) (stands b 1 t) (sky_of b t (bodies_before s)) else sky_of b t (bodies_before s))
+          (if u || false then seen (record { number = 1; m = s.earth; for_light = false }) (stands b 1 t) (sky_of b t (bodies_before s)) otherwise sky_of b t (bodies_before s))
           ≡ sky_of b t (bodies_before s)
       go true = left_out (record { number = 1; m = s.earth; for_light = false }) at_rest (sky_of b t (bodies_before s)) refl ∙ as_before
       go false = as_before
@@ -177,11 +177,11 @@ earth_used s e =
 
 -- so 14 never comes about the Earth
 module _ {A : Type 0} (s : Setting) (four fourteen rest : A) where
-  no_fourteen : (if not (setting_allowed s) then four else if not (centre_allowed s 1) then fourteen else rest) ≡ (if not (setting_allowed s) then four else rest)
+  no_fourteen : (if not (setting_allowed s) then four otherwise if not (centre_allowed s 1) then fourteen otherwise rest) ≡ (if not (setting_allowed s) then four otherwise rest)
   no_fourteen = go (setting_allowed s) refl
     where
       go : (ok : Bool) → setting_allowed s ≡ ok
-          → (if not ok then four else if not (centre_allowed s 1) then fourteen else rest) ≡ (if not ok then four else rest)
+          → (if not ok then four otherwise if not (centre_allowed s 1) then fourteen otherwise rest) ≡ (if not ok then four otherwise rest)
       go true e = rw (earth_used s e)
       go false e = refl
 
@@ -190,13 +190,13 @@ pub answer_as_before : (b : List ℕ) (s : Setting) (t : ℕ) (P : Vector) → u
 unfolding acceleration_answer answer_before
 answer_as_before b s t P flat dark =
     check_by_check Refused (acceleration_at b s 1 t P) b s (centre_allowed s 1) (is_moment t) (finite_vector P)
-    ∙ ap (λ (x : AccelerationAnswer). if not (passes b) then Refused 1 else x)
+    ∙ ap (λ (x : AccelerationAnswer). if not (passes b) then Refused 1 otherwise x)
     (no_fourteen s (Refused 4) (Refused 14) _
-    ∙ ap (λ (x : AccelerationAnswer). if not (setting_allowed s) then Refused 4 else if not (is_moment t) then Refused 3 else if not (finite_vector P) then Refused 7 else x)
+    ∙ ap (λ (x : AccelerationAnswer). if not (setting_allowed s) then Refused 4 otherwise if not (is_moment t) then Refused 3 otherwise if not (finite_vector P) then Refused 7 otherwise x)
     (about_the_earth s flat dark b t P))
 
 -- two moments that give the same number, checked together or one after the other
-both_moments : (p q : Bool) (k rest : ℕ) → (if not (p && q) then k else rest) ≡ (if not p then k else if not q then k else rest)
+both_moments : (p q : Bool) (k rest : ℕ) → (if not (p && q) then k otherwise rest) ≡ (if not p then k otherwise if not q then k otherwise rest)
 both_moments true q k rest = refl
 both_moments false q k rest = refl
 
@@ -208,5 +208,5 @@ module _ (b : List ℕ) (setting : Setting) (s : State) (h : ℕ) (earth : s.cen
       check_by_check (λ k. k) (or_later (stored_refusal b setting s) (target_refusal s.moment h target)) b setting (centre_allowed setting s.centre)
       (is_moment s.moment && is_moment target) (finite_state s)
       ∙ rw (ordered, earth)
-      (ap (λ (k : ℕ). if not (passes b) then 1 else k)
-      (no_fourteen setting 4 14 _ ∙ ap (λ (k : ℕ). if not (setting_allowed setting) then 4 else k) (both_moments (is_moment s.moment) (is_moment target) 3 _)))
+      (ap (λ (k : ℕ). if not (passes b) then 1 otherwise k)
+      (no_fourteen setting 4 14 _ ∙ ap (λ (k : ℕ). if not (setting_allowed setting) then 4 otherwise k) (both_moments (is_moment s.moment) (is_moment target) 3 _)))

@@ -4,7 +4,7 @@ use mathlib.Core.Bool.{Bool, true, false, ◌&&◌}
 use mathlib.Core.List.{List}
 use mathlib.Core.Path.{◌≡◌, refl, sym, ap, ◌∙◌}
 use Prim.Native.Nat.{ℕ, ◌+◌, ◌/◌}
-use Rattle.base.specs.Choice.{if◌then◌else◌}
+use Rattle.base.specs.Choice.{if◌then◌otherwise◌}
 use Rattle.state.specs.State.{position, velocity, acceleration, injection_at, finite_vector, used}
 use Rattle.state.specs.declared.Vector.{Vector}
 use Rattle.state.specs.declared.State.{State}
@@ -30,7 +30,7 @@ module _ (acc : ℕ → Vector → AccelerationAnswer) where
   end : (t c : ℕ) (p v : Vector) → arrive (keeping acc) t c p v ≡ kept (arrive (unkept acc) t c p v)
   end t c p v = go (finite_vector p && finite_vector v)
     where
-      go : (ok : Bool) → (if ok then keeping acc (injection_at t c p v) else Off 7) ≡ kept (if ok then unkept acc (injection_at t c p v) else Off 7)
+      go : (ok : Bool) → (if ok then keeping acc (injection_at t c p v) otherwise Off 7) ≡ kept (if ok then unkept acc (injection_at t c p v) otherwise Off 7)
       go true = refl
       go false = refl
 

@@ -1,7 +1,7 @@
 -- The acceleration before document 02's R-7: about any centre, without the last terms. Also document 01's acceleration and start checks
 -- before R-6: about the Earth, over the bodies from 2 on.
 use Rattle.std.specs.Prelude.{false, not, ◌&&◌, List, [], ◌∷◌, ℕ, Float}
-use Rattle.base.specs.Choice.{if◌then◌else◌}
+use Rattle.base.specs.Choice.{if◌then◌otherwise◌}
 use Rattle.base.specs.Limits.{is_moment}
 use Rattle.state.specs.State.{finite_vector, finite_state, setting_allowed, coefficient_of}
 use Rattle.state.specs.declared.Vector.{Vector}
@@ -41,19 +41,19 @@ acceleration_before b s t P = seen_then (rule_before s.earth P) (sky_of b t (bod
 -- "Acceleration: 1, 4, 3, 7 (position), then its own rule"
 unfoldable pub answer_before : List ℕ → Setting → ℕ → Vector → AccelerationAnswer
 answer_before b s t P =
-    if not (passes b) then Refused 1 else
-    if not (setting_allowed s) then Refused 4 else
-    if not (is_moment t) then Refused 3 else
-    if not (finite_vector P) then Refused 7 else
+    if not (passes b) then Refused 1 otherwise
+    if not (setting_allowed s) then Refused 4 otherwise
+    if not (is_moment t) then Refused 3 otherwise
+    if not (finite_vector P) then Refused 7 otherwise
     acceleration_before b s t P
 
 -- "Run call order: 1, 4, 3 (state, then target), 7 (state), 2, 5": before R-8 the stored acceleration was not checked
 unfoldable pub start_before : List ℕ → Setting → State → ℕ → ℕ → ℕ
 start_before b setting s h target =
-    if not (passes b) then 1 else
-    if not (setting_allowed setting) then 4 else
-    if not (is_moment s.moment) then 3 else
-    if not (is_moment target) then 3 else
-    if not (finite_state s) then 7 else
-    if not (step_allowed h) then 2 else
-    if not (within_steps s.moment h target) then 5 else 0
+    if not (passes b) then 1 otherwise
+    if not (setting_allowed setting) then 4 otherwise
+    if not (is_moment s.moment) then 3 otherwise
+    if not (is_moment target) then 3 otherwise
+    if not (finite_state s) then 7 otherwise
+    if not (step_allowed h) then 2 otherwise
+    if not (within_steps s.moment h target) then 5 otherwise 0

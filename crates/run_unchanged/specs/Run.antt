@@ -1,7 +1,7 @@
 -- Document 01's run before document 02's R-6, R-7 and R-8, without its guesses: about the Earth, from the moment, the position and the
 -- velocity only.
 use Rattle.std.specs.Prelude.{List, ◌≡◌, ℕ, ◌+◌}
-use Rattle.base.specs.Choice.{if◌then◌else◌, ◌=?◌}
+use Rattle.base.specs.Choice.{if◌then◌otherwise◌, ◌=?◌}
 use Rattle.state.specs.State.{position, bare}
 use Rattle.state.specs.declared.State.{State}
 use Rattle.state.specs.declared.Setting.{Setting}
@@ -16,7 +16,7 @@ use Rattle.run_unchanged.specs.Step.{step_before}
 abbrev pub run_before : List ℕ → Setting → State → ℕ → ℕ → ℕ → Reached
 run_before b setting s h target budget =
     let k = start_before b setting s h target in
-    if k =? 0 then run_to (step_before (acceleration_before b setting) h) target budget s else ended (Refused k) s
+    if k =? 0 then run_to (step_before (acceleration_before b setting) h) target budget s otherwise ended (Refused k) s
 
 abbrev pub reached_by : RunAnswer → Reached
 reached_by r = record { outcome = r.outcome; steps = r.steps; state = r.state }

@@ -12,7 +12,7 @@ use lib.Ieee.{Float, nan, inf, fin, down, div, of_int, round}
 use lib.Ieee.Scale.{finite}
 use lib.Ieee.Exact.{HasValue}
 use Rattle.base.specs.Limits.{circle}
-use Rattle.base.specs.Choice.{if◌then◌else◌, ◌<?◌}
+use Rattle.base.specs.Choice.{if◌then◌otherwise◌, ◌<?◌}
 use Rattle.base.specs.Floats.{◌⊗◌, ◌⊘◌, whole}
 use Rattle.base.proofs.Bounds.{Within, Held, power_held, within_finite, round_within, neg_within, mul_within, add_within, div_within}
 use Rattle.sine.specs.declared.SineCosine.{SineCosine}
@@ -143,7 +143,7 @@ pub accepted_finite : (parts : ℕ) → FiniteAnswer (sine_cosine_answer parts)
 unfolding sine_cosine_answer
 accepted_finite parts = go (parts <? circle)
   where
-    go : (b : Bool) → FiniteAnswer (if b then Both (sine_cosine parts) else Refused 12)
+    go : (b : Bool) → FiniteAnswer (if b then Both (sine_cosine parts) otherwise Refused 12)
     go true =
         let w = sine_cosine_within parts in
         (within_finite 2 1 (sine_cosine parts).sine w.sine, within_finite 2 1 (sine_cosine parts).cosine w.cosine)

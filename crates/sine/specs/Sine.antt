@@ -4,7 +4,7 @@ use Rattle.std.specs.Float.{binary64}
 use Rattle.std.specs.Float.Ieee.{neg, of_int}
 use Rattle.base.specs.Limits.{circle}
 use Rattle.base.specs.Floats.{◌⊕◌, ◌⊗◌, ◌⊘◌, whole, decimal}
-use Rattle.base.specs.Choice.{if◌then◌else◌, ◌<?◌, ◌=?◌}
+use Rattle.base.specs.Choice.{if◌then◌otherwise◌, ◌<?◌, ◌=?◌}
 use Rattle.sine.specs.declared.SineCosine.{SineCosine}
 use Rattle.sine.specs.declared.SineCosineAnswer.{SineCosineAnswer}
 use Rattle.sine.specs.declared.SineCosineAnswer.TheVariants.{Both, Refused}
@@ -14,7 +14,7 @@ octant = 450_000_000_000
 
 -- "x is r for even q, 450,000,000,000 - r for odd q"
 unfoldable pub within : ℕ → ℕ → ℕ
-within q r = if q % 2 =? 0 then r else octant - r
+within q r = if q % 2 =? 0 then r otherwise octant - r
 
 -- "c the float nearest 0.017453292519943295"
 abbrev pub c : Float
@@ -30,7 +30,7 @@ factorial (suc n) = suc n * factorial n
 
 -- (-1)^k / n!, "one float quotient"
 abbrev pub coefficient : ℕ → ℕ → Float
-coefficient k n = of_int binary64 (if k % 2 =? 0 then pos 1 else negsuc 0) ⊘ whole (factorial n)
+coefficient k n = of_int binary64 (if k % 2 =? 0 then pos 1 otherwise negsuc 0) ⊘ whole (factorial n)
 
 -- n is 2k + 1 for the sine, 2k for the cosine
 abbrev pub sine_coefficients : List Float
@@ -89,4 +89,4 @@ sine_cosine parts =
 
 -- "parts below one circle", 12 otherwise
 unfoldable pub sine_cosine_answer : ℕ → SineCosineAnswer
-sine_cosine_answer parts = if parts <? circle then Both (sine_cosine parts) else Refused 12
+sine_cosine_answer parts = if parts <? circle then Both (sine_cosine parts) otherwise Refused 12

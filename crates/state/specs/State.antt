@@ -2,7 +2,7 @@
 -- values are allowed.
 use Rattle.std.specs.Prelude.{Bool, ◌&&◌, Float, ℕ}
 use Rattle.std.specs.Float.Ieee.Scale.{finite}
-use Rattle.base.specs.Choice.{if◌then◌else◌, ◌=?◌}
+use Rattle.base.specs.Choice.{if◌then◌otherwise◌, ◌=?◌}
 use Rattle.base.specs.Floats.{◌⊕◌, ◌⊗◌, zero64}
 use Rattle.base.specs.Limits.{is_dut}
 use Rattle.hour.specs.Hour.{is_rule}
@@ -91,12 +91,12 @@ setting_allowed s = coefficients_allowed s && terms_allowed s && is_dut s.dut &&
 -- the coefficient of the body with that number, "1 to 6"; 0 for any other number
 unfoldable pub coefficient_of : Setting → ℕ → Float
 coefficient_of s number =
-    if number =? 1 then s.earth else
-    if number =? 2 then s.moon else
-    if number =? 3 then s.sun else
-    if number =? 4 then s.venus else
-    if number =? 5 then s.mars else
-    if number =? 6 then s.jupiter else zero64
+    if number =? 1 then s.earth otherwise
+    if number =? 2 then s.moon otherwise
+    if number =? 3 then s.sun otherwise
+    if number =? 4 then s.venus otherwise
+    if number =? 5 then s.mars otherwise
+    if number =? 6 then s.jupiter otherwise zero64
 
 -- "The centre must be a used body": document 02, R-6, "a centre outside 1 to 6 or unused is 14"
 unfoldable pub centre_allowed : Setting → ℕ → Bool

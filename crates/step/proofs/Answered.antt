@@ -3,7 +3,7 @@ use mathlib.Core.Bool.{true, ◌&&◌}
 use mathlib.Core.List.{List}
 use mathlib.Core.Path.{◌≡◌, sym, ap, ◌∙◌}
 use Prim.Native.Nat.{ℕ, ◌+◌}
-use Rattle.base.specs.Choice.{if◌then◌else◌}
+use Rattle.base.specs.Choice.{if◌then◌otherwise◌}
 use Rattle.state.specs.State.{position, velocity, centre_allowed, finite_vector, injection_at}
 use Rattle.state.specs.declared.Vector.{Vector}
 use Rattle.state.specs.declared.State.{State}
@@ -46,7 +46,7 @@ ended : (b : List ℕ) (s : Setting) (c : ℕ) → centre_allowed s c ≡ true �
     → (p v : Vector) → kept bodies.entries (arrive (keeping_under bodies s) t c p v) ≡ kept (sights b s c t).entries (arrive (keeping (acceleration_at b s c)) t c p v)
 ended b s c ok t bodies seen p v =
     ap (λ (k : Sights). kept k.entries (arrive (keeping_under k s) t c p v)) seen
-    ∙ ap (λ (q : AccelerationAnswer). kept (sights b s c t).entries (if finite_vector p && finite_vector v then moved_by (kept_by (injection_at t c p v) q) else Off 7))
+    ∙ ap (λ (q : AccelerationAnswer). kept (sights b s c t).entries (if finite_vector p && finite_vector v then moved_by (kept_by (injection_at t c p v) q) otherwise Off 7))
     (under_is b s t p c ok)
 
 pub ended_lastly : (b : List ℕ) (setting : Setting) (s : State) → centre_allowed setting s.centre ≡ true → (h : ℕ) (bodies : Sights)

@@ -5,7 +5,7 @@ use mathlib.Core.List.{List}
 use mathlib.Core.Path.{◌≡◌, refl, sym, ap, ◌∙◌}
 use Prim.Native.Nat.{ℕ, ◌+◌, ◌/◌}
 use native.Mathlib.Omega.{arith}
-use Rattle.base.specs.Choice.{if◌then◌else◌}
+use Rattle.base.specs.Choice.{if◌then◌otherwise◌}
 use Rattle.state.specs.State.{position, velocity, acceleration, injection_at, carrying, finite_vector, finite_state, centre_allowed}
 use Rattle.state.specs.declared.Vector.{Vector}
 use Rattle.state.specs.declared.State.{State}
@@ -42,7 +42,7 @@ arrived : (ends : Injection → Moved) (t c : ℕ) (p v : Vector) (next : State)
     → ((finite_vector p && finite_vector v) ≡ true) × (ends (injection_at t c p v) ≡ On next)
 arrived ends t c p v next = go (finite_vector p && finite_vector v) refl
   where
-    go : (ok : Bool) → (finite_vector p && finite_vector v) ≡ ok → (if ok then ends (injection_at t c p v) else Off 7) ≡ On next
+    go : (ok : Bool) → (finite_vector p && finite_vector v) ≡ ok → (if ok then ends (injection_at t c p v) otherwise Off 7) ≡ On next
         → ((finite_vector p && finite_vector v) ≡ true) × (ends (injection_at t c p v) ≡ On next)
     go true f e = (f, e)
     go false f e = let z : ◌≡◌ {A = ℕ} 0 1 = cc in absurd (omega arith)

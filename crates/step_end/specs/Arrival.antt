@@ -1,6 +1,6 @@
 -- Document 01, "The step and the run", and document 02, R-8: the end of a step, from the slopes of its four stages.
 use Rattle.std.specs.Prelude.{◌&&◌, ℕ, ◌+◌}
-use Rattle.base.specs.Choice.{if◌then◌else◌}
+use Rattle.base.specs.Choice.{if◌then◌otherwise◌}
 use Rattle.state.specs.State.{position, velocity, injection_at, finite_vector}
 use Rattle.state.specs.declared.Vector.{Vector}
 use Rattle.state.specs.declared.State.{State}
@@ -16,7 +16,7 @@ pub data Moved : Type 0 where
 
 -- "A new component that is not finite gives 7"; `ends` computes the result from the new position and velocity
 abbrev pub arrive : (Injection → Moved) → ℕ → ℕ → Vector → Vector → Moved
-arrive ends t centre p v = if finite_vector p && finite_vector v then ends (injection_at t centre p v) else Off 7
+arrive ends t centre p v = if finite_vector p && finite_vector v then ends (injection_at t centre p v) otherwise Off 7
 
 -- The velocity of a stage, from the acceleration of the stage before it. The slope of a position is the stage's velocity, that of a
 -- velocity the stage's acceleration.

@@ -2,7 +2,7 @@
 -- little-endian)". A NaN's pattern is a NaN, which the checks then refuse. Document 02, R-7: "A second program takes a 144-byte order
 -- with J, A, K after the old 120 bytes", and the old one is "read as J and K zero".
 use Rattle.std.specs.Prelude.{ℕ, List, length}
-use Rattle.base.specs.Choice.{if◌then◌else◌, ◌<?◌}
+use Rattle.base.specs.Choice.{if◌then◌otherwise◌, ◌<?◌}
 use Rattle.base.specs.Floats.{zero64}
 use Rattle.state.specs.declared.Injection.{Injection}
 use Rattle.state.specs.declared.Setting.{Setting}
@@ -60,4 +60,4 @@ order_of form b =
 
 -- "Input below 120 bytes .. is 1", and below 144 if that is the length of the order
 unfoldable pub read_order : Form → List ℕ → OrderAnswer
-read_order form b = if length b <? order_length form then Refused 1 else Is (order_of form b)
+read_order form b = if length b <? order_length form then Refused 1 otherwise Is (order_of form b)

@@ -9,7 +9,7 @@ use borrow.Author.Tests.{eq-eqb, ne_eqb, ltb-true, ltb-false}
 use lib.Dec.{ltb}
 use lib.ListN.{length, take, drop, get_or}
 use lib.Seq.{drop-cons}
-use Rattle.base.specs.Choice.{if◌then◌else◌}
+use Rattle.base.specs.Choice.{if◌then◌otherwise◌}
 use Rattle.base.specs.Limits.{end_of_time}
 use Rattle.text_write.specs.Written.{Wrote}
 use Rattle.text_write.proofs.Writing.{nothing, both, inside}
@@ -40,7 +40,7 @@ behind_behind t u x = ap (λ (z : List ℕ). record { rows = z; number = x.numbe
 
 -- ---- when a line is not refused
 
-choice : (p q : Bool) → ◌≡◌ {A = ℕ} (if p then (if q then 17 else 0) else 13) 0 → (p ≡ true) × (q ≡ false)
+choice : (p q : Bool) → ◌≡◌ {A = ℕ} (if p then (if q then 17 otherwise 0) otherwise 13) 0 → (p ≡ true) × (q ≡ false)
 choice true true e = absurd (omega (arith, e))
 choice true false e = (refl, refl)
 choice false q e = absurd (omega (arith, e))
@@ -51,7 +51,7 @@ state_fits r e = let c = choice (ltb r.moment end_of_time) (has_large r) e in (l
 pub fits_of : (f : Found) (r : Row) → f ≡ Is r → found_refusal f ≡ 0 → state_refusal r ≡ 0
 fits_of f r e h = sym (ap found_refusal e) ∙ h
 
-unless_off : (b : Bool) (n : ℕ) → (if b then 13 else n) ≡ 0 → n ≡ 0
+unless_off : (b : Bool) (n : ℕ) → (if b then 13 otherwise n) ≡ 0 → n ≡ 0
 unless_off true n e = absurd (omega (arith, e))
 unless_off false n e = e
 
@@ -71,7 +71,7 @@ line_most (After t) n h = omega (arith, h.0, h.1)
 line_most Done n h = h
 line_most Off n h = absurd h
 
-later_held : (t m n : ℕ) (b : Bool) (f : Found) → ltb t m ≡ b → (n ≤ t + 3) × (t < end_of_time) → m < end_of_time → refusal_at (if b then After m else Off) f ≡ 0 → Held (if b then After m else Off) (n + 1)
+later_held : (t m n : ℕ) (b : Bool) (f : Found) → ltb t m ≡ b → (n ≤ t + 3) × (t < end_of_time) → m < end_of_time → refusal_at (if b then After m otherwise Off) f ≡ 0 → Held (if b then After m otherwise Off) (n + 1)
 later_held t m n true f e h l z = let p = h.0 in let g = ltb-true t m e in (omega arith, l)
 later_held t m n false f e h l z = absurd (omega (arith, z))
 

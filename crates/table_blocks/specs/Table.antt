@@ -1,7 +1,7 @@
 -- Document 02, R-13, "Tables for the graphics house": the table of a text, as one definition, refusals included.
 -- "Refusals: what R-1 refuses is 13, a magnitude of 10^12 or more 17, each with its line; the first such line decides, and rows before it have been written."
 use Rattle.std.specs.Prelude.{ℕ, ◌+◌, List, [], ◌∷◌, ◌++◌}
-use Rattle.base.specs.Choice.{if◌then◌else◌, ◌=?◌}
+use Rattle.base.specs.Choice.{if◌then◌otherwise◌, ◌=?◌}
 use Rattle.base.specs.Limits.{is_moment}
 use Rattle.text_write.specs.Numerals.{decimal_of}
 use Rattle.listing_words.specs.Words.{space, line_feed, refused_word}
@@ -32,7 +32,7 @@ behind text t = record { rows = text ++ t.rows; number = t.number; line = t.line
 
 -- for a state 13 comes before 17: a moment out of range, then a component that is too large
 abbrev pub state_refusal : Row → ℕ
-state_refusal r = if is_moment r.moment then (if has_large r then 17 else 0) else 13
+state_refusal r = if is_moment r.moment then (if has_large r then 17 otherwise 0) otherwise 13
 
 abbrev pub found_refusal : Found → ℕ
 found_refusal None = 0
@@ -40,7 +40,7 @@ found_refusal (Is r) = state_refusal r
 
 -- the check of a line by the stage that it leads to: 13 if it is not of R-1's form
 abbrev pub refusal_at : Place → Found → ℕ
-refusal_at place found = if is_off place then 13 else found_refusal found
+refusal_at place found = if is_off place then 13 otherwise found_refusal found
 
 -- the line of a state gives a row, any other line none
 abbrev pub found_text : Found → List ℕ
@@ -61,14 +61,14 @@ table_from p n [] = at_end p n
 table_from p n (l ∷ ls) =
     if refusal_at (placed p l) (row_of l) =? 0
     then behind (found_text (row_of l)) (table_from (placed p l) (n + 1) ls)
-    else refused_by (refusal_at (placed p l) (row_of l)) n
+    otherwise refused_by (refusal_at (placed p l) (row_of l)) n
 
 unfoldable pub table_of : List ℕ → Table
 table_of text = behind heading (table_from Top 1 (kinds_of text))
 
 -- REFUSED n LINE; nothing if nothing is refused
 unfoldable pub refusal_text : ℕ → ℕ → List ℕ
-refusal_text number line = if number =? 0 then [] else refused_word ++ decimal_of number ++ space ++ decimal_of line ++ line_feed
+refusal_text number line = if number =? 0 then [] otherwise refused_word ++ decimal_of number ++ space ++ decimal_of line ++ line_feed
 
 -- what the program writes for the text that it reads: to standard output, and to standard error
 unfoldable pub written : List ℕ → List ℕ

@@ -7,7 +7,7 @@ use mathlib.Core.Path.{◌≡◌, refl, sym, ap, ap₂, ◌∙◌}
 use native.Mathlib.Omega.{arith}
 use borrow.Author.Tests.{eq-eqb, ne_eqb, lt-ltb, le-ltb, eqb-true, eqb-false}
 use lib.Dec.{ltb, eqb}
-use Rattle.base.specs.Choice.{if◌then◌else◌}
+use Rattle.base.specs.Choice.{if◌then◌otherwise◌}
 use Rattle.base.specs.Limits.{end_of_time}
 use Rattle.listing_scan.specs.declared.Row.{Row}
 use Rattle.listing_scan.specs.declared.Line.{Line}
@@ -51,7 +51,7 @@ InRangeFound None = Unit {0}
 InRangeFound (Is r) = r.moment < end_of_time
 
 -- a line in range is refused with 13 if it is not of the form, else with 17 if a component is large
-by_large : (f : Found) (b : Bool) → found_large f ≡ b → InRangeFound f → found_refusal f ≡ (if b then 17 else 0)
+by_large : (f : Found) (b : Bool) → found_large f ≡ b → InRangeFound f → found_refusal f ≡ (if b then 17 otherwise 0)
 by_large None b e h = rw (sym e)
 by_large (Is r) b e h = rw (lt-ltb r.moment end_of_time h, e)
 
@@ -63,7 +63,7 @@ range_of line.Lone h = tt
 range_of line.Bad h = tt
 
 refusal_is : (p : Place) (l : Line) (o b : Bool) → is_off (placed p l) ≡ o → found_large (row_of l) ≡ b → InRange l
-    → refusal_at (placed p l) (row_of l) ≡ (if o then 13 else if b then 17 else 0)
+    → refusal_at (placed p l) (row_of l) ≡ (if o then 13 otherwise if b then 17 otherwise 0)
 refusal_is p l o b e g h = rw (e, by_large (row_of l) b g (range_of l h))
 
 -- ---- the line numbers that are found are not before the first line
@@ -77,9 +77,9 @@ form_later Done n [] h = absurd (omega arith)
 form_later Off n [] h = omega arith
 form_later p n (l ∷ ls) h = go (is_off (placed p l)) h (form_later (placed p l) (n + 1) ls)
   where
-    go : (b : Bool) → 0 < (if b then n else refused_from (placed p l) (n + 1) ls)
+    go : (b : Bool) → 0 < (if b then n otherwise refused_from (placed p l) (n + 1) ls)
         → (0 < refused_from (placed p l) (n + 1) ls → n + 1 ≤ refused_from (placed p l) (n + 1) ls)
-        → n ≤ (if b then n else refused_from (placed p l) (n + 1) ls)
+        → n ≤ (if b then n otherwise refused_from (placed p l) (n + 1) ls)
     go true h later = omega arith
     go false h later = let s = later h in omega arith
 
@@ -88,7 +88,7 @@ unfolding large_from
 large_later n [] h = absurd (omega arith)
 large_later n (l ∷ ls) h = go (found_large (row_of l)) h (large_later (n + 1) ls)
   where
-    go : (b : Bool) → 0 < (if b then n else large_from (n + 1) ls) → (0 < large_from (n + 1) ls → n + 1 ≤ large_from (n + 1) ls) → n ≤ (if b then n else large_from (n + 1) ls)
+    go : (b : Bool) → 0 < (if b then n otherwise large_from (n + 1) ls) → (0 < large_from (n + 1) ls → n + 1 ≤ large_from (n + 1) ls) → n ≤ (if b then n otherwise large_from (n + 1) ls)
     go true h later = omega arith
     go false h later = let s = later h in omega arith
 
@@ -105,7 +105,7 @@ off_first n g h later = go (eqb g 0) refl
     z = ne_eqb n 0 (λ e. omega arith)
 
     go : (b : Bool) → eqb g 0 ≡ b
-        → (if (if b then false else if eqb n 0 then true else ltb g n) then refused_by 17 g else if eqb n 0 then over else refused_by 13 n) ≡ refused_by 13 n
+        → (if (if b then false otherwise if eqb n 0 then true otherwise ltb g n) then refused_by 17 g otherwise if eqb n 0 then over otherwise refused_by 13 n) ≡ refused_by 13 n
     go true e = rw z
     go false e =
         let ne = eqb-false g 0 e in
@@ -119,7 +119,7 @@ large_first n f h later = go (eqb f 0) refl
     z = ne_eqb n 0 (λ e. omega arith)
 
     go : (b : Bool) → eqb f 0 ≡ b
-        → (if (if eqb n 0 then false else if b then true else ltb n f) then refused_by 17 n else if b then over else refused_by 13 f) ≡ refused_by 17 n
+        → (if (if eqb n 0 then false otherwise if b then true otherwise ltb n f) then refused_by 17 n otherwise if b then over otherwise refused_by 13 f) ≡ refused_by 17 n
     go true e = rw z
     go false e =
         let some : 0 < f = positive f (eqb-false f 0 e) in
@@ -171,9 +171,9 @@ line_later p n (l ∷ ls) h = go (eqb (refusal_at (placed p l) (row_of l)) 0) h 
     t : Table
     t = table_from (placed p l) (n + 1) ls
 
-    go : (b : Bool) → 0 < (if b then behind (found_text (row_of l)) t else refused_by (refusal_at (placed p l) (row_of l)) n).line
+    go : (b : Bool) → 0 < (if b then behind (found_text (row_of l)) t otherwise refused_by (refusal_at (placed p l) (row_of l)) n).line
         → (0 < t.line → n + 1 ≤ t.line)
-        → n ≤ (if b then behind (found_text (row_of l)) t else refused_by (refusal_at (placed p l) (row_of l)) n).line
+        → n ≤ (if b then behind (found_text (row_of l)) t otherwise refused_by (refusal_at (placed p l) (row_of l)) n).line
     go true h later = let s = later h in omega arith
     go false h later = omega arith
 

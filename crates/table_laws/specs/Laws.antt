@@ -1,6 +1,6 @@
 -- Definitions for the laws of a table: the blocks and portions of the program, one after the other.
 use Rattle.std.specs.Prelude.{ℕ, ◌+◌, ◌≤◌, Bool, true, false, List, [], ◌∷◌, ◌++◌, ◌≡◌, length, take}
-use Rattle.base.specs.Choice.{if◌then◌else◌, ◌<?◌, ◌=?◌}
+use Rattle.base.specs.Choice.{if◌then◌otherwise◌, ◌<?◌, ◌=?◌}
 use Rattle.listing_scan.specs.declared.Row.{Row}
 use Rattle.listing_scan.specs.declared.Line.{Line}
 use Rattle.listing_read.specs.declared.Found.{Found}
@@ -103,15 +103,15 @@ found_large (Is r) = has_large r
 
 unfoldable pub large_from : ℕ → List Line → ℕ
 large_from n [] = 0
-large_from n (l ∷ ls) = if found_large (row_of l) then n else large_from (n + 1) ls
+large_from n (l ∷ ls) = if found_large (row_of l) then n otherwise large_from (n + 1) ls
 
 -- of two line numbers, 0 for none: the first comes before the second
 abbrev pub comes_first : ℕ → ℕ → Bool
-comes_first g f = if g =? 0 then false else if f =? 0 then true else g <? f
+comes_first g f = if g =? 0 then false otherwise if f =? 0 then true otherwise g <? f
 
 -- "the first such line decides": f is the line that R-1 refuses, g the first with a large magnitude; on one line 13 comes first
 abbrev pub decided : ℕ → ℕ → Table
-decided f g = if comes_first g f then refused_by 17 g else if f =? 0 then over else refused_by 13 f
+decided f g = if comes_first g f then refused_by 17 g otherwise if f =? 0 then over otherwise refused_by 13 f
 
 abbrev pub refusal_of : Table → Table
 refusal_of t = refused_by t.number t.line
@@ -119,7 +119,7 @@ refusal_of t = refused_by t.number t.line
 -- the lines from line n on that come before a line; all of them if that is 0
 unfoldable pub lines_before : ℕ → ℕ → List Line → List Line
 lines_before line n [] = []
-lines_before line n (l ∷ ls) = if n =? line then [] else l ∷ lines_before line (n + 1) ls
+lines_before line n (l ∷ ls) = if n =? line then [] otherwise l ∷ lines_before line (n + 1) ls
 
 -- the refusal of a text: that of R-1 or that of a large magnitude; the first line decides
 abbrev pub first_large : List ℕ → ℕ

@@ -1,7 +1,7 @@
 -- Document 02, R-13: the number that the bytes of a numeral spell, and how near it is to the float. "each the exact float rounded to
 -- nearest, a tie to the even last digit; zero after rounding has no sign".
 use Rattle.std.specs.Prelude.{ℕ, ◌<◌, Bool, true, ◌&&◌, List, [], ◌∷◌, ◌++◌, ◌≡◌, Float, length}
-use Rattle.base.specs.Choice.{if◌then◌else◌, ◌<?◌}
+use Rattle.base.specs.Choice.{if◌then◌otherwise◌, ◌<?◌}
 use Rattle.text_read.specs.Fields.{all_digits, value_after}
 use Rattle.text_decimal.specs.Numeral.{count, unit_of, Rounded, is_negative}
 use Rattle.text_decimal.specs.declared.Places.{Places}
@@ -11,7 +11,7 @@ use Rattle.text_decimal.specs.declared.Places.{Places}
 pub record Spelled (negative : Bool) (places q : ℕ) (text : List ℕ) : Type 0 where
   pub front : List ℕ
   pub behind : List ℕ
-  pub is : text ≡ (if negative then 45 ∷ [] else []) ++ front ++ (46 ∷ []) ++ behind
+  pub is : text ≡ (if negative then 45 ∷ [] otherwise []) ++ front ++ (46 ∷ []) ++ behind
   pub some : 0 < length front
   pub digits : all_digits 10 (front ++ behind) ≡ true
   pub long : length behind ≡ places

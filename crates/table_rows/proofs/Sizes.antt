@@ -6,7 +6,7 @@ use mathlib.Core.Path.{◌≡◌, refl, ap}
 use native.Mathlib.Omega.{arith}
 use lib.ListN.{length, length-append}
 use lib.Ieee.{binary64, of_bits}
-use Rattle.base.specs.Choice.{if◌then◌else◌}
+use Rattle.base.specs.Choice.{if◌then◌otherwise◌}
 use Rattle.text_write.specs.Written.{Wrote}
 use Rattle.listing_scan.specs.declared.Row.{Row}
 use Rattle.text_decimal.specs.declared.Places.{Places}
@@ -16,13 +16,13 @@ use Rattle.text_time.specs.Stamp.{stamp_text}
 use Rattle.text_time.proofs.Parts.{stamp_length}
 use Rattle.table_rows.specs.Text.{field, fields, row_text, large, any_large, has_large}
 
-both_false : (p q : Bool) → (if p then true else q) ≡ false → (p ≡ false) × (q ≡ false)
+both_false : (p q : Bool) → (if p then true otherwise q) ≡ false → (p ≡ false) × (q ≡ false)
 both_false true q e = absurd (true≢false e)
 both_false false q e = (refl, e)
 
 pub none_large : (a b c : ℕ) → any_large a b c ≡ false → (large a ≡ false) × (large b ≡ false) × (large c ≡ false)
 none_large a b c e =
-    let f = both_false (large a) (if large b then true else large c) e in
+    let f = both_false (large a) (if large b then true otherwise large c) e in
     let g = both_false (large b) (large c) f.1 in
     (f.0, g.0, g.1)
 

@@ -2,7 +2,7 @@
 use Rattle.std.specs.Prelude.{ℕ, Bool, true, List, ◌++◌}
 use Rattle.std.specs.Float.{binary64}
 use Rattle.std.specs.Float.Ieee.{of_bits}
-use Rattle.base.specs.Choice.{if◌then◌else◌}
+use Rattle.base.specs.Choice.{if◌then◌otherwise◌}
 use Rattle.listing_words.specs.Words.{x_name, y_name, z_name, vx_name, vy_name, vz_name, time_name, comma, end_of_row}
 use Rattle.listing_scan.specs.declared.Row.{Row}
 use Rattle.text_decimal.specs.declared.Places.{Places}
@@ -32,7 +32,7 @@ large bits = is_large (of_bits binary64 bits)
 
 -- "a magnitude of 10^12 or more", of any component
 abbrev pub any_large : ℕ → ℕ → ℕ → Bool
-any_large a b c = if large a then true else if large b then true else large c
+any_large a b c = if large a then true otherwise if large b then true otherwise large c
 
 unfoldable pub has_large : Row → Bool
-has_large r = if any_large r.x r.y r.z then true else any_large r.vx r.vy r.vz
+has_large r = if any_large r.x r.y r.z then true otherwise any_large r.vx r.vy r.vz

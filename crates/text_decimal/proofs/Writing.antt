@@ -10,7 +10,7 @@ use lib.ListN.{length, set, length-append}
 use lib.Ieee.{Float, nan, inf, fin, binary64, up, down, of_bits}
 use lib.Ieee.Fits.{down_pos}
 use borrow.Author.Tests.{lt-ltb, leb-false}
-use Rattle.base.specs.Choice.{if◌then◌else◌}
+use Rattle.base.specs.Choice.{if◌then◌otherwise◌}
 use Rattle.text_write.specs.Numerals.{digits, decimal_of}
 use Rattle.text_write.specs.Written.{Wrote}
 use Rattle.text_write.proofs.Writing.{byte}
@@ -38,7 +38,7 @@ pub sign_short : (negative : Bool) (q : ℕ) → length (sign_of negative q) ≤
 unfolding sign_of
 sign_short negative q = go (negative && ltb 0 q)
   where
-    go : (b : Bool) → length {A = ℕ} (if b then 45 ∷ [] else []) ≤ 1
+    go : (b : Bool) → length {A = ℕ} (if b then 45 ∷ [] otherwise []) ≤ 1
     go true = omega arith
     go false = omega arith
 

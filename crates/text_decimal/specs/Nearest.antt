@@ -1,6 +1,6 @@
 -- Document 02, R-13: "rounded to nearest, a tie to the even last digit", over whole numbers.
 use Rattle.std.specs.Prelude.{ℕ, ◌+◌, ◌-◌, ◌*◌, ◌/◌, ◌%◌, ◌≤◌, ◌≡◌}
-use Rattle.base.specs.Choice.{if◌then◌else◌, ◌<?◌}
+use Rattle.base.specs.Choice.{if◌then◌otherwise◌, ◌<?◌}
 
 -- the distance of two whole numbers: one of the two differences is 0
 abbrev pub apart : ℕ → ℕ → ℕ
@@ -14,5 +14,5 @@ pub record Nearest (n d q : ℕ) : Type 0 where
 -- the whole number nearest to n / d: the quotient or the next one up. Twice the remainder is compared with d.
 abbrev pub nearest_to : ℕ → ℕ → ℕ
 nearest_to n d =
-    if 2 * (n % d) <? d then n / d else
-    if d <? 2 * (n % d) then n / d + 1 else n / d + n / d % 2
+    if 2 * (n % d) <? d then n / d otherwise
+    if d <? 2 * (n % d) then n / d + 1 otherwise n / d + n / d % 2

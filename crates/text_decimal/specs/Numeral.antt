@@ -3,7 +3,7 @@
 use Rattle.std.specs.Prelude.{ℕ, ◌+◌, ◌*◌, ◌/◌, ◌^◌, Bool, true, false, ◌&&◌, List, [], ◌∷◌, ◌++◌, Float}
 use Rattle.std.specs.Float.{nan, inf, fin}
 use Rattle.std.specs.Float.Ieee.{up, down}
-use Rattle.base.specs.Choice.{if◌then◌else◌, ◌<?◌, ◌≤?◌}
+use Rattle.base.specs.Choice.{if◌then◌otherwise◌, ◌<?◌, ◌≤?◌}
 use Rattle.text_write.specs.Numerals.{digits, decimal_of}
 use Rattle.text_decimal.specs.Nearest.{Nearest, nearest_to}
 use Rattle.text_decimal.specs.declared.Places.{Places}
@@ -37,7 +37,7 @@ is_negative (fin s m e) = s
 
 -- "zero after rounding has no sign"
 unfoldable pub sign_of : Bool → ℕ → List ℕ
-sign_of negative q = if negative && (0 <? q) then 45 ∷ [] else []
+sign_of negative q = if negative && (0 <? q) then 45 ∷ [] otherwise []
 
 -- the numeral of q units, with that many places after the point
 unfoldable pub units_text : Bool → Places → ℕ → List ℕ

@@ -1,13 +1,13 @@
 -- How numbers are read: a field of digits, from a place up to a space or the end.
 use Rattle.std.specs.Prelude.{ℕ, ◌+◌, ◌-◌, ◌*◌, Bool, true, ◌&&◌, List, [], ◌∷◌, length, drop}
-use Rattle.base.specs.Choice.{if◌then◌else◌, ◌<?◌, ◌≤?◌, ◌=?◌}
+use Rattle.base.specs.Choice.{if◌then◌otherwise◌, ◌<?◌, ◌≤?◌, ◌=?◌}
 use Rattle.text_read.specs.declared.Field.{Field}
 use Rattle.text_read.specs.declared.Field.TheVariants.{Value, Bad}
 
 -- the bytes up to a space
 unfoldable pub until_space : List ℕ → List ℕ
 until_space [] = []
-until_space (b ∷ bs) = if b =? 32 then [] else b ∷ until_space bs
+until_space (b ∷ bs) = if b =? 32 then [] otherwise b ∷ until_space bs
 
 abbrev pub between : ℕ → ℕ → ℕ → Bool
 between low b high = (low ≤? b) && (b ≤? high)
@@ -15,9 +15,9 @@ between low b high = (low ≤? b) && (b ≤? high)
 -- 0 to 9, a to f, A to F; 16 for any other byte
 abbrev pub digit_value : ℕ → ℕ
 digit_value b =
-    if between 48 b 57 then b - 48 else
-    if between 97 b 102 then b - 87 else
-    if between 65 b 70 then b - 55 else 16
+    if between 48 b 57 then b - 48 otherwise
+    if between 97 b 102 then b - 87 otherwise
+    if between 65 b 70 then b - 55 otherwise 16
 
 abbrev pub is_digit : ℕ → ℕ → Bool
 is_digit base b = digit_value b <? base
@@ -33,12 +33,12 @@ value_after base n (b ∷ bs) = value_after base (base * n + digit_value b) bs
 
 -- a field with its count of digits, from least to most, its value and the place after it
 abbrev pub sized : ℕ → ℕ → ℕ → ℕ → ℕ → Field
-sized least most count n next = if (least ≤? count) && (count ≤? most) then Value n next else Bad
+sized least most count n next = if (least ≤? count) && (count ≤? most) then Value n next otherwise Bad
 
 -- a field f that starts at a place: digits only, of a value that fits 64 bits
 abbrev pub numeral : ℕ → ℕ → ℕ → List ℕ → ℕ → Field
 numeral base least most f at =
-    if all_digits base f && (value_after base 0 f <? 0x1_0000_0000_0000_0000) then sized least most (length f) (value_after base 0 f) (at + length f) else Bad
+    if all_digits base f && (value_after base 0 f <? 0x1_0000_0000_0000_0000) then sized least most (length f) (value_after base 0 f) (at + length f) otherwise Bad
 
 unfoldable pub read_number : ℕ → ℕ → ℕ → List ℕ → ℕ → Field
 read_number base least most s at = numeral base least most (until_space (drop at s)) at

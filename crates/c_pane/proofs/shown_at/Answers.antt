@@ -6,7 +6,7 @@ use borrow.Author.Rules.{rules}
 use borrow.Author.Tests.{eq-eqb, ne_eqb, lt-ltb}
 use lib.Dec.{eqb}
 use lib.ListN.{get_or}
-use Rattle.base.specs.Choice.{if◌then◌else◌}
+use Rattle.base.specs.Choice.{if◌then◌otherwise◌}
 use Rattle.state.specs.declared.State.{State}
 use Rattle.pane_live.specs.declared.Pane.{Pane}
 use Rattle.pane_live.specs.declared.Pane.TheVariants.{Blank, One}
@@ -16,7 +16,7 @@ use Rattle.c_pane.specs.Lent.{older_of}
 use Rattle.c_pane.proofs.shown_at.Goals as goal
 
 -- one state or none shows nothing
-nothing-shown : (b : Bool) (a : State) (t : ℕ) → frame.Empty ≡ frame_at (if b then One a else Blank) t
+nothing-shown : (b : Bool) (a : State) (t : ℕ) → frame.Empty ≡ frame_at (if b then One a otherwise Blank) t
 unfolding frame_at
 nothing-shown true a t = refl
 nothing-shown false a t = refl
