@@ -1,6 +1,6 @@
 -- Decimal numbers are read as numbers, and as moments if they are in range. Assumes nothing.
 use Prim.Native.Nat.{ℕ, zero, suc, ◌+◌, ◌-◌, ◌*◌, ◌/◌, ◌%◌, ◌<◌, ◌≤◌}
-use mathlib.Core.Bool.{Bool, true}
+use mathlib.Core.Bool.{Bool, true, false}
 use mathlib.Core.List.{List, [], ◌∷◌, ◌++◌, append_assoc}
 use mathlib.Core.Path.{◌≡◌, refl, sym, ap, ◌∙◌}
 use native.Mathlib.Omega.{arith}
@@ -27,9 +27,14 @@ module _ (ends : Line) (after : List ℕ → Line) where
   unfolding number
   number_short n rest h = rw (decimal_short n h, glyph_small n h, decimal_digit n h, above_zero n)
 
+  digit_some : (some : Bool) → some ≡ true → (d : ℕ) (rest : List ℕ) → d < 10 → digits some ends after (glyph d ∷ rest) ≡ digits some ends after rest
+  unfolding digits
+  digit_some true e d rest g = rw (glyph_small d g, ne_eqb (48 + d) 32 (λ e. omega arith), decimal_digit d g)
+  digit_some false e d rest g = cc
+
   digit_more : (n d : ℕ) (rest : List ℕ) → 0 < n → d < 10 → digits (ltb 0 n) ends after (glyph d ∷ rest) ≡ digits (ltb 0 n) ends after rest
   unfolding digits
-  digit_more n d rest h g = rw (glyph_small d g, lt-ltb 0 n h, ne_eqb (48 + d) 32 (λ e. omega arith), decimal_digit d g)
+  digit_more n d rest h g = digit_some (ltb 0 n) (lt-ltb 0 n h) d rest g
 
   pub number_read : (most n : ℕ) (rest : List ℕ) → n ≤ most → number ends after (decimal_of n ++ rest) ≡ digits (ltb 0 n) ends after rest
   number_read zero n rest h = number_short n rest (omega arith)

@@ -19,7 +19,7 @@ use Rattle.listing_scan.specs.declared.Scan.{Scan}
 use Rattle.listing_scan.specs.declared.Scan.TheVariants.{Start, Letters, Digits, Moment, Component, Behind, Bad}
 use Rattle.listing_scan.specs.Reading.{is_decimal, hex_value, word, digits, number, header_line, arrived_line, refused_line, appended, finite_bits}
 use Rattle.listing_scan.specs.Reading.{component, pushed, components, blank, moment_from, state_line, kind_of}
-use Rattle.listing_scan.specs.Bytes.{letters_of, ends_as, after_number, told, Spaced, Takes}
+use Rattle.listing_scan.specs.Bytes.{letters_of, ends_as, settled, after_number, told, Spaced, Takes}
 
 -- ---- digits
 
@@ -194,7 +194,7 @@ module _ (more bits : ℕ) (r : Row) (b d : ℕ) (e : d ≡ hex_value b) where
     hex_on zero some = absurd (omega arith)
     hex_on (suc left) some =
         let k : suc left - 1 ≡ left = omega arith in
-        record { same = λ rest. rw (lt-ltb (hex_value b) 16 (rw e at h), next_bits, k); on = refl }
+        record { same = λ rest. rw (lt-ltb (hex_value b) 16 (rw e at h), k) (ap (λ (z : ℕ). component (suc left) z (settled more r) rest) next_bits); on = refl }
 
     pub hex_last : (left : ℕ) → left ≤ 0 → finite_bits (bits % 0x1000_0000_0000_0000 * 16 + d) ≡ true
         → Takes (Component more left bits r) b (Behind more (pushed r (bits % 0x1000_0000_0000_0000 * 16 + d)))

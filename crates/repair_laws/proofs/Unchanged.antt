@@ -13,7 +13,7 @@ use Rattle.base.specs.Choice.{◌<?◌, ◌=?◌}
 use Rattle.book.specs.Contents.{stated_total, entry_count, entry_at, offset_of, block_length}
 use Rattle.book.specs.Passes.{ascends, overlaps}
 use Rattle.book.proofs.Below.{every_back}
-use Rattle.book.proofs.Passing.{Passing, allowed_back, apart_back, block_inside_lem, contents_inside}
+use Rattle.book.proofs.Passing.{Passing, allowed_back, apart_back, block_inside as block_inside_lem, contents_inside}
 use Rattle.repair_sort.specs.Fates.{goes_on}
 use Rattle.repair_sort.specs.Reasons.{looked_at, block_inside, first_reason, reasons}
 use Rattle.repair_sort.specs.Ordered.{insert, ordered}

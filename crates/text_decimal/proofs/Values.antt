@@ -25,12 +25,16 @@ rounded unit (inf s) h = absurd (false≢true h)
 rounded unit (fin s m e) h = nearest_is (m * up e * unit) (down e) (down_pos e)
 
 pub one_rounded : (unit : ℕ) (x : Float) (q r : ℕ) → Rounded unit x q → Rounded unit x r → q ≡ r
+one_rounded unit nan q r a b = elim a [ ]
+one_rounded unit (inf _) q r a b = elim a [ ]
 one_rounded unit (fin s m e) q r a b = one_nearest (m * up e * unit) (down e) q r (down_pos e) a b
 
 -- ---- by the value of a float as a fraction
 
 units_of : (unit : ℕ) (x : Float) (s : Bool) (a c q : ℕ) → 0 < c → HasValue x s a c → Nearest (a * unit) c q → q ≡ units_in unit x
 unfolding units_in
+units_of unit nan s a c q C v n = elim v [ ]
+units_of unit (inf _) s a c q C v n = elim v [ ]
 units_of unit (fin t m e) s a c q C v n =
     let f : a * unit * down e ≡ m * up e * unit * c = mul_right_comm a unit (down e) ∙ ap (λ (z : ℕ). z * unit) (sym v.1) ∙ mul_right_comm (m * up e) c unit in
     one_nearest (m * up e * unit) (down e) q (nearest_to (m * up e * unit) (down e)) (down_pos e)
@@ -55,12 +59,16 @@ small_none m unit k h g l =
 
 large_value : (x : Float) (s : Bool) (a c : ℕ) → 0 < c → HasValue x s a c → 1_000_000_000_000 * c ≤ a → is_large x ≡ true
 unfolding is_large
+large_value nan s a c C v h = elim v [ ]
+large_value (inf _) s a c C v h = elim v [ ]
 large_value (fin t m e) s a c C v h =
     le-leb (1_000_000_000_000 * down e) (m * up e)
     (le_of_mul-le-mul_right (le_trans (le_of_eq (mul_right_comm 1_000_000_000_000 (down e) c)) (le_trans (mul-le-mul_right (down e) h) (le_of_eq (sym v.1)))) C)
 
 small_value : (x : Float) (s : Bool) (a c : ℕ) → 0 < c → HasValue x s a c → a < 1_000_000_000_000 * c → is_large x ≡ false
 unfolding is_large
+small_value nan s a c C v h = elim v [ ]
+small_value (inf _) s a c C v h = elim v [ ]
 small_value (fin t m e) s a c C v h =
     lt-leb (1_000_000_000_000 * down e) (m * up e)
     (lt_of_mul-lt-mul_right c (lt_of_le_of_lt (le_of_eq v.1) (lt_of_lt_of_le (mul-lt-mul_of_pos_right h (down_pos e)) (le_of_eq (mul_right_comm 1_000_000_000_000 c (down e))))))
@@ -193,6 +201,8 @@ field_most b h = let l = leb-false 0x426d_1a94_a200_0000 (b % 2 ^ 63) (sym (larg
 -- ---- the sign by the bits
 
 value_sign : (x : Float) (s : Bool) (a c : ℕ) → HasValue x s a c → is_negative x ≡ s
+value_sign nan s a c v = elim v [ ]
+value_sign (inf _) s a c v = elim v [ ]
 value_sign (fin t m e) s a c v = v.0
 
 pub sign_bits : (b : ℕ) → is_large (of_bits binary64 b) ≡ false → is_negative (of_bits binary64 b) ≡ leb (2 ^ 63) b

@@ -25,9 +25,9 @@ loop-low-preserved c =
     let l = c.loop-low-test.true in
     let in-it = c.loop-low.invariant.probed l in
     elim c.match-stand.branch [
-      in-Past w ↦ let st = rw w.in-Past.is at c.stand_at-stand.ensures in
+      | in-Past w ↦ let st = rw w.in-Past.is at c.stand_at-stand.ensures in
           rw (w.low-is, w.high-is) (narrow_past _ _ _ p _ _ _ _ c.loop-low.invariant l st (λ h. omega arith))
-    | in-Before w ↦ let st = rw w.in-Before.is at c.stand_at-stand.ensures in
+      | in-Before w ↦ let st = rw w.in-Before.is at c.stand_at-stand.ensures in
           rw (w.low-is, w.high-is) (narrow_before _ _ _ p _ _ _ _ c.loop-low.invariant l st (λ h. omega arith))
     ]
 

@@ -15,7 +15,7 @@ pub loop-k-preserved : goal.loop-k-preserved
 loop-k-preserved c = rw c.turn_of-a.ensures (one_turn _ _ _ _ _ c.loop-k.invariant (omega arith))
 
 pub loop-j-init : goal.loop-j-init
-loop-j-init c = (rw c.no_sums-b.ensures (no_turn _ _ _ c.requires.n_value.1.0.0), omega arith)
+loop-j-init c = (rw c.no_sums-b.ensures (no_turn _ _ _ c.requires.le_n2.0), omega arith)
 
 pub loop-j-preserved : goal.loop-j-preserved
 loop-j-preserved c = (rw c.turn_of-b.ensures (one_turn _ _ _ _ _ c.loop-j.invariant.0 (omega arith)), omega arith)
@@ -28,4 +28,4 @@ loop-k-2-preserved c = let at = c.loop-k-2.invariant in
 pub returns : goal.returns
 returns c = let at = c.loop-k-2.invariant in
     let done = c.loop-k-2-test.false in
-    (rw c.place_of-first.ensures (last_turn_lem _ _ _ _ _ at.0 done), rw c.place_of-second.ensures (last_turn_lem _ _ _ _ _ at.1 done))
+    record { first_value = rw c.place_of-first.ensures (last_turn_lem _ _ _ _ _ at.0 done); second_value = rw c.place_of-second.ensures (last_turn_lem _ _ _ _ _ at.1 done) }

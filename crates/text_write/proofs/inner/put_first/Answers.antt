@@ -10,6 +10,9 @@ use Rattle.text_write.proofs.Decimal.{decimal_some, decimal_short, decimal_cut, 
 use borrow.Author.Rules.{rules}
 use Rattle.text_write.proofs.inner.put_first.Goals as goal
 
+pub bounds-out-at : goal.bounds-out-at
+bounds-out-at c = omega (arith, decimal_some c.args.n, c.requires.1)
+
 pub returns-then-n-lt10 : goal.returns-then-n-lt10
 returns-then-n-lt10 c = rw (decimal_short c.args.n c.if-n-lt10.true, c.digit_byte.ensures)
     (byte _ _ _ (omega (arith, decimal_some c.args.n, c.requires.1)))
@@ -39,9 +42,3 @@ put_four-requires c = (omega arith, omega arith, omega (arith, decimal_wide 3 c.
 
 pub returns : goal.returns
 returns c = rw (decimal_exact 3 c.args.n c.if-n-lt1000.false c.requires.0) c.put_four.ensures
-
--- MISSING bounds-out-at
--- WHY args 4 for goals ['digit_byte-requires', 'bounds-out-at', 'overflow_add-result']: (λ c κs. search rules) ;; (λ c. omega (arith, decimal_some c.before.before.before.args.n, c.before.before.before.requires.1)) ;; (λ c. search rules) ;; (λ c. search rules)
--- WHY args 1 for goals []: (λ c. search rules)
--- WHY args 1 for goals []: (λ c. c.before.before.put-two2.auto.0 ∙ simp length-set)
--- WHY args 1 for goals []: (λ c. search rules)

@@ -1,0 +1,35 @@
+-- `book::inner::body_at` meets its contract: the entry that the lookup gives covers the moment. Assumes nothing.
+use borrow.Author.Rules.{rules}
+use mathlib.Core.Path.{sym, ◌∙◌}
+use Rattle.book_search.proofs.Found.{covered}
+use Rattle.book.proofs.BodyAt.{no_cover, not_finite, too_fast, at_place}
+use Rattle.book.proofs.inner.body_at.Goals as goal
+
+pub returns-in_default : goal.returns-in_default
+returns-in_default c = sym (no_cover _ _ _ (sym c.lookup_guessed.ensures ∙ c.in_default.is))
+
+pub place_at-place-requires : goal.place_at-place-requires
+place_at-place-requires c = record { book_value = c.requires; bound = covered _ _ _ _ (sym c.lookup_guessed.ensures ∙ c.in-Entry.is) }
+
+pub velocity_at-velocity-requires : goal.velocity_at-velocity-requires
+velocity_at-velocity-requires c = record { book_value = c.requires; bound = covered _ _ _ _ (sym c.lookup_guessed.ensures ∙ c.in-Entry.is) }
+
+pub returns-then-velocity_finite : goal.returns-then-velocity_finite
+returns-then-velocity_finite c = rw (c.place_at-place.ensures, c.velocity_at-velocity.ensures)
+    (sym
+    (at_place _ _ _ _
+    (sym c.lookup_guessed.ensures ∙ c.in-Entry.is)
+    (rw (← c.place_at-place.ensures) (sym c.place_finite.ensures ∙ c.if-place_finite.true))
+    (rw (← c.velocity_at-velocity.ensures) (sym c.velocity_finite.ensures ∙ c.if-velocity_finite.true))))
+
+pub returns-then-place_finite : goal.returns-then-place_finite
+returns-then-place_finite c = sym
+    (too_fast _ _ _ _
+    (sym c.lookup_guessed.ensures ∙ c.in-Entry.is)
+    (rw (← c.place_at-place.ensures) (sym c.place_finite.ensures ∙ c.if-place_finite.true))
+    (rw (← c.velocity_at-velocity.ensures) (sym c.velocity_finite.ensures ∙ c.if-velocity_finite.false)))
+
+pub returns : goal.returns
+returns c = sym
+    (not_finite _ _ _ _ (sym c.lookup_guessed.ensures ∙ c.in-Entry.is)
+    (rw (← c.place_at-place.ensures) (sym c.place_finite.ensures ∙ c.if-place_finite.false)))

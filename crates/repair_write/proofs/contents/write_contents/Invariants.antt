@@ -1,0 +1,19 @@
+-- `repair_write::contents::write_contents` meets its contract. The invariant: the first k entries are written, and block k begins at `place`. Assumes nothing.
+use native.Mathlib.Omega.{arith}
+use mathlib.Core.Path.{◌≡◌, refl, sym, ◌∙◌}
+use Prim.Native.Nat.{◌+◌, ◌-◌, ◌≤◌}
+use lib.ListN.{length, take, get_or}
+use lib.Seq.{take_all}
+use Rattle.book.specs.Contents.{entry_at}
+use Rattle.repair_write.specs.Anew.{blocks_length, contents_anew, with_text}
+use Rattle.repair_write.proofs.Texts.{no_text}
+use Rattle.repair_sort.proofs.Sounds.{sound_at}
+use Rattle.repair_write.proofs.Books.{place_inside, place_further, entry_written}
+use Rattle.repair_write.proofs.contents.write_contents.Given as goal
+
+abbrev pub invariant-loop-k : goal.invariant-loop-k
+invariant-loop-k l = (l.k ≤ length l.kept) × (length l.out ≡ length l.initial.out) × (l.place ≡ entry_at (length l.kept) + blocks_length l.input (take l.k l.kept)) × (l.out ≡ with_text l.initial.out 8
+    (contents_anew l.input (entry_at (length l.kept)) (take l.k l.kept)))
+
+abbrev pub decreases-loop-k : goal.decreases-loop-k
+decreases-loop-k l = length l.kept - l.k
