@@ -1,4 +1,4 @@
-# Sourced: gets the module that a static library or a program is compiled from. Needs `work`, an existing folder of its own; sets `kit`,
+# Sourced: gets the module that a static library is compiled from. Needs `work`, an existing folder of its own; sets `kit`,
 # `machine` and `tools` (the kit's compiler).
 machine=$(uname -m)
 rt_path=$(command -v rt) || { echo "the Rattle toolchain's command rt is not on PATH" >&2; exit 2; }
@@ -33,20 +33,14 @@ END
     chmod +x "$shadow/toolchain/bin/clang"
 }
 
-# Runs rt with that copy in the crate's folder; the module is then $work/module.bc. What the copy keeps beside itself goes again.
-keeping() { # CRATE COMMAND OF RT..
-    local crate=$1 ended=0
-    shift
+# Builds the static library NAME of the repository in the current folder, and leaves its module in $work/module.bc. What it stands on is
+# built first by rt itself, which takes what other copies of the repository have proved. What the copy keeps beside itself goes again.
+module_of() { # NAME
+    local ended=0
+    (cd "crates/$1" && rt lib) || return 1
     rm -f "$work/module.bc"
     keeping_kit || return 1
-    (cd "crates/$crate" && "$shadow/bin/rt" "$@" </dev/null) || ended=$?
+    (cd "crates/$1" && "$shadow/bin/rt" lib) || ended=$?
     rm -rf "$shadow" "$work/rattle-kept"
-    [ -f "$work/module.bc" ] || return 1
-    return "$ended"
-}
-
-# Builds the static library NAME of the repository in the current folder, and leaves its module in $work/module.bc. What it stands on is
-# built first by rt itself, which takes what other copies of the repository have proved.
-module_of() { # NAME
-    (cd "crates/$1" && rt lib) && keeping "$1" lib
+    [ -f "$work/module.bc" ] && return "$ended"
 }
