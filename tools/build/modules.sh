@@ -1,6 +1,6 @@
 # Sourced: gets the module that a static library is compiled from. Needs `work`, an existing folder of its own; sets `kit`,
 # `machine` and `tools` (the kit's compiler).
-machine=$(uname -m)
+. "$(dirname "${BASH_SOURCE[0]}")/programs.sh"
 rt_path=$(command -v rt) || { echo "the Rattle toolchain's command rt is not on PATH" >&2; exit 2; }
 kit=$(dirname "$(dirname "$(readlink -f "$rt_path")")")
 tools=$kit/toolchain/bin
@@ -37,10 +37,10 @@ END
 # built first by rt itself, which takes what other copies of the repository have proved. What the copy keeps beside itself goes again.
 module_of() { # NAME
     local ended=0
-    (cd "crates/$1" && rt lib) || return 1
+    (cd "crates/$1" && rt lib "${for_machine[@]}") || return 1
     rm -f "$work/module.bc"
     keeping_kit || return 1
-    (cd "crates/$1" && "$shadow/bin/rt" lib) || ended=$?
+    (cd "crates/$1" && "$shadow/bin/rt" lib "${for_machine[@]}") || ended=$?
     rm -rf "$shadow" "$work/rattle-kept"
     [ -f "$work/module.bc" ] && return "$ended"
 }

@@ -20,6 +20,11 @@ else
     start="$tools/lib/ld-linux-x86-64.so.2 --library-path $tools/lib"
 fi
 
+# What rt is told to compile for this machine: on x86-64 for any processor, as a static library does not look which one it runs on.
+machine=$(uname -m)
+for_machine=(--target "$machine-unknown-linux-gnu")
+[ "$machine" != x86_64 ] || for_machine+=(--cpu=x86-64)
+
 # Whether a file or folder is there and no source of the crates is newer. What rt makes, crates/NAME/out, is no source.
 is_fresh() { # FILE
     [ -e "$1" ] && [ -z "$(find "$house/crates.txt" "$house"/crates/*/* -path "$house/crates/*/out" -prune -o -newer "$1" -print -quit)" ]
