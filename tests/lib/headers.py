@@ -3,8 +3,7 @@
   test    what it tests, in one line
   time    its usual time in seconds, after a build
   beside  `yes`: it may run at the same time as any other; `no`: it runs alone; a word: not with tests of the same word
-  starts  `at once`: it needs nothing that is proved; without this line it starts when every crate is proved and the archives are made, while
-          the must-fail edits are tried
+  starts  `at once`: it needs nothing that is proved; without this line it starts when `rt ci` has passed and the archives are made
   needs   Debian packages, as PACKAGE, PACKAGE=COMMAND or PACKAGE=/FILE
   spoil   `yes`, or the numbers of the answers to spoil: it must fail with each
   quick   its options in a quick run; without this line it is not part of one"""

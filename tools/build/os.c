@@ -1,8 +1,6 @@
-/* The parts of the toolchain's library os that the programs use, for a processor without such an archive: opening a file to read,
-   errno, and the program's arguments, as the toolchain declares them. It is our own code. Nothing here is proved, and neither is the
-   toolchain's library. */
+/* The parts of the toolchain's library os that the programs use, for a processor without such an archive: errno and the program's
+   arguments, as the toolchain declares them. It is our own code. Nothing here is proved, and neither is the toolchain's library. */
 #include <errno.h>
-#include <fcntl.h>
 #include <stddef.h>
 #include <stdint.h>
 
@@ -28,8 +26,6 @@ ptrdiff_t rattle_arg(size_t i, uint8_t *buffer, size_t room) {
     }
     return (ptrdiff_t)n;
 }
-
-int32_t rattle_open_to_read(const uint8_t *path) { return open((const char *)path, O_RDONLY | O_NOCTTY | O_CLOEXEC); }
 
 int32_t rattle_errno(void) { return errno; }
 

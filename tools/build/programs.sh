@@ -3,8 +3,8 @@
 # folder, and `start`, the words before a program's path. Users call ./run; the tests and ./flight use the same functions.
 house=$(cd "$(dirname "${BASH_SOURCE[0]}")/../.." && pwd)
 
-# The programs are for x86-64 and a C library of 2.34 or newer. Elsewhere they start under the kit's loader and C library, and on
-# another processor under the kit's emulator, as rt itself starts them.
+# The programs are for x86-64 and a C library of 2.34 or newer. Elsewhere they start under the kit's loader and C library. On another
+# processor the system has to run programs of x86-64, as it does for rt itself.
 own_library_fits() {
     [ "$(uname -m)" = x86_64 ] && [ -e /lib64/ld-linux-x86-64.so.2 ] || return 1
     local version
@@ -16,49 +16,65 @@ if own_library_fits; then
     start=
 else
     rt_path=$(command -v rt) || { echo "the Rattle toolchain's command rt is not on PATH" >&2; exit 2; }
-    kit=$(dirname "$(dirname "$(readlink -f "$rt_path")")")
-    tools=$kit/on/$(uname -m)/toolchain
+    tools=$(dirname "$(dirname "$(readlink -f "$rt_path")")")/toolchain
     start="$tools/lib/ld-linux-x86-64.so.2 --library-path $tools/lib"
-    [ ! -x "$tools/bin/qemu-x86_64" ] || start="$tools/bin/qemu-x86_64 $start"
 fi
 
-# Waits until no other script runs rt in this repository: two at a time take each other's files. The lock lasts as long as the process.
-rt_alone() {
-    mkdir -p "$house/target"
-    command -v flock >/dev/null || return 0
-    exec 9>"$house/target/rt.lock"
-    flock 9
-}
+# What rt is told to compile for this machine: on x86-64 for any processor, as a static library does not look which one it runs on.
+machine=$(uname -m)
+for_machine=(--target "$machine-unknown-linux-gnu")
+[ "$machine" != x86_64 ] || for_machine+=(--cpu=x86-64)
 
-# Whether a file is there and no source of the crates is newer.
+# Whether a file or folder is there and no source of the crates is newer. What rt makes, crates/NAME/out, is no source.
 is_fresh() { # FILE
-    [ -f "$1" ] && [ -z "$(find "$house/crates" "$house/crates.txt" -newer "$1" -print -quit)" ]
+    [ -e "$1" ] && [ -z "$(find "$house/crates.txt" "$house"/crates/*/* -path "$house/crates/*/out" -prune -o -newer "$1" -print -quit)" ]
 }
 
-# rt starts its jobs in groups and waits for the last of each group. With twice as many jobs as processors, the processors wait less.
-rt_jobs() {
-    [ -z "${RT_JOBS:-}" ] || return 0
-    RT_JOBS=$((2 * $(nproc)))
-    [ "$RT_JOBS" -le 8 ] || RT_JOBS=8
-    export RT_JOBS
+# These crates and all crates of this repository that they need, one on each line; after each crate those that it needs.
+closure() { # NAME..
+    awk -v asked="$*" '
+        /^[a-z_0-9]+( [^:#]*)?:/ { name = $1; sub(":", "", name); sub(/^[^:]*:/, ""); sub(/#.*/, ""); deps[name] = $0 }
+        function visit(one,   list, n, i) {
+            if (seen[one]++ || !(one in deps)) return
+            print one
+            n = split(deps[one], list, " ")
+            for (i = 1; i <= n; i++) visit(list[i])
+        }
+        END { n = split(asked, names, " "); for (i = 1; i <= n; i++) visit(names[i]) }' "$house/crates.txt"
+}
+
+# Takes a program from crates/NAME/out to target/bin, if it is there and newer. While `rt ci` runs, it is not there.
+taken() { # NAME
+    local made=$house/crates/$1/out/$1 kept=$house/target/bin/$1
+    [ -x "$made" ] && [ "$made" -nt "$kept" ] || return 1
+    mkdir -p "$house/target/bin"
+    # Under a name of its own first: the old one may be running.
+    cp "$made" "$kept.$$" 2>/dev/null && mv -f "$kept.$$" "$kept"
+}
+
+# Proves and builds a program, and puts it into target/bin. `rt run` also starts it; it gets no input, and its status says nothing.
+# rt leaves a stamp beside a program that it has proved and built.
+proved_anew() { # NAME
+    (cd "$house/crates/$1" && { rt run </dev/null || true; } && [ -f "out/$1.stamp" ] && touch "out/$1") && taken "$1"
 }
 
 # Proves and builds the programs that are not built yet. The output of rt goes to target/built.log; its end is shown if it fails.
 built() { # PROGRAM..
     local name missing=()
     for name; do
-        [ -x "$house/target/bin/$name" ] && continue
-        missing+=("$name")
-        rm -f "$house/target/stamp/$name" # or rt takes it for built
+        taken "$name" || [ -x "$house/target/bin/$name" ] || missing+=("$name")
     done
     [ ${#missing[@]} -gt 0 ] || return 0
     command -v rt >/dev/null || { echo "${missing[*]}: not built, and the Rattle toolchain's command rt is not on PATH" >&2; return 2; }
-    echo "${missing[*]}: not built yet; 'rt check ${missing[*]}' proves and builds, which takes minutes the first time" >&2
+    echo "${missing[*]}: not built yet; 'rt run' proves and builds, which takes minutes the first time" >&2
     mkdir -p "$house/target"
-    (rt_alone && rt_jobs && cd "$house" && rt check "${missing[@]}") >"$house/target/built.log" 2>&1 && return
-    tail -n 20 "$house/target/built.log" >&2
-    echo "${missing[*]}: not built (target/built.log)" >&2
-    return 1
+    : >"$house/target/built.log"
+    for name in "${missing[@]}"; do
+        proved_anew "$name" >>"$house/target/built.log" 2>&1 && continue
+        tail -n 20 "$house/target/built.log" >&2
+        echo "$name: not built (target/built.log)" >&2
+        return 1
+    done
 }
 
 # Checks for a command or a file of a Debian package. If it is missing, names the package, and installs it unless NO_INSTALL is set.

@@ -1,0 +1,152 @@
+// The static library of belfry_earth: each export has the clauses of the call that it passes on.
+//
+// The calls of document 01 about a state and its motion, for C and Rust. They take numbers and the caller's memory.
+// An old call means an old order: centre 1, J, A and K zero, rule 0 and the acceleration that the rule gives.
+// `belfry_centre` has the calls with all of these. Each returns 0 if the input is accepted, else the refusal number.
+// A run that is still going returns 100.
+
+#![tactic(auto)]
+
+ghost use Rattle.std.specs.Prelude.{◌≡◌};
+ghost use Rattle.gravity.specs.Acceleration.{acceleration_answer};
+ghost use Rattle.gravity_stored.specs.Injection.{launched};
+ghost use Rattle.run.specs.Run.{run_answer, single_step_answer};
+ghost use Rattle.earth_fixed.specs.Fixed.{fixed_answer};
+ghost use Rattle.launch.specs.Sphere.{sphere_answer};
+ghost use Rattle.conic.specs.Conic.{conic_answer};
+ghost use Rattle.c_answer.specs.Handed.{handed, answered};
+ghost use Rattle.c_run.specs.Lent.{setting_of, no_extras, vector_of, injection_of, unkept_of, guesses_of};
+ghost use Rattle.c_earth.specs.Earth.{sphere_of, of_fixed, of_sphere};
+ghost use Rattle.c_conic.specs.Figures.{both_in, of_conic};
+ghost use Rattle.c_run.specs.Answers.{of_acceleration, run_memory, of_run};
+
+#[unsafe(no_mangle)]
+pub extern "C" fn belfry_acceleration(
+    book: &[u8],
+    coefficients: &[f64; 6],
+    dut: u32,
+    moment: u64,
+    position: &[f64; 3],
+    acceleration: &mut [f64; 3],
+) -> u64
+    ensures { handed result acceleration.new ≡ answered acceleration.old
+        (of_acceleration (acceleration_answer book.now (setting_of coefficients.now no_extras dut 0) 1 moment
+        (vector_of position.now))) }
+{
+    belfry_earth::belfry_acceleration(book, coefficients, dut, moment, position, acceleration)
+}
+
+// Input and output are separate arrays: the next call reads what this one wrote.
+#[unsafe(no_mangle)]
+pub extern "C" fn belfry_run(
+    book: &[u8],
+    coefficients: &[f64; 6],
+    dut: u32,
+    moment: u64,
+    coordinates: &[f64; 6],
+    h: u32,
+    target: u64,
+    budget: u32,
+    guesses: &[u64; 5],
+    reached: &mut u64,
+    there: &mut [f64; 6],
+    entries: &mut [u64; 5],
+    steps: &mut u32,
+) -> u64
+    ensures { run_memory result reached.new there.new entries.new steps.new ≡ of_run
+        (run_answer book.now (setting_of coefficients.now no_extras dut 0)
+        (launched book.now (setting_of coefficients.now no_extras dut 0)
+        (injection_of moment 1 coordinates.now)) h target budget (guesses_of guesses.now)) }
+{
+    belfry_earth::belfry_run(
+        book,
+        coefficients,
+        dut,
+        moment,
+        coordinates,
+        h,
+        target,
+        budget,
+        guesses,
+        reached,
+        there,
+        entries,
+        steps,
+    )
+}
+
+#[unsafe(no_mangle)]
+pub extern "C" fn belfry_single_step(
+    book: &[u8],
+    coefficients: &[f64; 6],
+    dut: u32,
+    moment: u64,
+    coordinates: &[f64; 6],
+    h: u32,
+    guesses: &[u64; 5],
+    reached: &mut u64,
+    there: &mut [f64; 6],
+    entries: &mut [u64; 5],
+    steps: &mut u32,
+) -> u64
+    ensures { run_memory result reached.new there.new entries.new steps.new ≡ of_run
+        (single_step_answer book.now (setting_of coefficients.now no_extras dut 0)
+        (launched book.now (setting_of coefficients.now no_extras dut 0)
+        (injection_of moment 1 coordinates.now)) h (guesses_of guesses.now)) }
+{
+    belfry_earth::belfry_single_step(
+        book,
+        coefficients,
+        dut,
+        moment,
+        coordinates,
+        h,
+        guesses,
+        reached,
+        there,
+        entries,
+        steps,
+    )
+}
+
+#[unsafe(no_mangle)]
+pub extern "C" fn belfry_earth_fixed(
+    moment: u64,
+    coordinates: &[f64; 6],
+    dut: u32,
+    turned: &mut [f64; 6],
+) -> u64
+    ensures { handed result turned.new ≡ answered turned.old
+        (of_fixed (fixed_answer 0 dut (unkept_of moment 1 coordinates.now))) }
+{
+    belfry_earth::belfry_earth_fixed(moment, coordinates, dut, turned)
+}
+
+#[unsafe(no_mangle)]
+pub extern "C" fn belfry_from_sphere(
+    rule: u64,
+    moment: u64,
+    dut: u32,
+    sizes: &[f64; 2],
+    angles: &[u64; 4],
+    coordinates: &mut [f64; 6],
+) -> u64
+    ensures { handed result coordinates.new ≡ answered coordinates.old
+        (of_sphere (sphere_answer (sphere_of sizes.now angles.now) rule moment dut)) }
+{
+    belfry_earth::belfry_from_sphere(rule, moment, dut, sizes, angles, coordinates)
+}
+
+#[unsafe(no_mangle)]
+pub extern "C" fn belfry_conic(
+    m: f64,
+    moment: u64,
+    coordinates: &[f64; 6],
+    names: &mut [u64; 2],
+    figures: &mut [f64; 5],
+) -> u64
+    ensures { handed result (both_in names.new figures.new) ≡ answered (both_in names.old figures.old)
+        (of_conic (conic_answer m (unkept_of moment 1 coordinates.now))) }
+{
+    belfry_earth::belfry_conic(m, moment, coordinates, names, figures)
+}
