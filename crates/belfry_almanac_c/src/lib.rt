@@ -7,7 +7,7 @@
 #![tactic(auto)]
 
 ghost use Rattle.std.specs.Prelude.{◌≡◌};
-ghost use Rattle.base.specs.Choice.{if◌then◌else◌};
+ghost use Rattle.base.specs.Choice.{if◌then◌otherwise◌};
 ghost use Rattle.calendar.specs.Answers.{date_answer, day_answer, julian_answer};
 ghost use Rattle.hour.specs.Hour.{hour_answer, sidereal_answer};
 ghost use Rattle.root.specs.Root.{root_answer};
@@ -75,7 +75,7 @@ pub extern "C" fn belfry_sine_cosine(parts: u64, both: &mut [f64; 2]) -> u64
 
 #[unsafe(no_mangle)]
 pub extern "C" fn belfry_book_passes(book: &[u8]) -> u64
-    ensures { result ≡ (if passes book.now then 0 else 1) }
+    ensures { result ≡ (if passes book.now then 0 otherwise 1) }
 {
     belfry_almanac::belfry_book_passes(book)
 }
