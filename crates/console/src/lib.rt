@@ -1,4 +1,4 @@
-// What the programs share to reach outside: reading an input whole, taking an argument, and the reason of an error.
+// What the programs share to reach outside: reading an input whole, taking an argument, and telling of an error.
 //
 // No contract can say what a program reads, so these have only the bounds that their callers need.
 
@@ -8,7 +8,7 @@ mod reason;
 
 ghost use Rattle.std.specs.Prelude.{◌≤◌, length, IfOk};
 
-pub use reason::Reason;
+use reason::Reason;
 use std::env::FillError;
 use std::io;
 use std::io::Read;
@@ -16,7 +16,9 @@ use std::rt::Env;
 
 // What the system answers to a name that is too long, to one that is missing, and to one that is no text.
 const TOO_LONG: i32 = 36;
+
 const MISSING: i32 = 22;
+
 const NO_TEXT: i32 = 84;
 
 // Reads until `buf` is full or the input ends, and returns how many bytes are read.
@@ -55,4 +57,9 @@ pub fn argument<'a>(env: &impl Env, i: usize, room: &'a mut [u8]) -> io::Result<
         Ok(text) => Ok(text),
         Err(_) => Err(io::Error::from_raw_os_error(NO_TEXT)),
     }
+}
+
+// Prints on standard error what failed, as the caller names it, and why.
+pub fn fail(rt: &impl Eprint, what: &str, error: io::Error) {
+    let _ = eprintln!(rt; "{what}: {}", Reason(error));
 }

@@ -1,8 +1,7 @@
 // The reason of an error in words.
 
-use std::fmt;
-use std::io;
 use std::io::{Cursor, Write};
+use std::{fmt, io};
 
 // Displays an error as the system words it: "No such file or directory", without the number that std adds.
 #[derive(Clone, Copy)]

@@ -10,7 +10,6 @@
 ghost use Rattle.std.specs.Prelude.{◌≤◌, length};
 ghost use Rattle.table_blocks.specs.Steps.{Stands};
 
-use console::Reason;
 use std::io::Read;
 use table_blocks::inner::{finish, portion, put_refusal};
 use table_blocks::{Standing, opening};
@@ -28,7 +27,7 @@ fn print(rt: &(impl Print + Eprint), part: &[u8]) -> bool {
     match rt.write_all(part) {
         Ok(()) => true,
         Err(e) => {
-            let _ = eprintln!(rt; "table: cannot write the table: {}", Reason(e));
+            console::fail(rt, "table: cannot write the table", e);
             false
         }
     }
@@ -102,7 +101,7 @@ fn print_rows(rt: &(impl Input + Print + Eprint), block: &mut [u8], out: &mut [u
         let n = match input.read(block) {
             Ok(n) => n,
             Err(e) => {
-                let _ = eprintln!(rt; "table: cannot read standard input: {}", Reason(e));
+                console::fail(rt, "table: cannot read standard input", e);
                 return;
             }
         };
