@@ -22,7 +22,7 @@ struct Source<'a> {
 // Reads the next block, if it is wanted.
 fn refilled<'a>(wanted: bool, s: Source<'a>, block: &mut [u8]) -> Source<'a>
     requires { s.n ≤ length block.old }
-    ensures { (result.n ≤ length block.new) × (wanted ≡ false → result.n ≡ s.n) }
+    ensures { (result.n ≤ length block.new) × (wanted ≡ false → result.n ≡ s.entry.n) }
 {
     if wanted {
         let got = read_at(s.file, block, s.read);
