@@ -4,13 +4,17 @@
 
 #![tactic(auto)]
 
-ghost use Rattle.std.specs.Prelude.{◌+◌, ◌≤◌, length};
+ghost use Rattle.std.specs.Prelude.{◌+◌, ◌≤◌, length, IfOk};
 ghost use Rattle.line_form.specs.Spelled.{Puts};
 ghost use Rattle.ask.specs.Text.{answer_text};
 
 use line_answers::answer_to;
 use line_form::put::Out;
 use line_texts::inner::put_line;
+use std::fs::File;
+use std::io;
+use std::io::Read;
+use std::rt::Files;
 
 // One byte more than a book may have: enough to refuse a longer one.
 const BOOK: usize = book::LONGEST_BOOK + 1;
@@ -19,47 +23,34 @@ const BOOK: usize = book::LONGEST_BOOK + 1;
 const LINE: usize = 1_001;
 
 // Prints on standard error that a file cannot be read, and why.
-fn tell_unread(name: &[u8]) {
-    io::write_all(libc::STDERR_FILENO, b"ask: cannot read ");
-    os::fail(name);
+fn tell_unread(rt: &impl Eprint, name: &str, error: io::Error) {
+    let _ = eprint!(rt; "ask: cannot read ");
+    console::fail(rt, name, error);
 }
 
-// A short count means the end of the file or a failure: one more read shows which.
-fn read_failed(fd: i32, count: usize) -> bool {
-    if BOOK <= count {
-        return false;
+fn tell_unwritten(rt: &impl Eprint, written: io::Result<()>) {
+    match written {
+        Ok(()) => {}
+        Err(e) => console::fail(rt, "ask: cannot write the answers", e),
     }
-    let mut more = [0u8; 1];
-    let got = libc::read(fd, &mut more);
-    if got < 0 {
-        return true;
-    }
-    false
 }
 
-fn tell_unwritten(written: bool) {
-    if written {
-        return;
-    }
-    os::fail(b"ask: cannot write the answers");
-}
-
-fn write_out(out: &Out, n: usize)
+fn write_out(rt: &(impl Print + Eprint), out: &Out, n: usize)
     requires { n ≤ 65_536 }
 {
     let all: &[u8] = out;
-    tell_unwritten(io::write_all(libc::STDOUT_FILENO, &all[..n]));
+    tell_unwritten(rt, rt.write_all(&all[..n]));
 }
 
 // A place with room for an answer. If that would be past the end, everything before it is written out first.
-fn with_room(out: &mut Out, at: usize) -> usize
+fn with_room(rt: &(impl Print + Eprint), out: &mut Out, at: usize) -> usize
     requires { at ≤ 65_536 }
     ensures { result + 512 ≤ 65_536 }
 {
     if at <= 65_024 {
         return at;
     }
-    write_out(out, at);
+    write_out(rt, out, at);
     0
 }
 
@@ -72,17 +63,30 @@ fn put_answer(book: &[u8], line: &[u8], out: &mut Out, at: usize) -> usize
 }
 
 // Adds the answer to the line's first n bytes at a place of `out`.
-fn answer_line(book: &[u8], line: &[u8], n: usize, out: &mut Out, at: usize) -> usize
+fn answer_line(
+    rt: &(impl Print + Eprint),
+    book: &[u8],
+    line: &[u8],
+    n: usize,
+    out: &mut Out,
+    at: usize,
+) -> usize
     requires { (n ≤ length line.now) × (at ≤ 65_536) }
     ensures { result ≤ 65_536 }
 {
-    let from = with_room(out, at);
+    let from = with_room(rt, out, at);
     put_answer(book, &line[..n], out, from)
 }
 
 // Answers the lines that end in the block. The rest of the block stays in `line`. `kept` is the number of bytes in
 // `line` before, and the result is the number after.
-fn answer_block(book: &[u8], block: &[u8], line: &mut [u8; LINE], kept: usize) -> usize
+fn answer_block(
+    rt: &(impl Print + Eprint),
+    book: &[u8],
+    block: &[u8],
+    line: &mut [u8; LINE],
+    kept: usize,
+) -> usize
     requires { kept ≤ 1_001 }
     ensures { result ≤ 1_001 }
 {
@@ -91,73 +95,73 @@ fn answer_block(book: &[u8], block: &[u8], line: &mut [u8; LINE], kept: usize) -
     let mut n = kept;
     for i in 0..block.len() {
         if block[i] == b'\n' {
-            at = answer_line(book, line, n, &mut out, at);
+            at = answer_line(rt, book, line, n, &mut out, at);
             n = 0;
         } else if n < LINE {
             line[n] = block[i];
             n += 1;
         }
     }
-    write_out(&out, at);
+    write_out(rt, &out, at);
     n
 }
 
 // The number of blocks is a limit that no input reaches. The loop needs one, because nothing else shows that the
 // input ends.
-fn answer_all(book: &[u8]) {
+fn answer_all(rt: &(impl Input + Print + Eprint), book: &[u8]) {
+    let mut input = rt.reader();
     let mut block = [0u8; 65536];
     let mut line = [0u8; LINE];
     let mut kept = 0;
     let mut blocks_left = u64::MAX;
     while 0 < blocks_left {
-        let got = libc::read(libc::STDIN_FILENO, &mut block);
-        if got < 0 {
-            os::fail(b"ask: cannot read standard input");
-        }
-        let n = io::count(got, &block);
+        let n = match input.read(&mut block) {
+            Ok(n) => n,
+            Err(e) => {
+                console::fail(rt, "ask: cannot read standard input", e);
+                0
+            }
+        };
         if n == 0 {
             break;
         }
-        kept = answer_block(book, &block[..n], &mut line, kept);
+        kept = answer_block(rt, book, &block[..n], &mut line, kept);
         blocks_left -= 1;
     }
     if 0 < kept {
-        answer_block(book, b"\n", &mut line, kept);
+        answer_block(rt, book, b"\n", &mut line, kept);
     }
+}
+
+// Puts the book of that name at the start of `book`, and returns its length, or that of the part which `book` holds.
+fn read_book(files: &impl Files, name: &str, book: &mut [u8]) -> io::Result<usize>
+    ensures { IfOk result (λ n. n ≤ length book.new) }
+{
+    let mut file = File::open(files, name)?;
+    console::read_full(&mut file, book)
 }
 
 // Answers from the book of that name. If it cannot be read, nothing is answered.
-fn answer_from(name: &[u8]) {
-    let fd = os::open_read(name);
-    if fd < 0 {
-        tell_unread(name);
-        return;
-    }
+fn answer_from(rt: &(impl Files + Input + Print + Eprint), name: &str) {
     let mut book = [0u8; BOOK];
-    let count = io::read_full(fd, &mut book);
-    if read_failed(fd, count) {
-        tell_unread(name);
-        return;
+    match read_book(rt, name, &mut book) {
+        Ok(count) => answer_all(rt, &book[..count]),
+        Err(e) => tell_unread(rt, name, e),
     }
-    libc::close(fd);
-    answer_all(&book[..count]);
 }
 
-fn main() {
-    let words = os::arg_count();
-    if 2 < words {
-        io::write_all(libc::STDERR_FILENO, b"use: ask [BOOK] < QUESTIONS\n");
+fn main(rt: HostRuntime) {
+    if console::has_argument(&rt, 2) {
+        let _ = eprintln!(rt; "use: ask [BOOK] < QUESTIONS");
         return;
     }
-    if words < 2 {
-        answer_all(b"");
+    if !console::has_argument(&rt, 1) {
+        answer_all(&rt, b"");
         return;
     }
-    let mut name = io::buffer();
-    let n = os::arg(1, &mut name);
-    if os::errno() != 0 {
-        os::fail(b"ask: the book's name");
-        return;
+    let mut room = [0u8; 4_096];
+    match console::argument(&rt, 1, &mut room) {
+        Ok(name) => answer_from(&rt, name),
+        Err(e) => console::fail(&rt, "ask: the book's name", e),
     }
-    answer_from(&name[..n]);
 }

@@ -3,38 +3,36 @@
 
 ghost use Rattle.std.specs.Prelude.{◌≤◌, length};
 
-use crate::files::{END, Got, read_at};
+use crate::files::{END, Got, read_at, too_large};
 use crate::{Listing, Printed, any};
 use compare_lines::inner::{put_absent, turn};
 use compare_lines::{Line, Stage, line_of, place_of, wants_first, wants_second};
 use compare_report::Part;
+use std::fs::File;
 
 // A block of a line from a byte of it on.
-fn read_line(fd: i32, line: Line, block: &mut [u8], from: u64) -> Got
+fn read_line(file: &File, line: Line, block: &mut [u8], from: u64) -> Got
     requires { 1 ≤ length block.old }
     ensures { result.n ≤ length block.new }
 {
     if line.there {
-        return read_at(fd, block, std::num::wrapping_add_u64(line.from, from));
+        return read_at(file, block, line.from.wrapping_add(from));
     }
     Got {
         n: put_absent(block, from),
-        failed: false,
+        failed: None,
     }
 }
 
 // The same, if it is wanted.
-fn read_wanted(wanted: bool, fd: i32, line: Line, block: &mut [u8], from: u64) -> Got
+fn read_wanted(wanted: bool, file: &File, line: Line, block: &mut [u8], from: u64) -> Got
     requires { 1 ≤ length block.old }
     ensures { result.n ≤ length block.new }
 {
     if wanted {
-        return read_line(fd, line, block, from);
+        return read_line(file, line, block, from);
     }
-    Got {
-        n: 0,
-        failed: false,
-    }
+    Got { n: 0, failed: None }
 }
 
 fn is_over(stage: Stage) -> bool {
@@ -46,21 +44,26 @@ fn is_over(stage: Stage) -> bool {
     }
 }
 
-pub fn print_bytes(text: &[u8]) -> Printed {
-    if io::write_all(libc::STDOUT_FILENO, text) {
-        return Printed::Done(true);
+pub fn print_bytes(rt: &impl Print, text: &[u8]) -> Printed {
+    match rt.write_all(text) {
+        Ok(()) => Printed::Done(true),
+        Err(e) => Printed::Unwritten(e),
     }
-    Printed::Unwritten
 }
 
 // Turn after turn. The number of turns is a limit that no line reaches. The loop needs one, because nothing else
 // shows that a line ends.
-pub fn print_lines(part: Part, first: Listing, second: Listing) -> Printed {
+pub fn print_lines(
+    rt: &impl Print,
+    part: Part,
+    first: Listing<'_>,
+    second: Listing<'_>,
+) -> Printed {
     let one = line_of(part, first.verdict);
     let two = line_of(part, second.verdict);
-    let mut a = io::buffer();
-    let mut b = io::buffer();
-    let mut out = io::large_buffer();
+    let mut a = [0u8; 4_096];
+    let mut b = [0u8; 4_096];
+    let mut out = [0u8; 65_536];
     let mut stage = Stage::Comparing(0);
     let mut reported = false;
     let mut turns_left = u64::MAX;
@@ -70,26 +73,26 @@ pub fn print_lines(part: Part, first: Listing, second: Listing) -> Printed {
         }
         let d = place_of(stage);
         if END < d {
-            return Printed::FirstUnread;
+            return Printed::FirstUnread(too_large());
         }
-        let got = read_wanted(wants_first(stage), first.fd, one, &mut a, d);
-        if got.failed {
-            return Printed::FirstUnread;
+        let got = read_wanted(wants_first(stage), first.file, one, &mut a, d);
+        if let Some(e) = got.failed {
+            return Printed::FirstUnread(e);
         }
-        let beside = read_wanted(wants_second(stage), second.fd, two, &mut b, d);
-        if beside.failed {
-            return Printed::SecondUnread;
+        let beside = read_wanted(wants_second(stage), second.file, two, &mut b, d);
+        if let Some(e) = beside.failed {
+            return Printed::SecondUnread(e);
         }
         let n = got.n;
         let m = beside.n;
         let t = turn(part, stage, &a[..n], &b[..m], &mut out);
         let written = t.written;
-        if !io::write_all(libc::STDOUT_FILENO, &out[..written]) {
-            return Printed::Unwritten;
+        if let Err(e) = rt.write_all(&out[..written]) {
+            return Printed::Unwritten(e);
         }
         reported = any(reported, written);
         stage = t.stage;
         turns_left -= 1;
     }
-    Printed::FirstUnread
+    Printed::FirstUnread(too_large())
 }

@@ -18,33 +18,36 @@ use compare_report::{Part, next_part};
 use compare_text::inner::{put_end, put_refusal};
 use files::Judged;
 use listing_read::Verdict;
+use std::fs::File;
+use std::io;
+use std::rt::Files;
 
 // The result of printing: whether anything was printed, or what could not be read or written.
 #[derive(Clone, Copy)]
 pub enum Printed {
     Done(bool),
-    FirstUnread,
-    SecondUnread,
-    Unwritten,
+    FirstUnread(io::Error),
+    SecondUnread(io::Error),
+    Unwritten(io::Error),
 }
 
 // A listing of the form: its file, and the verdict on it.
 #[derive(Clone, Copy)]
-pub struct Listing {
-    pub fd: i32,
+pub struct Listing<'a> {
+    pub file: &'a File,
     pub verdict: Verdict,
 }
 
-fn print_refusal(first: u64, second: u64) -> Printed {
+fn print_refusal(rt: &impl Print, first: u64, second: u64) -> Printed {
     let mut line = [0u8; 512];
     let n = put_refusal(&mut line, 0, first, second);
-    lines::print_bytes(&line[..n])
+    lines::print_bytes(rt, &line[..n])
 }
 
-fn print_end(reported: bool, states: u64) -> Printed {
+fn print_end(rt: &impl Print, reported: bool, states: u64) -> Printed {
     let mut line = [0u8; 512];
     let n = put_end(&mut line, 0, reported, states);
-    lines::print_bytes(&line[..n])
+    lines::print_bytes(rt, &line[..n])
 }
 
 // Whether anything was reported, counting a text of that many bytes.
@@ -57,12 +60,18 @@ pub fn any(reported: bool, written: usize) -> bool
     0 < written
 }
 
-fn print_part(part: Part, first: Listing, second: Listing, reported: bool) -> Printed {
+fn print_part(
+    rt: &impl Print,
+    part: Part,
+    first: Listing<'_>,
+    second: Listing<'_>,
+    reported: bool,
+) -> Printed {
     match part {
-        Part::Header => lines::print_lines(part, first, second),
-        Part::States => states::print_states(first.fd, second.fd),
-        Part::Outcome => lines::print_lines(part, first, second),
-        Part::End => print_end(reported, first.verdict.rows),
+        Part::Header => lines::print_lines(rt, part, first, second),
+        Part::States => states::print_states(rt, first.file, second.file),
+        Part::Outcome => lines::print_lines(rt, part, first, second),
+        Part::End => print_end(rt, reported, first.verdict.rows),
         Part::Over => Printed::Done(false),
     }
 }
@@ -75,12 +84,12 @@ fn either(a: bool, b: bool) -> bool {
 }
 
 // The report on two listings of the form: its four parts, one after the other.
-fn print_report(first: Listing, second: Listing) -> Printed {
+fn print_report(rt: &impl Print, first: Listing<'_>, second: Listing<'_>) -> Printed {
     let mut part = Part::Header;
     let mut reported = false;
     let mut parts_left: u64 = 4;
     while 0 < parts_left {
-        let printed = print_part(part, first, second, reported);
+        let printed = print_part(rt, part, first, second, reported);
         let Printed::Done(some) = printed else {
             return printed;
         };
@@ -91,67 +100,65 @@ fn print_report(first: Listing, second: Listing) -> Printed {
     Printed::Done(reported)
 }
 
-fn listing_of(fd: i32, v: Verdict) -> Listing {
-    Listing { fd, verdict: v }
+fn listing_of(file: &File, v: Verdict) -> Listing<'_> {
+    Listing { file, verdict: v }
 }
 
-fn print_after(first: Listing, fd: i32) -> Printed {
-    let judged = files::judge(fd);
-    let Judged::Is(v) = judged else {
-        return Printed::SecondUnread;
-    };
-    if 0 < v.refusal {
-        return print_refusal(0, v.refusal);
+fn print_after(rt: &impl Print, first: Listing<'_>, other: &File) -> Printed {
+    match files::judge(other) {
+        Judged::Is(v) => {
+            if 0 < v.refusal {
+                return print_refusal(rt, 0, v.refusal);
+            }
+            print_report(rt, first, listing_of(other, v))
+        }
+        Judged::Unread(e) => Printed::SecondUnread(e),
     }
-    print_report(first, listing_of(fd, v))
 }
 
 // The first listing is checked to its end before the second is read.
-fn print_compared(fd: i32, other: i32) -> Printed {
-    let judged = files::judge(fd);
-    let Judged::Is(v) = judged else {
-        return Printed::FirstUnread;
+fn print_compared(rt: &impl Print, file: &File, other: &File) -> Printed {
+    match files::judge(file) {
+        Judged::Is(v) => {
+            if 0 < v.refusal {
+                return print_refusal(rt, v.refusal, 0);
+            }
+            print_after(rt, listing_of(file, v), other)
+        }
+        Judged::Unread(e) => Printed::FirstUnread(e),
+    }
+}
+
+fn compare_files(rt: &(impl Files<File = File> + Print + Eprint), first: &str, second: &str) {
+    let file = files::opened(rt, first);
+    let other = files::opened(rt, second);
+    let (Some(file), Some(other)) = (file, other) else {
+        return;
     };
-    if 0 < v.refusal {
-        return print_refusal(v.refusal, 0);
-    }
-    print_after(listing_of(fd, v), other)
-}
-
-fn compare_files(first: &[u8], second: &[u8]) {
-    let fd = files::opened(first);
-    let other = files::opened(second);
-    if fd < 0 {
-        return;
-    }
-    if other < 0 {
-        return;
-    }
-    let printed = print_compared(fd, other);
-    match printed {
+    match print_compared(rt, &file, &other) {
         Printed::Done(_) => {}
-        Printed::FirstUnread => files::tell_unread(first),
-        Printed::SecondUnread => files::tell_unread(second),
-        Printed::Unwritten => os::fail(b"compare: cannot write the report"),
+        Printed::FirstUnread(e) => files::tell_unread(rt, first, e),
+        Printed::SecondUnread(e) => files::tell_unread(rt, second, e),
+        Printed::Unwritten(e) => console::fail(rt, "compare: cannot write the report", e),
     }
 }
 
-fn main() {
-    if os::arg_count() != 3 {
-        io::write_all(libc::STDERR_FILENO, b"use: compare FIRST SECOND\n");
+fn main(rt: HostRuntime) {
+    if console::has_argument(&rt, 3) || !console::has_argument(&rt, 2) {
+        let _ = eprintln!(rt; "use: compare FIRST SECOND");
         return;
     }
-    let mut first = io::buffer();
-    let n = os::arg(1, &mut first);
-    if os::errno() != 0 {
-        os::fail(b"compare: the first file's name");
-        return;
+    let mut room = [0u8; 4_096];
+    let first = match console::argument(&rt, 1, &mut room) {
+        Ok(name) => name,
+        Err(e) => {
+            console::fail(&rt, "compare: the first file's name", e);
+            return;
+        }
+    };
+    let mut more = [0u8; 4_096];
+    match console::argument(&rt, 2, &mut more) {
+        Ok(second) => compare_files(&rt, first, second),
+        Err(e) => console::fail(&rt, "compare: the second file's name", e),
     }
-    let mut second = io::buffer();
-    let m = os::arg(2, &mut second);
-    if os::errno() != 0 {
-        os::fail(b"compare: the second file's name");
-        return;
-    }
-    compare_files(&first[..n], &second[..m]);
 }

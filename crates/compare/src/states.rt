@@ -3,30 +3,32 @@
 ghost use Rattle.std.specs.Prelude.{◌≡◌, ◌≤◌, false, length};
 ghost use Rattle.compare_blocks.specs.Sides.{Shut};
 
-use crate::files::read_at;
+use crate::files::{read_at, too_large};
 use crate::{Printed, any};
 use compare_blocks::inner::portion;
 use compare_blocks::{go_on, opening};
+use std::fs::File;
+use std::io;
 
 // A file of which some bytes are read; the last n of them are in its block.
 #[derive(Clone, Copy)]
-struct Source {
-    fd: i32,
+struct Source<'a> {
+    file: &'a File,
     read: u64,
     n: usize,
-    failed: bool,
+    failed: Option<io::Error>,
 }
 
 // Reads the next block, if it is wanted.
-fn refilled(wanted: bool, s: Source, block: &mut [u8]) -> Source
+fn refilled<'a>(wanted: bool, s: Source<'a>, block: &mut [u8]) -> Source<'a>
     requires { s.n ≤ length block.old }
-    ensures { (result.n ≤ length block.new) × (wanted ≡ false → result.n ≡ s.n) }
+    ensures { (result.n ≤ length block.new) × (wanted ≡ false → result.n ≡ s.entry.n) }
 {
     if wanted {
-        let got = read_at(s.fd, block, s.read);
+        let got = read_at(s.file, block, s.read);
         return Source {
-            fd: s.fd,
-            read: std::num::wrapping_add_u64(s.read, got.n as u64),
+            file: s.file,
+            read: s.read.wrapping_add(got.n as u64),
             n: got.n,
             failed: got.failed,
         };
@@ -34,26 +36,26 @@ fn refilled(wanted: bool, s: Source, block: &mut [u8]) -> Source
     s
 }
 
-fn unread(fd: i32) -> Source
+fn unread(file: &File) -> Source<'_>
     ensures { result.n ≡ 0 }
 {
     Source {
-        fd,
+        file,
         read: 0,
         n: 0,
-        failed: false,
+        failed: None,
     }
 }
 
 // Portion after portion, with one more block whenever the report waits for one. The number of portions is a limit
 // that no report reaches. The loop needs one, because nothing else shows that a file ends.
-pub fn print_states(fd: i32, other: i32) -> Printed {
-    let mut a = io::large_buffer();
-    let mut b = io::large_buffer();
-    let mut out = io::large_buffer();
+pub fn print_states(rt: &impl Print, file: &File, other: &File) -> Printed {
+    let mut a = [0u8; 65_536];
+    let mut b = [0u8; 65_536];
+    let mut out = [0u8; 65_536];
     let mut first = opening();
     let mut second = opening();
-    let mut one = unread(fd);
+    let mut one = unread(file);
     let mut two = unread(other);
     let mut reported = false;
     let mut portions_left = u64::MAX;
@@ -62,8 +64,8 @@ pub fn print_states(fd: i32, other: i32) -> Printed {
         let m = two.n;
         let p = portion(&a[..n], &b[..m], first, second, &mut out);
         let written = p.written;
-        if !io::write_all(libc::STDOUT_FILENO, &out[..written]) {
-            return Printed::Unwritten;
+        if let Err(e) = rt.write_all(&out[..written]) {
+            return Printed::Unwritten(e);
         }
         reported = any(reported, written);
         let halt = p.halt;
@@ -71,16 +73,16 @@ pub fn print_states(fd: i32, other: i32) -> Printed {
             return Printed::Done(reported);
         }
         one = refilled(halt.first, one, &mut a);
-        if one.failed {
-            return Printed::FirstUnread;
+        if let Some(e) = one.failed {
+            return Printed::FirstUnread(e);
         }
         two = refilled(halt.second, two, &mut b);
-        if two.failed {
-            return Printed::SecondUnread;
+        if let Some(e) = two.failed {
+            return Printed::SecondUnread(e);
         }
         first = go_on(halt.first, p.first, one.n);
         second = go_on(halt.second, p.second, two.n);
         portions_left -= 1;
     }
-    Printed::FirstUnread
+    Printed::FirstUnread(too_large())
 }

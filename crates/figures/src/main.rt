@@ -7,129 +7,121 @@ ghost use Rattle.std.specs.Prelude.{◌≤◌, ◌<◌, length};
 
 use calendar::{Calendar, DateAnswer, DayAnswer, JulianAnswer};
 use hour::HourAnswer;
-use libc::{STDIN_FILENO, STDOUT_FILENO};
 use root::RootAnswer;
 use sine::SineCosineAnswer;
+use std::io;
 use text_write::{Bits, Field};
 
 const DAY: u64 = 86_400_000;
 
-fn say(word: &[u8]) {
-    io::write_all(STDOUT_FILENO, word);
+fn say(rt: &impl Print, word: &str) -> io::Result<()> {
+    rt.print(word)
 }
 
-fn say_number(n: u64) {
-    say(b" ");
-    io::print_decimal(STDOUT_FILENO, n);
+fn say_number(rt: &impl Print, n: u64) -> io::Result<()> {
+    print!(rt; " {n}")
 }
 
-fn say_refused(number: u64) {
-    say(b" REFUSED");
-    say_number(number);
+fn say_refused(rt: &impl Print, number: u64) -> io::Result<()> {
+    say(rt, " REFUSED")?;
+    say_number(rt, number)
 }
 
-fn say_bits(bits: u64) {
-    io::print_hex(STDOUT_FILENO, bits, 16);
+fn say_bits(rt: &impl Print, bits: u64) -> io::Result<()> {
+    print!(rt; "{bits:016x}")
 }
 
-fn say_float(x: f64) {
-    say(b" ");
+fn say_float(rt: &impl Print, x: f64) -> io::Result<()> {
+    say(rt, " ")?;
     let b = text_write::bits_of(x);
     match b {
-        Bits::Pattern(bits) => say_bits(bits),
-        Bits::NaN => say(b"nan"),
+        Bits::Pattern(bits) => say_bits(rt, bits),
+        Bits::NaN => say(rt, "nan"),
     }
 }
 
-fn date(day: u64) {
-    say(b"date");
-    say_number(day);
+fn date(rt: &impl Print, day: u64) -> io::Result<()> {
+    print!(rt; "date {day}")?;
     let answer = Calendar::from_day(day);
     match answer {
         DateAnswer::Date(d) => {
-            say_number(d.year);
-            say_number(d.month);
-            say_number(d.day);
+            say_number(rt, d.year)?;
+            say_number(rt, d.month)?;
+            say_number(rt, d.day)?;
         }
-        DateAnswer::Refused(number) => say_refused(number),
+        DateAnswer::Refused(number) => say_refused(rt, number)?,
     }
-    say(b"\n");
+    say(rt, "\n")
 }
 
-fn day(year: u64, month: u64, of_month: u64) {
-    say(b"day");
-    say_number(year);
-    say_number(month);
-    say_number(of_month);
+fn day(rt: &impl Print, year: u64, month: u64, of_month: u64) -> io::Result<()> {
+    print!(rt; "day {year} {month} {of_month}")?;
     let answer = Calendar::from_date(year, month, of_month);
     match answer {
-        DayAnswer::Day(n) => say_number(n),
-        DayAnswer::Refused(number) => say_refused(number),
+        DayAnswer::Day(n) => say_number(rt, n)?,
+        DayAnswer::Refused(number) => say_refused(rt, number)?,
     }
-    say(b"\n");
+    say(rt, "\n")
 }
 
-fn julian(day: u64) {
-    say(b"julian");
-    say_number(day);
+fn julian(rt: &impl Print, day: u64) -> io::Result<()> {
+    print!(rt; "julian {day}")?;
     let answer = Calendar::twice_julian_date(day);
     match answer {
-        JulianAnswer::Twice(n) => say_number(n),
-        JulianAnswer::Refused(number) => say_refused(number),
+        JulianAnswer::Twice(n) => say_number(rt, n)?,
+        JulianAnswer::Refused(number) => say_refused(rt, number)?,
     }
-    say(b"\n");
+    say(rt, "\n")
 }
 
-fn hour_of(moment: u64, dut: u32) {
-    say(b"hour");
-    say_number(moment);
-    say_number(dut as u64);
+fn hour_of(rt: &impl Print, moment: u64, dut: u32) -> io::Result<()> {
+    print!(rt; "hour {moment} {dut}")?;
     let answer = hour::hour_angle(moment, dut);
     match answer {
-        HourAnswer::Parts(parts) => say_number(parts),
-        HourAnswer::Refused(number) => say_refused(number),
+        HourAnswer::Parts(parts) => say_number(rt, parts)?,
+        HourAnswer::Refused(number) => say_refused(rt, number)?,
     }
-    say(b"\n");
+    say(rt, "\n")
 }
 
-fn angle(parts: u64) {
-    say(b"sincos");
-    say_number(parts);
+fn angle(rt: &impl Print, parts: u64) -> io::Result<()> {
+    print!(rt; "sincos {parts}")?;
     let answer = sine::sine_cosine(parts);
     match answer {
         SineCosineAnswer::Both(both) => {
-            say_float(both.sine);
-            say_float(both.cosine);
+            say_float(rt, both.sine)?;
+            say_float(rt, both.cosine)?;
         }
-        SineCosineAnswer::Refused(number) => say_refused(number),
+        SineCosineAnswer::Refused(number) => say_refused(rt, number)?,
     }
-    say(b"\n");
+    say(rt, "\n")
 }
 
-fn root_of(bits: u64) {
+fn root_of(rt: &impl Print, bits: u64) -> io::Result<()> {
     let answer = root::root(text_write::float_of_bits(bits));
     match answer {
-        RootAnswer::Value(y) => say_float(y),
-        RootAnswer::Refused(number) => say_refused(number),
+        RootAnswer::Value(y) => say_float(rt, y),
+        RootAnswer::Refused(number) => say_refused(rt, number),
     }
 }
 
 // A line of bit patterns: the argument, the library's result, and the published one.
-fn published(line: &[u8]) {
+fn published(rt: &impl Print, line: &[u8]) -> io::Result<()> {
     let Field::Value(x, at) = text_write::read_hex16(line, 0) else {
-        return;
+        return Ok(());
     };
     if at < line.len() {
         let Field::Value(y, _) = text_write::read_hex16(line, at + 1) else {
-            return;
+            return Ok(());
         };
-        say(b"root ");
-        say_bits(x);
-        root_of(x);
-        say(b" ");
-        say_bits(y);
-        say(b"\n");
+        say(rt, "root ")?;
+        say_bits(rt, x)?;
+        root_of(rt, x)?;
+        say(rt, " ")?;
+        say_bits(rt, y)?;
+        say(rt, "\n")?;
     }
+    Ok(())
 }
 
 fn end_of_line(all: &[u8], at: usize) -> usize
@@ -146,41 +138,42 @@ fn end_of_line(all: &[u8], at: usize) -> usize
     e
 }
 
-fn roots(all: &[u8]) {
+fn roots(rt: &impl Print, all: &[u8]) -> io::Result<()> {
     let mut at = 0;
     while at < all.len() {
         let e = end_of_line(all, at);
-        published(&all[at..e]);
+        published(rt, &all[at..e])?;
         at = e + 1;
     }
+    Ok(())
 }
 
-fn documented() {
-    date(0);
-    date(2_922);
-    date(18_321);
-    date(36_524);
-    date(36_525);
-    day(1958, 1, 1);
-    day(2000, 2, 29);
-    day(2049, 12, 31);
-    day(2001, 2, 29);
-    julian(0);
-    hour_of(0, 0);
-    hour_of(DAY, 0);
-    hour_of(86_399_999, 0);
-    hour_of(4_322 * DAY + 82_951_000, 0);
-    hour_of(0, 100_001);
-    hour_of(0, 1);
-    angle(0);
-    angle(900_000_000_000);
-    angle(1_800_000_000_000);
-    angle(3_600_000_000_000);
+fn documented(rt: &impl Print) -> io::Result<()> {
+    date(rt, 0)?;
+    date(rt, 2_922)?;
+    date(rt, 18_321)?;
+    date(rt, 36_524)?;
+    date(rt, 36_525)?;
+    day(rt, 1958, 1, 1)?;
+    day(rt, 2000, 2, 29)?;
+    day(rt, 2049, 12, 31)?;
+    day(rt, 2001, 2, 29)?;
+    julian(rt, 0)?;
+    hour_of(rt, 0, 0)?;
+    hour_of(rt, DAY, 0)?;
+    hour_of(rt, 86_399_999, 0)?;
+    hour_of(rt, 4_322 * DAY + 82_951_000, 0)?;
+    hour_of(rt, 0, 100_001)?;
+    hour_of(rt, 0, 1)?;
+    angle(rt, 0)?;
+    angle(rt, 900_000_000_000)?;
+    angle(rt, 1_800_000_000_000)?;
+    angle(rt, 3_600_000_000_000)
 }
 
-fn main() {
-    documented();
-    let mut lines = io::large_buffer();
-    let n = io::read_full(STDIN_FILENO, &mut lines);
-    roots(&lines[..n]);
+fn main(rt: HostRuntime) -> io::Result<()> {
+    documented(&rt)?;
+    let mut lines = [0u8; 65_536];
+    let n = console::read_full(&mut rt.reader(), &mut lines)?;
+    roots(&rt, &lines[..n])
 }

@@ -10,6 +10,8 @@ use line_form::put::Out;
 use pane_lines::answer_to;
 use pane_lines::inner::put_line;
 use pane_live::Pane;
+use std::io;
+use std::io::Read;
 
 // No line of a call has this many bytes. Of a longer line only these are kept, and it is unreadable in any case.
 const LINE: usize = 1_001;
@@ -21,29 +23,29 @@ struct Standing {
     kept: usize,
 }
 
-fn tell_unwritten(written: bool) {
-    if written {
-        return;
+fn tell_unwritten(rt: &impl Eprint, written: io::Result<()>) {
+    match written {
+        Ok(()) => {}
+        Err(e) => console::fail(rt, "pane: cannot write the answers", e),
     }
-    os::fail(b"pane: cannot write the answers");
 }
 
-fn write_out(out: &Out, n: usize)
+fn write_out(rt: &(impl Print + Eprint), out: &Out, n: usize)
     requires { n ≤ 65_536 }
 {
     let all: &[u8] = out;
-    tell_unwritten(io::write_all(libc::STDOUT_FILENO, &all[..n]));
+    tell_unwritten(rt, rt.write_all(&all[..n]));
 }
 
 // A place with room for an answer. If that would be past the end, everything before it is written out first.
-fn with_room(out: &mut Out, at: usize) -> usize
+fn with_room(rt: &(impl Print + Eprint), out: &mut Out, at: usize) -> usize
     requires { at ≤ 65_536 }
     ensures { result + 512 ≤ 65_536 }
 {
     if at <= 65_024 {
         return at;
     }
-    write_out(out, at);
+    write_out(rt, out, at);
     0
 }
 
@@ -55,11 +57,18 @@ struct Told {
 }
 
 // Adds the answer to the line's first n bytes at a place of `out`.
-fn answer_line(pane: Pane, line: &[u8], n: usize, out: &mut Out, at: usize) -> Told
+fn answer_line(
+    rt: &(impl Print + Eprint),
+    pane: Pane,
+    line: &[u8],
+    n: usize,
+    out: &mut Out,
+    at: usize,
+) -> Told
     requires { (n ≤ length line.now) × (at ≤ 65_536) }
     ensures { result.end ≤ 65_536 }
 {
-    let from = with_room(out, at);
+    let from = with_room(rt, out, at);
     let told = answer_to(pane, &line[..n]);
     let after = told.pane;
     let answer = told.answer;
@@ -68,7 +77,12 @@ fn answer_line(pane: Pane, line: &[u8], n: usize, out: &mut Out, at: usize) -> T
 }
 
 // Answers the lines that end in the block. The rest of the block stays in `line`.
-fn answer_block(from: Standing, block: &[u8], line: &mut [u8; LINE]) -> Standing
+fn answer_block(
+    rt: &(impl Print + Eprint),
+    from: Standing,
+    block: &[u8],
+    line: &mut [u8; LINE],
+) -> Standing
     requires { from.kept ≤ 1_001 }
     ensures { result.kept ≤ 1_001 }
 {
@@ -78,7 +92,7 @@ fn answer_block(from: Standing, block: &[u8], line: &mut [u8; LINE]) -> Standing
     let mut n = from.kept;
     for i in 0..block.len() {
         if block[i] == b'\n' {
-            let told = answer_line(pane, line, n, &mut out, at);
+            let told = answer_line(rt, pane, line, n, &mut out, at);
             pane = told.pane;
             at = told.end;
             n = 0;
@@ -87,13 +101,14 @@ fn answer_block(from: Standing, block: &[u8], line: &mut [u8; LINE]) -> Standing
             n += 1;
         }
     }
-    write_out(&out, at);
+    write_out(rt, &out, at);
     Standing { pane, kept: n }
 }
 
 // The number of blocks is a limit that no input reaches. The loop needs one, because nothing else shows that the
 // input ends.
-fn answer_all() {
+fn answer_all(rt: &(impl Input + Print + Eprint)) {
+    let mut input = rt.reader();
     let mut block = [0u8; 65536];
     let mut line = [0u8; LINE];
     let mut standing = Standing {
@@ -102,26 +117,28 @@ fn answer_all() {
     };
     let mut blocks_left = u64::MAX;
     while 0 < blocks_left {
-        let got = libc::read(libc::STDIN_FILENO, &mut block);
-        if got < 0 {
-            os::fail(b"pane: cannot read standard input");
-        }
-        let n = io::count(got, &block);
+        let n = match input.read(&mut block) {
+            Ok(n) => n,
+            Err(e) => {
+                console::fail(rt, "pane: cannot read standard input", e);
+                0
+            }
+        };
         if n == 0 {
             break;
         }
-        standing = answer_block(standing, &block[..n], &mut line);
+        standing = answer_block(rt, standing, &block[..n], &mut line);
         blocks_left -= 1;
     }
     if 0 < standing.kept {
-        answer_block(standing, b"\n", &mut line);
+        answer_block(rt, standing, b"\n", &mut line);
     }
 }
 
-fn main() {
-    if 1 < os::arg_count() {
-        io::write_all(libc::STDERR_FILENO, b"use: pane < LINES\n");
+fn main(rt: HostRuntime) {
+    if console::has_argument(&rt, 1) {
+        let _ = eprintln!(rt; "use: pane < LINES");
         return;
     }
-    answer_all();
+    answer_all(&rt);
 }

@@ -9,8 +9,9 @@
 
 ghost use Rattle.std.specs.Prelude.{◌≤◌, length};
 
-use libc::{STDERR_FILENO, STDIN_FILENO, STDOUT_FILENO};
 use repair_book::{Changed, MOST_ENTRIES, RepairAnswer, Report};
+use std::io;
+use std::rt::Env;
 use text_write::Field;
 
 const NO_ROOM_GIVEN: usize = book::LONGEST_BOOK;
@@ -33,149 +34,143 @@ fn room_of(word: &[u8]) -> usize
     if n <= 61_440 { n as usize } else { NOT_ALLOWED }
 }
 
-fn room_given() -> usize
+fn room_given(env: &impl Env) -> usize
     ensures { result ≤ 61_441 }
 {
-    let words = os::arg_count();
-    if words <= 1 {
+    if !console::has_argument(env, 1) {
         return NO_ROOM_GIVEN;
     }
-    if 2 < words {
+    if console::has_argument(env, 2) {
         return NOT_ALLOWED;
     }
     let mut word = [0u8; 64];
-    let n = os::arg(1, &mut word);
-    room_of(&word[..n])
+    match env.arg(1, &mut word) {
+        Ok(n) => room_of(&word[..n]),
+        Err(_) => NOT_ALLOWED,
+    }
 }
 
-fn tell(text: &[u8]) {
-    io::write_all(STDERR_FILENO, text);
+fn tell(rt: &impl Eprint, text: &str) {
+    let _ = rt.eprint(text);
 }
 
 // A number, a word and the end of the line.
-fn tell_numbered(n: usize, word: &[u8]) {
-    io::print_decimal(STDERR_FILENO, n as u64);
-    tell(word);
+fn tell_numbered(rt: &impl Eprint, n: usize, word: &str) {
+    let _ = eprint!(rt; "{n}{word}");
 }
 
-fn tell_reason(fate: u16) {
+fn tell_reason(rt: &impl Eprint, fate: u16) {
     if fate == repair_book::FIELDS {
-        tell(b" FIELDS\n");
+        tell(rt, " FIELDS\n");
     } else if fate == repair_book::BLOCK {
-        tell(b" BLOCK\n");
+        tell(rt, " BLOCK\n");
     } else if fate == repair_book::COEFFICIENT {
-        tell(b" COEFF\n");
+        tell(rt, " COEFF\n");
     } else if fate == repair_book::OVERLAP {
-        tell(b" OVERLAP\n");
+        tell(rt, " OVERLAP\n");
     } else {
-        tell(b" ROOM\n");
+        tell(rt, " ROOM\n");
     }
 }
 
-fn tell_fate(i: usize, fate: u16) {
-    io::print_decimal(STDERR_FILENO, i as u64);
+fn tell_fate(rt: &impl Eprint, i: usize, fate: u16) {
+    let _ = eprint!(rt; "{i}");
     if fate < 2_559 {
-        tell(b" KEPT ");
-        tell_numbered(fate as usize, b"\n");
+        tell(rt, " KEPT ");
+        tell_numbered(rt, fate as usize, "\n");
     } else {
-        tell_reason(fate);
+        tell_reason(rt, fate);
     }
 }
 
-fn tell_changed(changed: Changed) {
+fn tell_changed(rt: &impl Eprint, changed: Changed) {
     if changed.total {
-        tell(b"CHANGED total\n");
+        tell(rt, "CHANGED total\n");
     }
     if changed.count {
-        tell(b"CHANGED count\n");
+        tell(rt, "CHANGED count\n");
     }
     if changed.order {
-        tell(b"CHANGED order\n");
+        tell(rt, "CHANGED order\n");
     }
     if changed.offsets {
-        tell(b"CHANGED offsets\n");
+        tell(rt, "CHANGED offsets\n");
     }
 }
 
-fn tell_fates(fates: &[u16; MOST_ENTRIES], looked: usize) {
+fn tell_fates(rt: &impl Eprint, fates: &[u16; MOST_ENTRIES], looked: usize) {
     let mut i = 0;
     while i < looked {
         if i < 2_559 {
-            tell_fate(i, fates[i]);
+            tell_fate(rt, i, fates[i]);
         }
         i += 1;
     }
 }
 
-fn tell_report(report: Report, fates: &[u16; MOST_ENTRIES]) {
-    tell_fates(fates, report.looked);
+fn tell_report(rt: &impl Eprint, report: Report, fates: &[u16; MOST_ENTRIES]) {
+    tell_fates(rt, fates, report.looked);
     let changed = report.changed;
-    tell_changed(changed);
-    tell(b"WRITTEN ");
-    tell_numbered(report.written, b"\n");
+    tell_changed(rt, changed);
+    tell(rt, "WRITTEN ");
+    tell_numbered(rt, report.written, "\n");
 }
 
-// Whether the whole book was written.
-fn print_book(output: &[u8], written: usize) -> bool {
+// Writes the whole book.
+fn print_book(rt: &impl Print, output: &[u8], written: usize) -> io::Result<()> {
     if written <= output.len() {
-        return io::write_all(STDOUT_FILENO, &output[..written]);
+        return rt.write_all(&output[..written]);
     }
-    false
+    Err(io::Error::from(io::ErrorKind::WriteZero))
 }
 
-fn print_written(output: &[u8], report: Report, fates: &[u16; MOST_ENTRIES]) {
-    if print_book(output, report.written) {
-        tell_report(report, fates);
-    } else {
-        os::fail(b"repair: cannot write the book");
+fn print_written(
+    rt: &(impl Print + Eprint),
+    output: &[u8],
+    report: Report,
+    fates: &[u16; MOST_ENTRIES],
+) {
+    match print_book(rt, output, report.written) {
+        Ok(()) => tell_report(rt, report, fates),
+        Err(e) => console::fail(rt, "repair: cannot write the book", e),
     }
 }
 
-fn print_repaired(input: &[u8], output: &mut [u8]) {
+fn print_repaired(rt: &(impl Print + Eprint), input: &[u8], output: &mut [u8]) {
     let mut fates = [0u16; MOST_ENTRIES];
     let answer = repair_book::repair(input, output, &mut fates);
     match answer {
         RepairAnswer::Written(report) => {
-            print_written(output, report, &fates);
+            print_written(rt, output, report, &fates);
         }
         RepairAnswer::Refused(refusal) => {
-            tell(b"REFUSED ");
-            tell_numbered(refusal as usize, b"\n");
+            tell(rt, "REFUSED ");
+            tell_numbered(rt, refusal as usize, "\n");
         }
     }
 }
 
-fn print_within(input: &[u8], output: &mut [u8], room: usize)
+fn print_within(rt: &(impl Print + Eprint), input: &[u8], output: &mut [u8], room: usize)
     requires { room ≤ length output.old }
 {
-    print_repaired(input, &mut output[..room]);
+    print_repaired(rt, input, &mut output[..room]);
 }
 
-// A short count means the end of the input or a failure: one more read shows which.
-fn read_failed(count: usize) -> bool {
-    if LONGEST_INPUT <= count {
-        return false;
-    }
-    let mut more = [0u8; 1];
-    let got = libc::read(STDIN_FILENO, &mut more);
-    if got < 0 {
-        return true;
-    }
-    false
-}
-
-fn main() {
-    let room = room_given();
+fn main(rt: HostRuntime) {
+    let room = room_given(&rt);
     if book::LONGEST_BOOK < room {
-        tell(b"use: repair [ROOM] < DAMAGED > REPAIRED, ROOM 0 to 61440 bytes in decimal\n");
+        tell(
+            &rt,
+            "use: repair [ROOM] < DAMAGED > REPAIRED, ROOM 0 to 61440 bytes in decimal\n",
+        );
         return;
     }
     let mut input = [0u8; LONGEST_INPUT];
-    let n = io::read_full(STDIN_FILENO, &mut input);
-    if read_failed(n) {
-        os::fail(b"repair: cannot read standard input");
-        return;
+    match console::read_full(&mut rt.reader(), &mut input) {
+        Ok(n) => {
+            let mut output = [0u8; book::LONGEST_BOOK];
+            print_within(&rt, &input[..n], &mut output, room);
+        }
+        Err(e) => console::fail(&rt, "repair: cannot read standard input", e),
     }
-    let mut output = [0u8; book::LONGEST_BOOK];
-    print_within(&input[..n], &mut output, room);
 }

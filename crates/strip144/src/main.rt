@@ -2,6 +2,6 @@
 
 #![tactic(auto)]
 
-fn main() {
-    strip_lines::strip(strip_order::Form::Whole);
+fn main(rt: HostRuntime) {
+    strip_lines::strip(&rt, strip_order::Form::Whole);
 }

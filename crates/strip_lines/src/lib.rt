@@ -14,12 +14,12 @@ ghost use Rattle.std.specs.Prelude.{◌≡◌, ◌≤◌, length};
 ghost use Rattle.run_checks.specs.Start.{start_refusal};
 ghost use Rattle.listing_write.specs.Course.{OnCourse};
 
-use libc::{STDIN_FILENO, STDOUT_FILENO};
 use listing_write::Course;
 use listing_write::inner::{portion, start};
 use listing_write::lines::{put_header, put_lone_refusal, put_outcome, put_state};
 use run::Outcome;
 use state::{Setting, State};
+use std::rt::Env;
 use strip_order::{Form, Order, OrderAnswer};
 use telling::{tell_unread, tell_unwritten, tell_use};
 
@@ -27,28 +27,38 @@ use telling::{tell_unread, tell_unwritten, tell_use};
 const LONGEST_INPUT: usize = strip_order::LONGEST_ORDER + book::LONGEST_BOOK + 1;
 
 // Whether the whole text was written; if not, prints the reason on standard error.
-fn print(form: Form, part: &[u8]) -> bool {
-    if io::write_all(STDOUT_FILENO, part) {
-        return true;
+fn print(rt: &(impl Print + Eprint), form: Form, part: &[u8]) -> bool {
+    match rt.write_all(part) {
+        Ok(()) => true,
+        Err(e) => {
+            tell_unwritten(rt, form, e);
+            false
+        }
     }
-    tell_unwritten(form);
-    false
 }
 
-fn print_lone_refusal(form: Form, refusal: u64) {
+fn print_lone_refusal(rt: &(impl Print + Eprint), form: Form, refusal: u64) {
     let mut line = [0u8; 128];
     let n = put_lone_refusal(&mut line, 0, refusal);
-    print(form, &line[..n]);
+    print(rt, form, &line[..n]);
 }
 
-fn print_outcome(form: Form, outcome: Outcome, steps: u64) {
+fn print_outcome(rt: &(impl Print + Eprint), form: Form, outcome: Outcome, steps: u64) {
     let mut line = [0u8; 128];
     let n = put_outcome(&mut line, 0, outcome, steps);
-    print(form, &line[..n]);
+    print(rt, form, &line[..n]);
 }
 
 // Writes portion after portion, each as large as the buffer.
-fn print_course(form: Form, book: &[u8], setting: Setting, h: u32, from: Course, out: &mut [u8])
+fn print_course(
+    rt: &(impl Print + Eprint),
+    form: Form,
+    book: &[u8],
+    setting: Setting,
+    h: u32,
+    from: Course,
+    out: &mut [u8],
+)
     requires on_course { OnCourse book.now setting h from }
     requires in_bounds { 123 ≤ length out.old }
 {
@@ -56,78 +66,71 @@ fn print_course(form: Form, book: &[u8], setting: Setting, h: u32, from: Course,
     loop {
         let p = portion(book, setting, h, course, out);
         let n = p.written;
-        if !print(form, &out[..n]) {
+        if !print(rt, form, &out[..n]) {
             return;
         }
         let outcome = p.outcome;
         course = p.course;
         let Outcome::Going = outcome else {
-            print_outcome(form, outcome, course.done);
+            print_outcome(rt, form, outcome, course.done);
             return;
         };
     }
 }
 
-fn print_listing(form: Form, book: &[u8], setting: Setting, from: State, h: u32, target: u64)
+fn print_listing(
+    rt: &(impl Print + Eprint),
+    form: Form,
+    book: &[u8],
+    setting: Setting,
+    from: State,
+    h: u32,
+    target: u64,
+)
     requires { start_refusal book.now setting from h target ≡ 0 }
 {
-    let mut buffer = io::large_buffer();
+    let mut buffer = [0u8; 65_536];
     let out: &mut [u8] = &mut buffer;
     let header = put_header(out, 0, h);
     let n = put_state(out, header, from);
-    if print(form, &out[..n]) {
-        print_course(form, book, setting, h, start(from, h, target), out);
+    if print(rt, form, &out[..n]) {
+        print_course(rt, form, book, setting, h, start(from, h, target), out);
     }
 }
 
-fn print_order(form: Form, book: &[u8], order: Order) {
+fn print_order(rt: &(impl Print + Eprint), form: Form, book: &[u8], order: Order) {
     let setting = order.setting;
     let from = gravity_stored::launch(book, setting, order.injection);
     let refusal = run_checks::start_refusal(book, setting, from, order.h, order.target);
     if refusal == 0 {
-        print_listing(form, book, setting, from, order.h, order.target);
+        print_listing(rt, form, book, setting, from, order.h, order.target);
     } else {
-        print_lone_refusal(form, refusal);
+        print_lone_refusal(rt, form, refusal);
     }
 }
 
-fn print_strip(form: Form, input: &[u8]) {
+fn print_strip(rt: &(impl Print + Eprint), form: Form, input: &[u8]) {
     let answer = strip_order::read_order(form, input);
     match answer {
         OrderAnswer::Is(order) => {
             let from = strip_order::order_length(form);
-            print_order(form, &input[from..], order);
+            print_order(rt, form, &input[from..], order);
         }
         OrderAnswer::Refused(refusal) => {
-            print_lone_refusal(form, refusal);
+            print_lone_refusal(rt, form, refusal);
         }
     }
-}
-
-// A short count means the end of the input or a failure: one more read shows which.
-fn read_failed(count: usize) -> bool {
-    if LONGEST_INPUT <= count {
-        return false;
-    }
-    let mut more = [0u8; 1];
-    let got = libc::read(STDIN_FILENO, &mut more);
-    if got < 0 {
-        return true;
-    }
-    false
 }
 
 // The whole program for orders of this form.
-pub fn strip(form: Form) {
-    if 1 < os::arg_count() {
-        tell_use(form);
+pub fn strip(rt: &(impl Env + Input + Print + Eprint), form: Form) {
+    if console::has_argument(rt, 1) {
+        tell_use(rt, form);
         return;
     }
     let mut input = [0u8; LONGEST_INPUT];
-    let n = io::read_full(STDIN_FILENO, &mut input);
-    if read_failed(n) {
-        tell_unread(form);
-        return;
+    match console::read_full(&mut rt.reader(), &mut input) {
+        Ok(n) => print_strip(rt, form, &input[..n]),
+        Err(e) => tell_unread(rt, form, e),
     }
-    print_strip(form, &input[..n]);
 }

@@ -10,7 +10,7 @@
 ghost use Rattle.std.specs.Prelude.{◌≤◌, length};
 ghost use Rattle.table_blocks.specs.Steps.{Stands};
 
-use libc::{STDERR_FILENO, STDIN_FILENO, STDOUT_FILENO};
+use std::io::Read;
 use table_blocks::inner::{finish, portion, put_refusal};
 use table_blocks::{Standing, opening};
 use table_rows::inner::put_heading;
@@ -23,22 +23,24 @@ struct Printed {
 }
 
 // Whether the whole text was written; if not, prints the reason on standard error.
-fn print(part: &[u8]) -> bool {
-    if io::write_all(STDOUT_FILENO, part) {
-        return true;
+fn print(rt: &(impl Print + Eprint), part: &[u8]) -> bool {
+    match rt.write_all(part) {
+        Ok(()) => true,
+        Err(e) => {
+            console::fail(rt, "table: cannot write the table", e);
+            false
+        }
     }
-    os::fail(b"table: cannot write the table");
-    false
 }
 
-fn print_heading() -> bool {
+fn print_heading(rt: &(impl Print + Eprint)) -> bool {
     let mut row = [0u8; 64];
     let n = put_heading(&mut row, 0);
-    print(&row[..n])
+    print(rt, &row[..n])
 }
 
 // The rows of a block, portion after portion.
-fn print_block(block: &[u8], from: Standing, out: &mut [u8]) -> Printed
+fn print_block(rt: &(impl Print + Eprint), block: &[u8], from: Standing, out: &mut [u8]) -> Printed
     requires stands { Stands from }
     requires in_bounds { 157 ≤ length out.old }
     ensures { Stands result.standing }
@@ -50,7 +52,7 @@ fn print_block(block: &[u8], from: Standing, out: &mut [u8]) -> Printed
         let n = p.written;
         s = p.standing;
         i = p.at;
-        if print(&out[..n]) {} else {
+        if print(rt, &out[..n]) {} else {
             return Printed {
                 standing: s,
                 whole: false,
@@ -70,46 +72,48 @@ fn is_refused(s: Standing) -> bool {
     }
 }
 
-fn tell_refusal(number: u64, line: u64) {
+fn tell_refusal(rt: &impl Eprint, number: u64, line: u64) {
     let mut room = [0u8; 64];
     let n = put_refusal(&mut room, number, line);
-    io::write_all(STDERR_FILENO, &room[..n]);
+    let _ = rt.eprint(str::from_utf8(&room[..n]).unwrap_or(""));
 }
 
 // The end of the text, or of the part that is read.
-fn print_end(standing: Standing, out: &mut [u8])
+fn print_end(rt: &(impl Print + Eprint), standing: Standing, out: &mut [u8])
     requires stands { Stands standing }
     requires in_bounds { 157 ≤ length out.old }
 {
     let end = finish(out, standing);
     let n = end.next;
-    if print(&out[..n]) {
-        tell_refusal(end.number, end.line);
+    if print(rt, &out[..n]) {
+        tell_refusal(rt, end.number, end.line);
     }
 }
 
 // Block after block, to the end of the input or a refusal.
-fn print_rows(block: &mut [u8], out: &mut [u8])
+fn print_rows(rt: &(impl Input + Print + Eprint), block: &mut [u8], out: &mut [u8])
     requires { 157 ≤ length out.old }
 {
+    let mut input = rt.reader();
     let mut s = opening();
     let mut blocks_left = u64::MAX;
     while 0 < blocks_left {
-        let got = libc::read(STDIN_FILENO, block);
-        if got < 0 {
-            os::fail(b"table: cannot read standard input");
-            return;
-        }
-        let n = io::count(got, block);
+        let n = match input.read(block) {
+            Ok(n) => n,
+            Err(e) => {
+                console::fail(rt, "table: cannot read standard input", e);
+                return;
+            }
+        };
         if n == 0 {
-            print_end(s, out);
+            print_end(rt, s, out);
             return;
         }
-        let p = print_block(&block[..n], s, out);
+        let p = print_block(rt, &block[..n], s, out);
         s = p.standing;
         if p.whole {
             if is_refused(s) {
-                print_end(s, out);
+                print_end(rt, s, out);
                 return;
             }
         } else {
@@ -119,14 +123,14 @@ fn print_rows(block: &mut [u8], out: &mut [u8])
     }
 }
 
-fn main() {
-    if 1 < os::arg_count() {
-        io::write_all(STDERR_FILENO, b"use: table < LISTING\n");
+fn main(rt: HostRuntime) {
+    if console::has_argument(&rt, 1) {
+        let _ = eprintln!(rt; "use: table < LISTING");
         return;
     }
-    if print_heading() {
-        let mut block = io::large_buffer();
-        let mut out = io::large_buffer();
-        print_rows(&mut block, &mut out);
+    if print_heading(&rt) {
+        let mut block = [0u8; 65_536];
+        let mut out = [0u8; 65_536];
+        print_rows(&rt, &mut block, &mut out);
     }
 }

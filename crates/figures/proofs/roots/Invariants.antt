@@ -1,10 +1,6 @@
--- `figures::roots` meets its contract: each turn passes a line. Assumes nothing.
-use Prim.Native.Nat.{◌-◌}
-use lib.ListN.{length}
+-- Each turn passes a line.
+use Rattle.std.specs.Prelude.{length, ◌-◌}
 use Rattle.figures.proofs.roots.Given as goal
 
-abbrev pub invariant-loop-at : goal.invariant-loop-at
-invariant-loop-at l = Unit {0}
-
 abbrev pub decreases-loop-at : goal.decreases-loop-at
-decreases-loop-at l = length l.all - l.at
+decreases-loop-at g l = length l.all - l.at

@@ -1,9 +1,6 @@
--- `repair::tell_fates` is safe and ends. Assumes nothing.
-use Prim.Native.Nat.{◌-◌, ◌≤◌}
+-- Each turn passes an entry.
+use Rattle.std.specs.Prelude.{◌-◌}
 use Rattle.repair.proofs.tell_fates.Given as goal
 
-abbrev pub invariant-loop-i : goal.invariant-loop-i
-invariant-loop-i l = 0 ≤ l.i
-
 abbrev pub decreases-loop-i : goal.decreases-loop-i
-decreases-loop-i l = l.looked - l.i
+decreases-loop-i g l = l.looked - l.i

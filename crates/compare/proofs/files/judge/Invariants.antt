@@ -1,5 +1,5 @@
--- `compare::files::judge` is safe and ends: each block has a byte more of the file. Assumes nothing.
-use Rattle.std.proofs.Common.{◌≡◌, ◌-◌, length}
+-- Each block has a byte more of the file.
+use Rattle.std.specs.Prelude.{◌≡◌, ◌-◌, length}
 use Rattle.listing_read.specs.Bytes.{Counted}
 use Rattle.compare.proofs.files.judge.Given as goal
 
