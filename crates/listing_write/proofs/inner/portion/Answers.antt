@@ -68,4 +68,3 @@ returns c = let x = c.args in
     let l = c.loop-at in
     rw c.portion_of-2.ensures
     (ends x.book.now x.setting x.h x.from x.out.now l.out l.now l.entries l.left l.done l.at l.invariant.1 Going refl (λ z. c.loop-at-test.false))
-
