@@ -1,7 +1,4 @@
 -- `ask::answer_all` meets its contract: it ends, as its blocks are counted down. Assumes nothing.
-use Prim.Native.Nat.{◌≤◌}
-use mathlib.Core.Path.{◌≡◌}
-use lib.ListN.{length}
 use borrow.Author.Rules.{rules}
 use Rattle.ask.proofs.answer_all.Goals as goal
 

@@ -2,7 +2,6 @@
 use Prim.Native.Nat.{◌≤◌}
 use mathlib.Core.Path.{◌≡◌}
 use lib.ListN.{length}
-use borrow.Author.Rules.{rules}
 use Rattle.ask.proofs.answer_all.Given as goal
 
 -- PARAMS ['book', 'block₀', 'line₀', 'kept₀', 'blocks-left₀', 't7', 't8', 'block', 'line', 'kept', 'blocks-left'] vs ['book', 'block', 'line', 'kept', 'blocks_left'] [False, True, True, True, True]

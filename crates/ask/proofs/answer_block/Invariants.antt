@@ -1,9 +1,7 @@
 -- `ask::answer_block` meets its contract: the line kept and the answers stay within their arrays. Assumes nothing.
 use Prim.Native.Nat.{◌≤◌, ◌-◌}
 use mathlib.Core.Path.{◌≡◌}
-use mathlib.Core.Logic.{⊎_elim}
 use lib.ListN.{length}
-use borrow.Author.Rules.{rules}
 use Rattle.ask.proofs.answer_block.Given as goal
 
 abbrev pub invariant-loop-i : goal.invariant-loop-i

@@ -1,14 +1,12 @@
 -- `c_pane::shown_at` meets its contract. Assumes nothing.
 use Prim.Native.Nat.{ℕ}
 use mathlib.Core.Bool.{Bool, true, false}
-use mathlib.Core.Path.{◌≡◌, refl, sym}
-use borrow.Author.Rules.{rules}
+use mathlib.Core.Path.{◌≡◌, refl}
 use borrow.Author.Tests.{eq-eqb, ne_eqb, lt-ltb}
 use lib.Dec.{eqb}
 use lib.ListN.{get_or}
 use Rattle.base.specs.Choice.{if◌then◌otherwise◌}
 use Rattle.state.specs.declared.State.{State}
-use Rattle.pane_live.specs.declared.Pane.{Pane}
 use Rattle.pane_live.specs.declared.Pane.TheVariants.{Blank, One}
 use Rattle.pane_live.specs.declared.FrameAnswer.TheVariants as frame
 use Rattle.pane_live.specs.Pane.{frame_at}
