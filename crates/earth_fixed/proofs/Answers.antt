@@ -13,20 +13,20 @@ use Rattle.earth_fixed.specs.declared.FixedAnswer.TheVariants.{Fixed, Refused}
 use Rattle.earth_rotation.specs.Rotation.{rotation}
 use Rattle.earth_fixed.specs.Fixed.{turned, finite_fixed, finite_answer, after_hour, fixed_answer}
 
-pub refused-is : (rule dut : ℕ) (state : State) → finite_state state ≡ false → Refused 7 ≡ finite_answer rule dut state
+pub refused_is : (rule dut : ℕ) (state : State) → finite_state state ≡ false → Refused 7 ≡ finite_answer rule dut state
 unfolding finite_answer
-refused-is rule dut state not-Finite = rw not-Finite
+refused_is rule dut state not_finite = rw not_finite
 
-pub answer-is :
+pub answer_is :
     (rule dut : ℕ) (state : State) (fixed : EarthFixed)
     → finite_state state ≡ true
     → fixed ≡ turned (rotation rule state.moment dut) state
     → (if not (finite_fixed fixed) then Refused 7 otherwise Fixed fixed) ≡ finite_answer rule dut state
 unfolding finite_answer
-answer-is rule dut state fixed is_finite e = rw (e, is_finite)
+answer_is rule dut state fixed is_finite e = rw (e, is_finite)
 
 -- about the Earth, with a DUT and a rule that are allowed, the hour angle decides
-pub about-earth : (rule dut : ℕ) (state : State) → is_dut dut ≡ true → is_rule rule ≡ true → state.centre ≡ 1
+pub about_earth : (rule dut : ℕ) (state : State) → is_dut dut ≡ true → is_rule rule ≡ true → state.centre ≡ 1
     → fixed_answer rule dut state ≡ after_hour (sidereal_answer rule state.moment dut) (finite_answer rule dut state)
 unfolding fixed_answer
-about-earth rule dut state d r c = rw (d, r, eq-eqb _ _ c)
+about_earth rule dut state d r c = rw (d, r, eq-eqb _ _ c)
