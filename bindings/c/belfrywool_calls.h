@@ -13,34 +13,34 @@
    Stack. The greatest stack that a call used, in bytes, measured over 1000 questions to each; - means not measured. tests/stack --write
    writes this table.
      call                       aarch64    x86-64
-     belfry_date                    208       200
-     belfry_day                     208       200
+     belfry_date                    208         8
+     belfry_day                     208        16
      belfry_twice_julian_date        16         8
      belfry_hour_angle               16        16
      belfry_sidereal                 16        56
-     belfry_root                     16         8
+     belfry_root                     16        24
      belfry_sine_cosine              16         8
-     belfry_book_passes              48        88
-     belfry_book_holds               80       136
-     belfry_position                 80       120
-     belfry_repair                10336     10360
-     belfry_acceleration           1792      2080
-     belfry_run                    3840      4272
-     belfry_single_step            3840      4272
-     belfry_earth_fixed             224       200
-     belfry_from_sphere             368       280
-     belfry_conic                   120       232
-     belfry_pull                   1904      2168
-     belfry_inject                 1840      2088
-     belfry_move                   2016      2264
-     belfry_fly                    3376      3800
-     belfry_turn                     16       136
-     belfry_orbit                   128       232
+     belfry_book_passes              48        72
+     belfry_book_holds               80       120
+     belfry_position                 80       136
+     belfry_repair                10336     10392
+     belfry_acceleration           1792      2176
+     belfry_run                    3840      5224
+     belfry_single_step            3840      5208
+     belfry_earth_fixed             224       152
+     belfry_from_sphere             368       312
+     belfry_conic                   120       248
+     belfry_pull                   1904      2208
+     belfry_inject                 1840      2144
+     belfry_move                   2016      2320
+     belfry_fly                    3376      4696
+     belfry_turn                     16       216
+     belfry_orbit                   128       248
      belfry_clear                    16         8
      belfry_take                     16        56
-     belfry_feed                    352       408
+     belfry_feed                    352        32
      belfry_frame                    16         8
-     belfry_frame_motion             16        16
+     belfry_frame_motion             16         8
 
    Floating-point environment. The proofs assume rounding to nearest, ties to even, and that subnormal numbers are kept.
    belfry_environment of belfrywool.h tests this for the calling thread.
