@@ -5,7 +5,7 @@ use Rattle.base.proofs.OneAnswer.{OneAnswer, one_answer}
 use Rattle.state_tests.specs.contracts.bits_agree as bits_agree
 use Rattle.state_tests.specs.contracts.coefficient_is_allowed as coefficient_is_allowed
 use Rattle.state_tests.specs.contracts.earth_is_allowed as earth_is_allowed
-use Rattle.state_tests.specs.contracts.is_body as is_Is_body
+use Rattle.state_tests.specs.contracts.is_body as is_body
 use Rattle.state_tests.specs.contracts.is_looked_up as is_looked_up
 
 pub bits_agree_answers_once : OneAnswer bits_agree.ended (λ M 𝓤 𝓛. bits_agree.clauses 𝓛)
@@ -20,7 +20,7 @@ pub earth_is_allowed_answers_once : OneAnswer earth_is_allowed.ended (λ M 𝓤 
 earth_is_allowed_answers_once =
     one_answer (λ κs inputs. earth_allowed inputs.0) (λ M 𝓤 𝓛 mem run κs inputs g r after. refl)
 
-pub is_body_answers_once : OneAnswer is_Is_body.ended (λ M 𝓤 𝓛. is_Is_body.clauses 𝓛)
+pub is_body_answers_once : OneAnswer is_body.ended (λ M 𝓤 𝓛. is_body.clauses 𝓛)
 is_body_answers_once =
     one_answer (λ κs inputs. is_body inputs.0) (λ M 𝓤 𝓛 mem run κs inputs g r after. refl)
 

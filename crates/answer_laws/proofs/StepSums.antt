@@ -2,13 +2,13 @@
 use mathlib.Core.Path.{refl}
 use Rattle.step_sums.specs.Slopes.{along, half, sixth, step_h, weighed}
 use Rattle.base.proofs.OneAnswer.{OneAnswer, one_answer}
-use Rattle.step_sums.specs.contracts.half_of as half_of_lem
+use Rattle.step_sums.specs.contracts.half_of as half_of
 use Rattle.step_sums.specs.contracts.seconds as seconds
 use Rattle.step_sums.specs.contracts.sixth_of as sixth_of
 use Rattle.step_sums.specs.contracts.toward as toward
 use Rattle.step_sums.specs.contracts.weigh_all as weigh_all
 
-pub half_of_answers_once : OneAnswer half_of_lem.ended (λ M 𝓤 𝓛. half_of_lem.clauses 𝓛)
+pub half_of_answers_once : OneAnswer half_of.ended (λ M 𝓤 𝓛. half_of.clauses 𝓛)
 half_of_answers_once =
     one_answer (λ κs inputs. half inputs.0) (λ M 𝓤 𝓛 mem run κs inputs g r after. refl)
 

@@ -29,7 +29,7 @@ use Rattle.gravity.specs.Acceleration.{acceleration_answer}
 use Rattle.gravity.proofs.Refused as gravity
 use Rattle.gravity.specs.declared.AccelerationAnswer.{AccelerationAnswer}
 use Rattle.gravity.specs.declared.Guesses.{Guesses}
-use Rattle.gravity_stored.specs.Injection.{injection_answer as injection-answer}
+use Rattle.gravity_stored.specs.Injection.{injection_answer as stored_answer}
 use Rattle.gravity_stored.specs.declared.InjectionAnswer.{InjectionAnswer}
 use Rattle.gravity_stored.proofs.Refused as injection
 use Rattle.run.specs.Run.{run_answer, single_step_answer}
@@ -119,9 +119,9 @@ injection_is_told : (a : InjectionAnswer) → refused_by tabled (injection.as_an
 injection_is_told (InjectionAnswer.Injected s) by = refl
 injection_is_told (InjectionAnswer.Refused k) by = by
 
-pub injection_told : (b : List ℕ) (setting : Setting) (i : Injection) → in_table (of_injection (injection-answer b setting i)) ≡ true
+pub injection_told : (b : List ℕ) (setting : Setting) (i : Injection) → in_table (of_injection (stored_answer b setting i)) ≡ true
 injection_told b setting i =
-    injection_is_told (injection-answer b setting i) (injection.injection_refused tabled refl refl refl refl refl refl b setting i)
+    injection_is_told (stored_answer b setting i) (injection.injection_refused tabled refl refl refl refl refl refl b setting i)
 
 outcome_is_told : (o : Outcome) → journey.outcome_by tabled o ≡ true → outcome_told o ≡ true
 outcome_is_told Outcome.Arrived by = refl

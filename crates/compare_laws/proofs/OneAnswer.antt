@@ -19,7 +19,7 @@ use Rattle.compare_report.specs.contracts.side_of as side_of
 use Rattle.compare_report.specs.contracts.next_part as next_part
 use Rattle.compare_report.specs.contracts.same.line_length as line_length
 use Rattle.compare_report.specs.contracts.same.same_bytes as same_bytes
-use Rattle.compare_lines.specs.contracts.line_of as Line_of
+use Rattle.compare_lines.specs.contracts.line_of as line_of
 use Rattle.compare_lines.specs.contracts.wants_first as wants_first
 use Rattle.compare_lines.specs.contracts.wants_second as wants_second
 use Rattle.compare_lines.specs.contracts.place_of as place_of
@@ -56,7 +56,7 @@ opening_answers_once = one_answer (λ κs inputs. opened) (λ M 𝓤 𝓛 mem ru
 pub go_on_answers_once : OneAnswer go_on.ended (λ M 𝓤 𝓛. go_on.clauses 𝓛)
 go_on_answers_once = one_answer (λ κs inputs. going_on inputs.0 inputs.1.0 inputs.1.1.0) (λ M 𝓤 𝓛 mem run κs inputs g r after. refl)
 
-pub line_of_answers_once : OneAnswer Line_of.ended (λ M 𝓤 𝓛. Line_of.clauses 𝓛)
+pub line_of_answers_once : OneAnswer line_of.ended (λ M 𝓤 𝓛. line_of.clauses 𝓛)
 line_of_answers_once = one_answer (λ κs inputs. line_of inputs.0 inputs.1.0) (λ M 𝓤 𝓛 mem run κs inputs g r after. refl)
 
 pub wants_first_answers_once : OneAnswer wants_first.ended (λ M 𝓤 𝓛. wants_first.clauses 𝓛)

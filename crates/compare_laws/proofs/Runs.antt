@@ -85,7 +85,7 @@ full_over false h e = e
 
 -- one listing goes on: its next block, if it is wanted
 record GoesOn (r : Reading) (a ra : List ℕ) (s : Reading) (x left : List ℕ) : Type 0 where
-  to_come_lem : coming r a ra ≡ coming s x left
+  to_come : coming r a ra ≡ coming s x left
   is_shut : Shut (length x) s
   rests : Rests s left
 
@@ -99,13 +99,13 @@ module _ (r : Reading) (a ra next left : List ℕ) (shut : Shut (length a) r) (r
           let gone : left ≡ [] = read.1 refl in
           let all : ra ≡ [] = read.0 ∙ gone in
           record {
-            to_come_lem = rw (all, gone) (text_over r a none used);
+            to_come = rw (all, gone) (text_over r a none used);
             is_shut = onward_shut r 0;
             rests = λ o. gone;
           }
       go (x ∷ next) read =
           record {
-            to_come_lem = rw read.0 (next_block_lem r a none used (x ∷ next) left (omega arith));
+            to_come = rw read.0 (next_block_lem r a none used (x ∷ next) left (omega arith));
             is_shut = onward_shut r (length (x ∷ next));
             rests = λ o. (let e : (onward r (length (x ∷ next))).over ≡ false = rw (lt-ltb 0 (length (x ∷ next)) (omega arith)) in let z : ◌≡◌ {A = ℕ} 0 1 = cc in absurd (omega arith));
           }
@@ -113,7 +113,7 @@ module _ (r : Reading) (a ra next left : List ℕ) (shut : Shut (length a) r) (r
   goes_further : (w : Bool) → (w ≡ true → r.found ≡ None) → (w ≡ true → length a ≤ r.at) → Read w ra next left
       → GoesOn r a ra (going_on w r (length (next_block w a next))) (next_block w a next) left
   goes_further true none used read = wanted_block (none refl) (used refl) read
-  goes_further false none used read = record { to_come_lem = rw read; is_shut = shut; rests = λ o. read ∙ rests o }
+  goes_further false none used read = record { to_come = rw read; is_shut = shut; rests = λ o. read ∙ rests o }
 
 module _ (a ra b rb : List ℕ) (r s : Reading) (t : StateTurn) (h : Reported a b r s t.before t.after t.answer) where
   abbrev f : Reading
@@ -158,7 +158,7 @@ states_printed_lem (t ∷ u ∷ ts) a ra b rb r s x y p q h =
     let later = states_printed_lem (u ∷ ts) (next_block v.first a t.first) t.first_left (next_block v.second b t.second) t.second_left
     (going_on v.first t.answer.first (length (next_block v.first a t.first))) (going_on v.second t.answer.second (length (next_block v.second b t.second)))
     one.is_shut two.is_shut one.rests two.rests h.3 in
-    ap (λ (l : List ℕ). take t.answer.written t.after ++ l) (later ∙ sym (ap₂ (λ (i j : List Row). text_of (parted i j)) one.to_come_lem two.to_come_lem))
+    ap (λ (l : List ℕ). take t.answer.written t.after ++ l) (later ∙ sym (ap₂ (λ (i j : List Row). text_of (parted i j)) one.to_come two.to_come))
     ∙ sym (k.text ra rb p q)
 
 -- ---- header and outcome
