@@ -3,4 +3,3 @@ pub mod Bounds
 pub mod OneAnswer
 pub mod Cases
 pub mod Bools
-pub mod Checks

@@ -1,17 +1,17 @@
--- Checks in an order: "the first of these that holds". A check that passes gives 0, one that fails gives its refusal number.
-use Rattle.std.specs.Prelude.{Bool, true, ℕ}
-use Rattle.base.specs.Choice.{if◌then◌otherwise◌, ◌=?◌}
+-- Checks in an order: "the first of these that holds".
+use Rattle.std.specs.Prelude.{Bool, Result, Ok, Err}
+use Rattle.base.specs.Choice.{if◌then◌otherwise◌}
+use Rattle.base.specs.declared.Refusal.{Refusal}
 
--- the number of a check that fails; if it passes, the result of the later checks
-abbrev pub or_later : ℕ → ℕ → ℕ
-or_later k later = if k =? 0 then later otherwise k
+-- what checks answer: a refusal, or nothing
+abbrev pub Checked : Type 0
+Checked = Result (Unit {0}) Refusal
 
--- what a call answers: its value, or "the number alone"
-pub data Answer (A : Type 0) : Type 0 where
-  Accepted : A → Answer A
-  Refused : ℕ → Answer A
+-- a check that passes, or refuses
+abbrev pub require : Bool → Refusal → Checked
+require ok refusal = if ok then Ok tt otherwise Err refusal
 
--- if the answer is a refusal, whether its number meets a test
-abbrev pub refused_by : {A : Type 0} → (ℕ → Bool) → Answer A → Bool
-refused_by ok (Accepted a) = true
-refused_by ok (Refused k) = ok k
+-- checks before an answer: their refusal, or if they pass the answer
+abbrev pub and_then : {A : Type 0} → Checked → Result A Refusal → Result A Refusal
+and_then (Ok passed) answer = answer
+and_then (Err refusal) answer = Err refusal

@@ -1,4 +1,5 @@
 pub mod Choice
+pub mod Refusals
 pub mod Checks
 pub mod Limits
 pub mod Floats
