@@ -15,11 +15,7 @@ ghost use Rattle.book.specs.Position.{position_answer};
 ghost use Rattle.c_answer.specs.Handed.{handed, answered};
 ghost use Rattle.belfry_almanac.specs.Answers.{of_date, of_day, of_julian, of_hour, of_root, of_sine_cosine, of_position};
 
-use book::PositionAnswer;
-use calendar::{Calendar, DateAnswer, DayAnswer, JulianAnswer};
-use hour::HourAnswer;
-use root::RootAnswer;
-use sine::SineCosineAnswer;
+use calendar::Calendar;
 
 #[unsafe(no_mangle)]
 pub extern "C" fn belfry_date(day: u64, date: &mut [u64; 3]) -> u64
@@ -27,11 +23,11 @@ pub extern "C" fn belfry_date(day: u64, date: &mut [u64; 3]) -> u64
         (of_date (date_answer day)) }
 {
     match Calendar::from_day(day) {
-        DateAnswer::Date(d) => {
+        Ok(d) => {
             *date = [d.year, d.month, d.day];
             0
         }
-        DateAnswer::Refused(k) => k,
+        Err(k) => k,
     }
 }
 
@@ -41,11 +37,11 @@ pub extern "C" fn belfry_day(year: u64, month: u64, day: u64, count: &mut u64) -
         (of_day (day_answer year month day)) }
 {
     match Calendar::from_date(year, month, day) {
-        DayAnswer::Day(d) => {
+        Ok(d) => {
             *count = d;
             0
         }
-        DayAnswer::Refused(k) => k,
+        Err(k) => k,
     }
 }
 
@@ -55,11 +51,11 @@ pub extern "C" fn belfry_twice_julian_date(day: u64, twice: &mut u64) -> u64
         (of_julian (julian_answer day)) }
 {
     match Calendar::twice_julian_date(day) {
-        JulianAnswer::Twice(j) => {
+        Ok(j) => {
             *twice = j;
             0
         }
-        JulianAnswer::Refused(k) => k,
+        Err(k) => k,
     }
 }
 
@@ -69,11 +65,11 @@ pub extern "C" fn belfry_hour_angle(moment: u64, dut: u32, parts: &mut u64) -> u
         (of_hour (hour_answer moment dut)) }
 {
     match hour::hour_angle(moment, dut) {
-        HourAnswer::Parts(p) => {
+        Ok(p) => {
             *parts = p;
             0
         }
-        HourAnswer::Refused(k) => k,
+        Err(k) => k,
     }
 }
 
@@ -83,11 +79,11 @@ pub extern "C" fn belfry_sidereal(rule: u64, moment: u64, dut: u32, parts: &mut 
         (of_hour (sidereal_answer rule moment dut)) }
 {
     match hour::sidereal(rule, moment, dut) {
-        HourAnswer::Parts(angle) => {
+        Ok(angle) => {
             *parts = angle;
             0
         }
-        HourAnswer::Refused(k) => k,
+        Err(k) => k,
     }
 }
 
@@ -97,11 +93,11 @@ pub extern "C" fn belfry_root(x: f64, value: &mut f64) -> u64
         (of_root (root_answer x)) }
 {
     match root::root(x) {
-        RootAnswer::Value(y) => {
+        Ok(y) => {
             *value = y;
             0
         }
-        RootAnswer::Refused(k) => k,
+        Err(k) => k,
     }
 }
 
@@ -111,11 +107,11 @@ pub extern "C" fn belfry_sine_cosine(parts: u64, both: &mut [f64; 2]) -> u64
         (of_sine_cosine (sine_cosine_answer parts)) }
 {
     match sine::sine_cosine(parts) {
-        SineCosineAnswer::Both(of) => {
+        Ok(of) => {
             *both = [of.sine, of.cosine];
             0
         }
-        SineCosineAnswer::Refused(k) => k,
+        Err(k) => k,
     }
 }
 
@@ -135,12 +131,12 @@ pub extern "C" fn belfry_position(book: &[u8], body: u64, moment: u64, motion: &
         (of_position (position_answer book.now body moment)) }
 {
     match book::position(book, body, moment) {
-        PositionAnswer::At(at) => {
+        Ok(at) => {
             let place = at.place;
             let speed = at.velocity;
             *motion = [place.x, place.y, place.z, speed.x, speed.y, speed.z];
             0
         }
-        PositionAnswer::Refused(k) => k,
+        Err(k) => k,
     }
 }

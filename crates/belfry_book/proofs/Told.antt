@@ -5,6 +5,7 @@ use mathlib.Core.List.{List}
 use mathlib.Core.Logic.{◌⊎◌, inl, inr}
 use mathlib.Core.Path.{◌≡◌, refl, ap}
 use native.Mathlib.Omega.{arith}
+use Rattle.base.specs.declared.Refusal.{Refusal}
 use Rattle.book.specs.Passes.{passes}
 use Rattle.book_holds.specs.Answer.{holds_answer}
 use Rattle.book_holds.specs.Laws.{Fuller, MissingFirst}
@@ -52,7 +53,7 @@ module _ (before : ℕ) (b c : List ℕ) where
       go (Refused k) e h = (refused_by_1 b c k e).1
 
   pub not_passing_returns_1 : (passes b && passes c) ≡ false → of_holds before (holds_answer b c) ≡ handed 1 before
-  not_passing_returns_1 h = by_answer (Refused 1) (not_passing_refused b c h)
+  not_passing_returns_1 h = by_answer (Refused Refusal.Book) (not_passing_refused b c h)
 
   -- ---- there is no other number, and only 104 writes to the memory
   pub three_numbers : ((of_holds before (holds_answer b c)).returned ≡ 0) ⊎ ((of_holds before (holds_answer b c)).returned ≡ not_held) ⊎ ((of_holds before (holds_answer b c)).returned ≡ 1)

@@ -18,7 +18,6 @@ ghost use Rattle.c_earth.specs.Earth.{sphere_of, of_fixed, of_sphere};
 ghost use Rattle.c_conic.specs.Figures.{both_in, of_conic};
 ghost use Rattle.c_run.specs.Answers.{of_acceleration, run_memory, of_run};
 
-use launch::SphereAnswer;
 
 #[unsafe(no_mangle)]
 pub extern "C" fn belfry_acceleration(
@@ -132,11 +131,11 @@ pub extern "C" fn belfry_from_sphere(
         (of_sphere (sphere_answer (sphere_of sizes.now angles.now) rule moment dut)) }
 {
     match launch::from_sphere(c_earth::sphere_of(*sizes, *angles), rule, moment, dut) {
-        SphereAnswer::Injected(s) => {
+        Ok(s) => {
             *coordinates = [s.x, s.y, s.z, s.vx, s.vy, s.vz];
             0
         }
-        SphereAnswer::Refused(k) => k,
+        Err(k) => k,
     }
 }
 

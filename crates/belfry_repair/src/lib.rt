@@ -7,7 +7,7 @@ ghost use Rattle.std.specs.Prelude.{◌≡◌};
 ghost use Rattle.repair_book.specs.Repaired.{repair_outcome};
 ghost use Rattle.belfry_repair.specs.Lent.{mark_of, report_in, repair_memory, of_repair};
 
-use repair_book::{MOST_ENTRIES, RepairAnswer, Report};
+use repair_book::{MOST_ENTRIES, Report};
 
 fn mark_of(changed: bool) -> u64
     ensures { result ≡ mark_of changed }
@@ -41,10 +41,10 @@ pub extern "C" fn belfry_repair(
         (repair_outcome input.now output.old fates.old) }
 {
     match repair_book::repair(input, output, fates) {
-        RepairAnswer::Written(told) => {
+        Ok(told) => {
             *report = report_in(told);
             0
         }
-        RepairAnswer::Refused(k) => k,
+        Err(k) => k,
     }
 }

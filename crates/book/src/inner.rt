@@ -11,8 +11,9 @@ ghost use Rattle.book.specs.Position.{finite_place, finite_velocity, body_at};
 ghost use Rattle.book.specs.Reading.{Reads};
 ghost use Rattle.book.specs.Calm.{Ready};
 
+use base::Refusal;
 pub use crate::calm::book_calm;
-use crate::{Lookup, Motion, PositionAnswer};
+use crate::Motion;
 use base::is_finite;
 use base_bytes::inner::{u16_at, u32_at, u64_at};
 pub use book_check::inner::{fields_allowed, floats_finite, offset_of, size_of};
@@ -115,20 +116,20 @@ pub fn slow_at(book: &[u8], entry: usize, moment: u64, calm: bool) -> bool
     velocity_finite(velocity_at(book, entry, moment))
 }
 
-pub fn body_at(book: &[u8], body: u64, moment: u64, guess: usize) -> PositionAnswer
+pub fn body_at(book: &[u8], body: u64, moment: u64, guess: usize) -> Result<Motion, Refusal>
     requires { passes book.now ≡ true }
     ensures { result ≡ body_at book.now body moment }
 {
-    let Lookup::Entry(i) = lookup_guessed(book, body, moment, guess) else {
-        return PositionAnswer::Refused(6);
+    let Some(i) = lookup_guessed(book, body, moment, guess) else {
+        return Err(Refusal::Cover);
     };
     let place = place_at(book, i, moment);
     let velocity = velocity_at(book, i, moment);
     if place_finite(place) {
         if velocity_finite(velocity) {
-            return PositionAnswer::At(Motion { place, velocity });
+            return Ok(Motion { place, velocity });
         }
-        return PositionAnswer::Refused(7);
+        return Err(Refusal::NotFinite);
     }
-    PositionAnswer::Refused(7)
+    Err(Refusal::NotFinite)
 }

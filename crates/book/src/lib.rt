@@ -9,10 +9,10 @@ ghost use Rattle.std.specs.Prelude.{◌≡◌};
 ghost use Rattle.book_check.specs.Passes.{passes};
 ghost use Rattle.book.specs.Position.{position_answer};
 
+use base::Refusal;
 use base::END_OF_TIME;
 use base_bytes::inner::u32_at;
 use book_check::inner::entries_pass;
-pub use book_search::Lookup;
 pub use book_series::{Place, Velocity};
 
 pub const LONGEST_BOOK: usize = 61_440;
@@ -22,12 +22,6 @@ pub const LONGEST_BOOK: usize = 61_440;
 pub struct Motion {
     pub place: Place,
     pub velocity: Velocity,
-}
-
-#[derive(Clone, Copy)]
-pub enum PositionAnswer {
-    At(Motion),
-    Refused(u64),
 }
 
 pub fn book_passes(book: &[u8]) -> bool
@@ -50,14 +44,14 @@ pub fn book_passes(book: &[u8]) -> bool
     false
 }
 
-pub fn position(book: &[u8], body: u64, moment: u64) -> PositionAnswer
+pub fn position(book: &[u8], body: u64, moment: u64) -> Result<Motion, Refusal>
     ensures { result ≡ position_answer book.now body moment }
 {
     if !book_passes(book) {
-        return PositionAnswer::Refused(1);
+        return Err(Refusal::Book);
     }
     if END_OF_TIME <= moment {
-        return PositionAnswer::Refused(3);
+        return Err(Refusal::Moment);
     }
     inner::body_at(book, body, moment, 0)
 }

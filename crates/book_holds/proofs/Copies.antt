@@ -8,10 +8,10 @@ use native.Mathlib.Nat.{eq-or-lt_of_le, le_of_suc-le-suc, not-suc-le-zero}
 use native.Mathlib.Omega.{arith}
 use lib.Dec.{eqb}
 use borrow.Author.Tests.{eqb-true, eq-eqb}
+use Rattle.std.specs.Prelude.{Some, None}
 use Rattle.base.proofs.Bools.{both, left, right, or_right, is_false, clash}
 use Rattle.base_bytes.specs.Bytes.{u64_at}
 use Rattle.book.specs.Contents.{entry_count, body_of, size_of, offset_of, start_of, span_of}
-use Rattle.book_search.specs.declared.Lookup.TheVariants.{Entry, Nothing}
 use Rattle.book.proofs.Below.{every, every_back}
 use Rattle.book.proofs.Found.{first_none, first_only, first_at}
 use Rattle.book_holds.proofs.First.{none_meets, none_before}
@@ -90,11 +90,11 @@ module _ (b c : List ℕ) where
   missing_test i h = ap not (is_false (holds_entry b c i) (λ e. h (has_copy i e)))
 
   -- ---- which entry is missing first
-  pub none_missing : HoldsAll b c → first_missing b c ≡ Nothing
+  pub none_missing : HoldsAll b c → first_missing b c ≡ None
   unfolding first_missing
   none_missing h = first_none (entry_count b) (λ i. not (holds_entry b c i)) (λ k l. held_test k (h k l))
 
-  pub missing_at : (i : ℕ) → i < entry_count b → (HasCopy b c i → ⊥) → ((k : ℕ) → k < i → HasCopy b c k) → first_missing b c ≡ Entry i
+  pub missing_at : (i : ℕ) → i < entry_count b → (HasCopy b c i → ⊥) → ((k : ℕ) → k < i → HasCopy b c k) → first_missing b c ≡ Some i
   unfolding first_missing
   missing_at i l h before = first_only (entry_count b) (λ i. not (holds_entry b c i)) i l (missing_test i h) (λ k m. held_test k (before k m))
 
@@ -109,7 +109,7 @@ module _ (b c : List ℕ) where
   missing_of : (i : ℕ) → not (holds_entry b c i) ≡ true → HasCopy b c i → ⊥
   missing_of i h copy = clash h (held_test i copy)
 
-  pub none_missing_back : first_missing b c ≡ Nothing → HoldsAll b c
+  pub none_missing_back : first_missing b c ≡ None → HoldsAll b c
   unfolding first_missing
   none_missing_back e i l = held_of i (none_meets (entry_count b) (λ i. not (holds_entry b c i)) e i l)
 
@@ -118,7 +118,7 @@ module _ (b c : List ℕ) where
     pub not_held_lem : HasCopy b c i → ⊥
     pub held_before : (k : ℕ) → k < i → HasCopy b c k
 
-  pub missing_at_back : (i : ℕ) → first_missing b c ≡ Entry i → FirstAt i
+  pub missing_at_back : (i : ℕ) → first_missing b c ≡ Some i → FirstAt i
   unfolding first_missing
   missing_at_back i e =
       let test : ℕ → Bool = λ i. not (holds_entry b c i) in

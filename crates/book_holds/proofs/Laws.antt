@@ -5,10 +5,10 @@ use mathlib.Core.Bool.{Bool, true, false, ◌&&◌}
 use mathlib.Core.List.{List}
 use mathlib.Core.Path.{◌≡◌, refl, sym, ap}
 use native.Mathlib.Omega.{arith}
+use Rattle.base.specs.declared.Refusal.{Refusal}
+use Rattle.std.specs.Prelude.{Option, Some, None}
 use Rattle.base.specs.Choice.{if◌then◌otherwise◌}
 use Rattle.book.specs.Passes.{passes}
-use Rattle.book_search.specs.declared.Lookup.{Lookup}
-use Rattle.book_search.specs.declared.Lookup.TheVariants.{Entry, Nothing}
 use Rattle.book_holds.specs.Answer.{first_missing, answer_of, holds_answer}
 use Rattle.book_holds.specs.Laws.{BothPass, Fuller, MissingFirst}
 use Rattle.book_holds.specs.declared.HoldsAnswer.{HoldsAnswer}
@@ -21,11 +21,11 @@ module _ (b c : List ℕ) where
     pass : BothPass b c
     is : answer_of (first_missing b c) ≡ a
 
-  passing_told : (a : HoldsAnswer) → (Refused 1 ≡ a → ⊥) → holds_answer b c ≡ a → Told a
+  passing_told : (a : HoldsAnswer) → (Refused Refusal.Book ≡ a → ⊥) → holds_answer b c ≡ a → Told a
   unfolding holds_answer
   passing_told a other h = by (passes b) (passes c) refl refl h
     where
-      by : (x y : Bool) → passes b ≡ x → passes c ≡ y → (if x && y then answer_of (first_missing b c) otherwise Refused 1) ≡ a → Told a
+      by : (x y : Bool) → passes b ≡ x → passes c ≡ y → (if x && y then answer_of (first_missing b c) otherwise Refused Refusal.Book) ≡ a → Told a
       by true true p q h = record { pass = record { first = p; second = q }; is = h }
       by true false p q h = absurd (other h)
       by false y p q h = absurd (other h)
@@ -34,10 +34,10 @@ module _ (b c : List ℕ) where
   unfolding holds_answer
   told_back a p h = rw (p.first, p.second) h
 
-  refused_held : Refused 1 ≡ Held → ⊥
+  refused_held : Refused Refusal.Book ≡ Held → ⊥
   refused_held h = let z : ◌≡◌ {A = ℕ} 0 1 = cc in omega arith
 
-  refused_missing : (i : ℕ) → Refused 1 ≡ Missing i → ⊥
+  refused_missing : (i : ℕ) → Refused Refusal.Book ≡ Missing i → ⊥
   refused_missing i h = let z : ◌≡◌ {A = ℕ} 0 1 = cc in omega arith
 
   -- ---- Held
@@ -46,9 +46,9 @@ module _ (b c : List ℕ) where
       let t = passing_told Held refused_held h in
       record { pass = t.pass; all_held = none_missing_back b c (by (first_missing b c) t.is) }
     where
-      by : (l : Lookup) → answer_of l ≡ Held → l ≡ Nothing
-      by Nothing h = refl
-      by (Entry i) h = let z : ◌≡◌ {A = ℕ} 0 1 = cc in absurd (omega arith)
+      by : (l : Option ℕ) → answer_of l ≡ Held → l ≡ None
+      by None h = refl
+      by (Some i) h = let z : ◌≡◌ {A = ℕ} 0 1 = cc in absurd (omega arith)
 
   pub fuller_held : Fuller b c → holds_answer b c ≡ Held
   fuller_held f = told_back Held f.pass (ap answer_of (none_missing b c f.all_held))
@@ -60,9 +60,9 @@ module _ (b c : List ℕ) where
       let m = missing_at_back b c i (by (first_missing b c) t.is) in
       record { pass = t.pass; inside = m.inside; not_held_lem = m.not_held_lem; held_before = m.held_before }
     where
-      by : (l : Lookup) → answer_of l ≡ Missing i → l ≡ Entry i
-      by Nothing h = let z : ◌≡◌ {A = ℕ} 0 1 = cc in absurd (omega arith)
-      by (Entry k) h = let same : k ≡ i = cc in ap Entry same
+      by : (l : Option ℕ) → answer_of l ≡ Missing i → l ≡ Some i
+      by None h = let z : ◌≡◌ {A = ℕ} 0 1 = cc in absurd (omega arith)
+      by (Some k) h = let same : k ≡ i = cc in ap Some same
 
   pub first_missing_lem : (i : ℕ) → MissingFirst b c i → holds_answer b c ≡ Missing i
   first_missing_lem i m = told_back (Missing i) m.pass (ap answer_of (missing_at b c i m.inside m.not_held_lem m.held_before))
@@ -72,14 +72,14 @@ module _ (b c : List ℕ) where
   unfolding holds_answer
   refused_by_1 k h = by (passes b && passes c) refl h
     where
-      no_number : (l : Lookup) → answer_of l ≡ Refused k → ⊥
-      no_number Nothing h = let z : ◌≡◌ {A = ℕ} 0 1 = cc in omega arith
-      no_number (Entry i) h = let z : ◌≡◌ {A = ℕ} 0 1 = cc in omega arith
+      no_number : (l : Option ℕ) → answer_of l ≡ Refused k → ⊥
+      no_number None h = let z : ◌≡◌ {A = ℕ} 0 1 = cc in omega arith
+      no_number (Some i) h = let z : ◌≡◌ {A = ℕ} 0 1 = cc in omega arith
 
-      by : (x : Bool) → (passes b && passes c) ≡ x → (if x then answer_of (first_missing b c) otherwise Refused 1) ≡ Refused k → (k ≡ 1) × ((passes b && passes c) ≡ false)
+      by : (x : Bool) → (passes b && passes c) ≡ x → (if x then answer_of (first_missing b c) otherwise Refused Refusal.Book) ≡ Refused k → (k ≡ 1) × ((passes b && passes c) ≡ false)
       by true e h = absurd (no_number (first_missing b c) h)
       by false e h = (let same : 1 ≡ k = cc in sym same, e)
 
-  pub not_passing_refused : (passes b && passes c) ≡ false → holds_answer b c ≡ Refused 1
+  pub not_passing_refused : (passes b && passes c) ≡ false → holds_answer b c ≡ Refused Refusal.Book
   unfolding holds_answer
   not_passing_refused h = rw h refl

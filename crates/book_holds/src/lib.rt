@@ -9,6 +9,7 @@ ghost use Rattle.std.specs.Prelude.{true, ◌≡◌};
 ghost use Rattle.book.specs.Passes.{passes};
 ghost use Rattle.book_holds.specs.Answer.{answer_of, first_missing, holds_answer};
 
+use base::Refusal;
 use crate::entry::{held_at, reach};
 use base_bytes::inner::u32_at;
 use book::book_passes;
@@ -48,5 +49,5 @@ pub fn book_holds(first: &[u8], second: &[u8]) -> HoldsAnswer
             return walk(first, second);
         }
     }
-    HoldsAnswer::Refused(1)
+    HoldsAnswer::Refused(Refusal::Book)
 }

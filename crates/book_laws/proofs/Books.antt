@@ -6,15 +6,14 @@ use mathlib.Core.Path.{◌≡◌, refl, sym, ap, ◌∙◌}
 use Prim.Native.Nat.{ℕ, zero, suc, ◌+◌, ◌*◌, ◌<◌}
 use native.Mathlib.Omega.{arith}
 use lib.Ieee.{Float, binary64, of_bits}
+use Rattle.base.specs.declared.Refusal.{Refusal}
+use Rattle.std.specs.Prelude.{Err, Option, Some, None}
 use Rattle.base.specs.Choice.{if◌then◌otherwise◌}
 use Rattle.base.specs.Limits.{is_moment}
 use Rattle.book.specs.Contents.{size_of, coefficient}
 use Rattle.book.specs.Passes.{passes}
 use Rattle.book.specs.Lookup.{lookup}
-use Rattle.book_search.specs.declared.Lookup.{Lookup}
-use Rattle.book_search.specs.declared.Lookup.TheVariants.{Entry, Nothing}
 use Rattle.book.specs.Position.{body_at, position_answer}
-use Rattle.book.specs.declared.PositionAnswer.TheVariants.{Refused}
 use Rattle.book.proofs.Passing.{passing}
 use Rattle.book.proofs.Found.{Serving, serving, found, looked_up_lem}
 use Rattle.book.proofs.BodyAt.{no_cover, same_content}
@@ -51,10 +50,10 @@ module _ (b c : List ℕ) (i j : ℕ) (copy : Copied b c i j) where
 module _ (b c : List ℕ) (holds : HoldsAll b c) (pass : passes c ≡ true) where
   pub record AlsoFound (body t i : ℕ) : Type 0 where
     pub entry : ℕ
-    pub is : lookup c body t ≡ Entry entry
+    pub is : lookup c body t ≡ Some entry
     pub content : content_of b i ≡ content_of c entry
 
-  pub also_found : (body t i : ℕ) → lookup b body t ≡ Entry i → AlsoFound body t i
+  pub also_found : (body t i : ℕ) → lookup b body t ≡ Some i → AlsoFound body t i
   also_found body t i e =
       let m = looked_up_lem b body t i e in
       let s = serving b body t i m.meets in
@@ -69,18 +68,18 @@ module _ (b c : List ℕ) (holds : HoldsAll b c) (pass : passes c ≡ true) wher
       record { entry = h.0; is = found c body t (passing c pass) h.0 h.1 there; content = copied_content b c i h.0 copy }
 
   -- the position of a body, and its velocity
-  pub body_fuller : (body t : ℕ) → Unless (Refused 6) (body_at b body t) (body_at c body t)
+  pub body_fuller : (body t : ℕ) → Unless (Err Refusal.Cover) (body_at b body t) (body_at c body t)
   body_fuller body t = go (lookup b body t) refl
     where
-      go : (l : Lookup) → lookup b body t ≡ l → Unless (Refused 6) (body_at b body t) (body_at c body t)
-      go Nothing e = inl (no_cover b body t e)
-      go (Entry i) e = let a = also_found body t i e in inr (same_content b c body t i a.entry e a.is a.content)
+      go : (l : Option ℕ) → lookup b body t ≡ l → Unless (Err Refusal.Cover) (body_at b body t) (body_at c body t)
+      go None e = inl (no_cover b body t e)
+      go (Some i) e = let a = also_found body t i e in inr (same_content b c body t i a.entry e a.is a.content)
 
-  pub position_fuller : passes b ≡ true → (body t : ℕ) → Unless (Refused 6) (position_answer b body t) (position_answer c body t)
+  pub position_fuller : passes b ≡ true → (body t : ℕ) → Unless (Err Refusal.Cover) (position_answer b body t) (position_answer c body t)
   unfolding position_answer
   position_fuller first body t = rw (first, pass) (go (is_moment t))
     where
       go : (inside : Bool)
-          → Unless (Refused 6) (if inside then body_at b body t otherwise Refused 3) (if inside then body_at c body t otherwise Refused 3)
+          → Unless (Err Refusal.Cover) (if inside then body_at b body t otherwise Err Refusal.Moment) (if inside then body_at c body t otherwise Err Refusal.Moment)
       go true = body_fuller body t
       go false = inr refl

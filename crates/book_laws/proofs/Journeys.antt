@@ -5,6 +5,7 @@ use mathlib.Core.Logic.{inl, inr}
 use mathlib.Core.Path.{◌≡◌, sym, ◌∙◌, subst}
 use Prim.Native.Nat.{ℕ, ◌≤◌}
 use native.Mathlib.Omega.{arith}
+use Rattle.base.specs.declared.Refusal.{Refusal}
 use Rattle.state.specs.declared.State.{State}
 use Rattle.state.specs.declared.Setting.{Setting}
 use Rattle.book.specs.Passes.{passes}
@@ -30,7 +31,7 @@ module _ (b c : List ℕ) (holds : HoldsAll b c) (first : passes b ≡ true) (se
             × ((run_answer c setting s h target budget other).steps ≡ (run_answer b setting s h target budget given).steps)
         go (inl alike) = (sym alike.outcome ∙ arrived, sym alike.state, sym alike.steps)
         go (inr further) =
-            let clash : Arrived ≡ Refused 6 = sym arrived ∙ further.uncovered in
+            let clash : Arrived ≡ Refused Refusal.Cover = sym arrived ∙ further.uncovered in
             let z : ◌≡◌ {A = ℕ} 0 1 = cc in absurd (omega arith)
 
     -- "a run refused under the first goes at least as many steps under the second"

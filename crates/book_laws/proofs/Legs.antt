@@ -6,6 +6,7 @@ use mathlib.Core.Logic.{inl, inr}
 use mathlib.Core.Path.{◌≡◌, refl, sym, ap, ◌∙◌, subst}
 use Prim.Native.Nat.{ℕ}
 use native.Mathlib.Omega.{arith}
+use Rattle.std.specs.Prelude.{Ok}
 use Rattle.state.specs.declared.State.{State}
 use Rattle.state.specs.declared.Setting.{Setting}
 use Rattle.book.specs.Passes.{passes}
@@ -14,7 +15,6 @@ use Rattle.run_checks.proofs.Passed.{passed, passes_all}
 use Rattle.run.specs.Step.{step}
 use Rattle.run.specs.Run.{run_to, run_answer}
 use Rattle.centre.specs.Move.{move_answer}
-use Rattle.centre.specs.declared.MoveAnswer.TheVariants as move
 use Rattle.run_laws.specs.Journey.{Call, after}
 use Rattle.run_laws.proofs.Answers.{answer_is, checks_stay}
 use Rattle.run_laws.proofs.Again.{is_stuck}
@@ -75,7 +75,7 @@ module _ (b c : List ℕ) (holds : HoldsAll b c) (first : passes b ≡ true) (se
   -- one leg, to the same target and the same centre
   module _ (s next : State) (l k : Leg) (alike : SameLeg l k) (may : MayFly b setting h s l.target l.calls)
       (at : (after b setting h l.target s l.calls).moment ≡ l.target)
-      (moved : move_answer b setting (after b setting h l.target s l.calls) l.centre ≡ move.Moved next) where
+      (moved : move_answer b setting (after b setting h l.target s l.calls) l.centre ≡ Ok next) where
     there : after b setting h l.target s l.calls ≡ after c setting h k.target s k.calls
     there =
         after_fuller l.target s l.calls k.calls alike.calls may at

@@ -5,18 +5,16 @@ use mathlib.Core.Logic.{inl, inr}
 use mathlib.Core.Path.{◌≡◌, refl, sym, ap, ◌∙◌, subst}
 use Prim.Native.Nat.{ℕ}
 use native.Mathlib.Omega.{arith}
+use Rattle.book.specs.declared.Motion.{Motion}
+use Rattle.std.specs.Prelude.{Result, Ok, Err}
 use Rattle.base.proofs.Bools.{or_left, or_right}
 use Rattle.base.specs.Choice.{if◌then◌otherwise◌, ◌=?◌}
 use Rattle.state.specs.State.{used, looked_up, coefficient_of, centre_allowed}
 use Rattle.state.specs.declared.Vector.{Vector}
 use Rattle.state.specs.declared.Setting.{Setting}
 use Rattle.book.specs.Passes.{passes}
-use Rattle.book.specs.declared.PositionAnswer.{PositionAnswer}
-use Rattle.book.specs.declared.PositionAnswer.TheVariants as position
 use Rattle.gravity.specs.Acceleration.{Body, Sky, Bodies, Refusal, Listed, at_rest, stands, seen, sky_of, place_of, sky, rule, view_from, seen_then, acceleration_at}
 use Rattle.gravity_bodies.specs.Sky.{bodies_of}
-use Rattle.gravity.specs.declared.AccelerationAnswer.{AccelerationAnswer}
-use Rattle.gravity.specs.declared.AccelerationAnswer.TheVariants as answer
 use Rattle.gravity.proofs.Centres.{One, one, two, three, four, five, six, centre_one}
 use Rattle.book_laws.specs.Fuller.{HoldsAll, Unless}
 use Rattle.book_laws.proofs.Books.{body_fuller}
@@ -34,23 +32,23 @@ lit_alone s centre C sun sun' P bodies same = go (used s.k) refl bodies
     go false e (Refusal k) = refl
 
 -- if the result is a list of bodies, so is the result for the later bodies
-rest_seen : (body : Listed) (p : PositionAnswer) (later : Sky) (all : List Body) → seen body p later ≡ Bodies all → (rest : List Body) × (later ≡ Bodies rest)
-rest_seen body (position.At M) (Bodies rest) all e = (rest, refl)
-rest_seen body (position.At M) (Refusal k) all e = let z : ◌≡◌ {A = ℕ} 0 1 = cc in absurd (omega arith)
-rest_seen body (position.Refused k) later all e = let z : ◌≡◌ {A = ℕ} 0 1 = cc in absurd (omega arith)
+rest_seen : (body : Listed) (p : Result Motion Refusal) (later : Sky) (all : List Body) → seen body p later ≡ Bodies all → (rest : List Body) × (later ≡ Bodies rest)
+rest_seen body (Ok M) (Bodies rest) all e = (rest, refl)
+rest_seen body (Ok M) (Refusal k) all e = let z : ◌≡◌ {A = ℕ} 0 1 = cc in absurd (omega arith)
+rest_seen body (Err k) later all e = let z : ◌≡◌ {A = ℕ} 0 1 = cc in absurd (omega arith)
 
-seen_on : (body : Listed) (p : PositionAnswer) (later later' : Sky) → Unless (Refusal 6) later later' → Unless (Refusal 6) (seen body p later) (seen body p later')
-seen_on body (position.At M) later later' (inl e) = inl (ap (seen body (position.At M)) e)
-seen_on body (position.At M) later later' (inr e) = inr (ap (seen body (position.At M)) e)
-seen_on body (position.Refused k) later later' u = inr refl
+seen_on : (body : Listed) (p : Result Motion Refusal) (later later' : Sky) → Unless (Refusal 6) later later' → Unless (Refusal 6) (seen body p later) (seen body p later')
+seen_on body (Ok M) later later' (inl e) = inl (ap (seen body (Ok M)) e)
+seen_on body (Ok M) later later' (inr e) = inr (ap (seen body (Ok M)) e)
+seen_on body (Err k) later later' u = inr refl
 
 module _ (b c : List ℕ) (holds : HoldsAll b c) (pass : passes c ≡ true) where
-  stands_fuller : (number t : ℕ) → Unless (position.Refused 6) (stands b number t) (stands c number t)
+  stands_fuller : (number t : ℕ) → Unless (Err Refusal.Cover) (stands b number t) (stands c number t)
   stands_fuller number t = go (number =? 1)
     where
       go : (earth : Bool)
-          → Unless (position.Refused 6)
-          (if earth then position.At at_rest otherwise Rattle.book.specs.Position.body_at b number t) (if earth then position.At at_rest otherwise Rattle.book.specs.Position.body_at c number t)
+          → Unless (Err Refusal.Cover)
+          (if earth then Ok at_rest otherwise Rattle.book.specs.Position.body_at b number t) (if earth then Ok at_rest otherwise Rattle.book.specs.Position.body_at c number t)
       go true = inr refl
       go false = body_fuller b c holds pass number t
 
@@ -58,11 +56,11 @@ module _ (b c : List ℕ) (holds : HoldsAll b c) (pass : passes c ≡ true) wher
       → Unless (Refusal 6) (seen body (stands b body.number t) later) (seen body (stands c body.number t) later')
   seen_fuller body t later later' u = go (stands_fuller body.number t)
     where
-      go : Unless (position.Refused 6) (stands b body.number t) (stands c body.number t)
+      go : Unless (Err Refusal.Cover) (stands b body.number t) (stands c body.number t)
           → Unless (Refusal 6) (seen body (stands b body.number t) later) (seen body (stands c body.number t) later')
-      go (inl e) = inl (ap (λ (p : PositionAnswer). seen body p later) e)
+      go (inl e) = inl (ap (λ (p : Result Motion Refusal). seen body p later) e)
       go (inr e) =
-          subst (λ (q : PositionAnswer). Unless (Refusal 6) (seen body (stands b body.number t) later) (seen body q later')) e
+          subst (λ (q : Result Motion Refusal). Unless (Refusal 6) (seen body (stands b body.number t) later) (seen body q later')) e
           (seen_on body (stands b body.number t) later later' u)
 
   sky_fuller : (t : ℕ) (bodies : List Listed) → Unless (Refusal 6) (sky_of b t bodies) (sky_of c t bodies)
@@ -84,9 +82,9 @@ module _ (b c : List ℕ) (holds : HoldsAll b c) (pass : passes c ≡ true) wher
       → stands b body.number t ≡ stands c body.number t
   one_agrees body t later all e = go (stands_fuller body.number t)
     where
-      go : Unless (position.Refused 6) (stands b body.number t) (stands c body.number t) → stands b body.number t ≡ stands c body.number t
+      go : Unless (Err Refusal.Cover) (stands b body.number t) (stands c body.number t) → stands b body.number t ≡ stands c body.number t
       go (inl r) =
-          let hidden : Refusal 6 ≡ Bodies all = sym (ap (λ (p : PositionAnswer). seen body p later) r) ∙ e in
+          let hidden : Refusal 6 ≡ Bodies all = sym (ap (λ (p : Result Motion Refusal). seen body p later) r) ∙ e in
           let z : ◌≡◌ {A = ℕ} 0 1 = cc in
           absurd (omega arith)
       go (inr same) = same
@@ -113,7 +111,7 @@ module _ (b c : List ℕ) (holds : HoldsAll b c) (pass : passes c ≡ true) wher
   centre_agrees s centre t ok six a = a.1.1.1.1.1.0 (or_left (used s.jupiter) false ok)
 
   module _ (s : Setting) (centre t : ℕ) (P : Vector) (ok : centre_allowed s centre ≡ true) where
-    by_places : Vector → Vector → Sky → AccelerationAnswer
+    by_places : Vector → Vector → Sky → Result Vector Refusal
     by_places C sun bodies =
         seen_then (λ all. rule s (view_from s centre C sun all) P) bodies
 
@@ -129,15 +127,15 @@ module _ (b c : List ℕ) (holds : HoldsAll b c) (pass : passes c ≡ true) wher
         ∙ ap (by_places (place_of (stands c centre t)) (place_of (stands c 3 t))) same
 
     -- the rule about an allowed centre
-    pub rule_fuller : Unless (answer.Refused 6) (acceleration_at b s centre t P) (acceleration_at c s centre t P)
+    pub rule_fuller : Unless (Err Refusal.Cover) (acceleration_at b s centre t P) (acceleration_at c s centre t P)
     unfolding acceleration_at by_places sky
     rule_fuller = go (sky b s t) refl (sky_fuller t (bodies_of s))
       where
-        hidden : (k : ℕ) (d : List ℕ) → sky d s t ≡ Refusal k → by_places (place_of (stands d centre t)) (place_of (stands d 3 t)) (sky d s t) ≡ answer.Refused k
+        hidden : (k : ℕ) (d : List ℕ) → sky d s t ≡ Refusal k → by_places (place_of (stands d centre t)) (place_of (stands d 3 t)) (sky d s t) ≡ Err k
         hidden k d e = ap (by_places (place_of (stands d centre t)) (place_of (stands d 3 t))) e
 
         go : (bodies : Sky) → sky b s t ≡ bodies → Unless (Refusal 6) (sky b s t) (sky c s t)
-            → Unless (answer.Refused 6) (by_places (place_of (stands b centre t)) (place_of (stands b 3 t)) (sky b s t)) (by_places (place_of (stands c centre t)) (place_of (stands c 3 t)) (sky c s t))
+            → Unless (Err Refusal.Cover) (by_places (place_of (stands b centre t)) (place_of (stands b 3 t)) (sky b s t)) (by_places (place_of (stands c centre t)) (place_of (stands c 3 t)) (sky c s t))
         go bodies e (inl gap) = inl (hidden 6 b gap)
         go (Refusal k) e (inr same) = inr (hidden k b e ∙ sym (hidden k c (sym same ∙ e)))
         go (Bodies all) e (inr same) = inr (seen_alike all e same)

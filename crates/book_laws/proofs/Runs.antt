@@ -7,6 +7,7 @@ use Prim.Native.Nat.{ℕ, zero, suc, ◌≤◌}
 use native.Mathlib.Numerals.{add-one}
 use native.Mathlib.Omega.{arith}
 use borrow.Author.Tests.{eqb-true, eqb-false}
+use Rattle.base.specs.declared.Refusal.{Refusal}
 use Rattle.base.specs.Choice.{◌=?◌}
 use Rattle.state.specs.State.{centre_allowed}
 use Rattle.state.specs.declared.State.{State}
@@ -32,14 +33,14 @@ use Rattle.book_laws.proofs.Calls.{same_common, stored_fuller, step_fuller}
 
 -- ---- the run over two steps of which the second is the same, unless the first has a gap
 
-module _ (f g : State → Moved) (Ok : State → Type 0) (each : (s : State) → Ok s → Unless (Off 6) (f s) (g s))
+module _ (f g : State → Moved) (Ok : State → Type 0) (each : (s : State) → Ok s → Unless (Off Refusal.Cover) (f s) (g s))
     (keeps : (s next : State) → Ok s → f s ≡ On next → Ok next) (target : ℕ) where
   pub record Gap (s : State) (r q : Reached) : Type 0 where
-    pub uncovered : r.outcome ≡ Refused 6
+    pub uncovered : r.outcome ≡ Refused Refusal.Cover
     pub further : r.steps ≤ q.steps
     pub way : walk g r.steps s ≡ On r.state
 
-  stopped : (s : State) (q : Reached) → Gap s (ended (Refused 6) s) q
+  stopped : (s : State) (q : Reached) → Gap s (ended (Refused Refusal.Cover) s) q
   stopped s q = record { uncovered = refl; further = omega arith; way = walk_none g s }
 
   one_more : (s next : State) (r q : Reached) → g s ≡ On next → Gap next r q → Gap s (counted r) (counted q)
@@ -55,7 +56,7 @@ module _ (f g : State → Moved) (Ok : State → Type 0) (each : (s : State) →
   reached_fuller zero s ok = inl refl
   reached_fuller (suc budget) s ok = at (at_target target s) refl (reached_fuller budget)
     where
-      onward : (s.moment ≡ target → ⊥) → Unless (Off 6) (f s) (g s) → (m : Moved) → f s ≡ m
+      onward : (s.moment ≡ target → ⊥) → Unless (Off Refusal.Cover) (f s) (g s) → (m : Moved) → f s ≡ m
           → ((s : State) → Ok s → (run_to f target budget s ≡ run_to g target budget s) ⊎ Gap s (run_to f target budget s) (run_to g target budget s))
           → (run_to f target (suc budget) s ≡ run_to g target (suc budget) s) ⊎ Gap s (run_to f target (suc budget) s) (run_to g target (suc budget) s)
       onward short (inl e) m is later = inr (rw (run_refused f target s short budget 6 e) (stopped s (run_to g target (suc budget) s)))

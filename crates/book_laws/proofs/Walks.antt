@@ -5,6 +5,8 @@ use mathlib.Core.Logic.{inl, inr}
 use mathlib.Core.Path.{◌≡◌, refl, sym, ap, ◌∙◌}
 use Prim.Native.Nat.{ℕ, zero, suc, ◌-◌, ◌/◌, ◌≤◌}
 use native.Mathlib.Omega.{arith}
+use Rattle.base.specs.declared.Refusal.{Refusal}
+use Rattle.std.specs.Prelude.{Ok, Err}
 use Rattle.state.specs.State.{centre_allowed}
 use Rattle.state.specs.declared.State.{State}
 use Rattle.state.specs.declared.Setting.{Setting}
@@ -13,7 +15,6 @@ use Rattle.run.specs.Step.{Moved, On, Off, step}
 use Rattle.run.specs.Walk.{onward, walk}
 use Rattle.run_laws.proofs.Answers.{centre_stays}
 use Rattle.centre.specs.Move.{move_answer}
-use Rattle.centre.specs.declared.MoveAnswer.TheVariants as move
 use Rattle.centre_laws.specs.Legs.{Move, MoveStands, MovesStand, none, one}
 use Rattle.centre_laws.proofs.Moved.{move_allowed}
 use Rattle.book_laws.specs.Fuller.{HoldsAll, Unless}
@@ -23,8 +24,8 @@ module _ (b c : List ℕ) (holds : HoldsAll b c) (second : passes c ≡ true) (s
   step_on : (s next : State) → centre_allowed setting s.centre ≡ true → step b setting h s ≡ On next → step c setting h s ≡ On next
   step_on s next ok e = go (step_fuller b c holds second setting h s ok)
     where
-      go : Unless (Off 6) (step b setting h s) (step c setting h s) → step c setting h s ≡ On next
-      go (inl six) = let clash : Off 6 ≡ On next = sym six ∙ e in let z : ◌≡◌ {A = ℕ} 0 1 = cc in absurd (omega arith)
+      go : Unless (Off Refusal.Cover) (step b setting h s) (step c setting h s) → step c setting h s ≡ On next
+      go (inl six) = let clash : Off Refusal.Cover ≡ On next = sym six ∙ e in let z : ◌≡◌ {A = ℕ} 0 1 = cc in absurd (omega arith)
       go (inr alike) = sym alike ∙ e
 
   pub walk_fuller : (n : ℕ) (s last : State) → (1 ≤ n → centre_allowed setting s.centre ≡ true) → walk (step b setting h) n s ≡ On last
@@ -44,11 +45,11 @@ module _ (b c : List ℕ) (holds : HoldsAll b c) (second : passes c ≡ true) (s
           ∙ step_on middle last (ap (centre_allowed setting) (centre_stays b setting h 0 n s middle w) ∙ allowed) e
       go (Off k) w e before = let z : ◌≡◌ {A = ℕ} 0 1 = cc in absurd (omega arith)
 
-  pub moved_fuller : (s : State) (to : ℕ) (next : State) → move_answer b setting s to ≡ move.Moved next → move_answer c setting s to ≡ move.Moved next
+  pub moved_fuller : (s : State) (to : ℕ) (next : State) → move_answer b setting s to ≡ Ok next → move_answer c setting s to ≡ Ok next
   moved_fuller s to next e = go (move_fuller b c holds (move_allowed b setting s to next e).book second setting s to)
     where
-      go : Unless (move.Refused 6) (move_answer b setting s to) (move_answer c setting s to) → move_answer c setting s to ≡ move.Moved next
-      go (inl six) = let clash : move.Refused 6 ≡ move.Moved next = sym six ∙ e in let z : ◌≡◌ {A = ℕ} 0 1 = cc in absurd (omega arith)
+      go : Unless (Err Refusal.Cover) (move_answer b setting s to) (move_answer c setting s to) → move_answer c setting s to ≡ Ok next
+      go (inl six) = let clash : Err Refusal.Cover ≡ Ok next = sym six ∙ e in let z : ◌≡◌ {A = ℕ} 0 1 = cc in absurd (omega arith)
       go (inr alike) = sym alike ∙ e
 
   stands_fuller : (s next : State) (m : Move) → MoveStands b setting h s m next → MoveStands c setting h s m next

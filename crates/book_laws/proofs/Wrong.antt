@@ -6,13 +6,14 @@ use mathlib.Core.Path.{◌≡◌, refl, sym, ap, ◌∙◌}
 use Prim.Native.Nat.{ℕ, zero, suc, ◌+◌, ◌*◌, ◌<◌}
 use native.Mathlib.Omega.{arith}
 use lib.Ieee.{add, sub, mul, div, lt, of_bits, of_int, of_fields, odd, size}
+use Rattle.base.specs.declared.Refusal.{Refusal}
+use Rattle.book.specs.declared.Motion.{Motion}
+use Rattle.std.specs.Prelude.{Result, Ok, Err}
 use Rattle.base.specs.Floats.{zero64}
 use Rattle.base_bytes.specs.Bytes.{u16_at, u32_at, u64_at}
 use Rattle.book.specs.Contents.{offset_of}
 use Rattle.book.specs.Passes.{passes}
 use Rattle.book.specs.Lookup.{lookup}
-use Rattle.book.specs.declared.PositionAnswer.{PositionAnswer}
-use Rattle.book.specs.declared.PositionAnswer.TheVariants.{At, Refused}
 use Rattle.book_series.specs.Series.{argument, clenshaw, series, slopes, slope, place, velocity}
 use Rattle.book_laws.specs.Fuller.{HoldsAll, Unless}
 use Rattle.book_laws.specs.Wrong.{Unmoved, from_the_back, by_number, moon_book, sun_book, both_book}
@@ -65,16 +66,16 @@ sun_held zero h = (1, omega arith, record { body = refl; size = refl; start = re
 sun_held (suc i) h = absurd (omega arith)
 
 -- a figure that two answers cannot share
-abbrev along_x_lem : PositionAnswer → Bool
-along_x_lem (At M) = lt zero64 M.place.x
-along_x_lem (Refused k) = false
+abbrev along_x_lem : Result Motion Refusal → Bool
+along_x_lem (Ok M) = lt zero64 M.place.x
+along_x_lem (Err k) = false
 
-abbrev at_zero : PositionAnswer → Bool
-at_zero (At M) = not (lt zero64 M.place.x)
-at_zero (Refused k) = false
+abbrev at_zero : Result Motion Refusal → Bool
+at_zero (Ok M) = not (lt zero64 M.place.x)
+at_zero (Err k) = false
 
 -- the same, unless it is refused: both meet a test that no refusal meets
-both_meet : (test : PositionAnswer → Bool) → test (Refused 6) ≡ false → (x y : PositionAnswer) → Unless (Refused 6) x y → test x ≡ true → test y ≡ true
+both_meet : (test : Result Motion Refusal → Bool) → test (Err Refusal.Cover) ≡ false → (x y : Result Motion Refusal) → Unless (Err Refusal.Cover) x y → test x ≡ true → test y ≡ true
 both_meet test none x y (inl e) meets = absurd (true≢false (sym meets ∙ ap test e ∙ none))
 both_meet test none x y (inr e) meets = ap test (sym e) ∙ meets
 

@@ -1,6 +1,7 @@
 -- Document 02, R-12: "if a second passing book holds every entry of the first with the same coefficients, then every run that arrives with
 -- the first arrives with the second, same bits, same count; and a run refused under the first goes at least as many steps under the
 -- second. Guesses may differ."
+use Rattle.base.specs.declared.Refusal.{Refusal}
 use Rattle.std.specs.Prelude.{List, [], ◌∷◌, ◌⊎◌, ◌≡◌, ℕ, ◌≤◌}
 use Rattle.state.specs.declared.State.{State}
 use Rattle.state.specs.declared.Setting.{Setting}
@@ -27,7 +28,7 @@ pub record SameRun (r q : RunAnswer) : Type 0 where
 -- a run from s that refuses under the first book, b, for lack of cover, and the same run under the second, c. It "goes at least as many
 -- steps under the second", with the same states on the way.
 pub record GoesFurther (b c : List ℕ) (setting : Setting) (h : ℕ) (s : State) (r q : RunAnswer) : Type 0 where
-  pub uncovered : r.outcome ≡ Refused 6
+  pub uncovered : r.outcome ≡ Refused Refusal.Cover
   pub further : r.steps ≤ q.steps
   pub way : walk (step c setting h) r.steps s ≡ On r.state
 

@@ -1,40 +1,38 @@
 -- Two wrong programs that R-12 rules out. Each is given by its answer for the position of a body, with the books that show the mistake.
-use Rattle.std.specs.Prelude.{Bool, true, List, [], ◌∷◌, ◌≡◌, ℕ, zero, suc}
+use Rattle.base.specs.declared.Refusal.{Refusal}
+use Rattle.book.specs.declared.Motion.{Motion}
+use Rattle.std.specs.Prelude.{Bool, true, List, [], ◌∷◌, ◌≡◌, ℕ, zero, suc, Result, Ok, Err, Option, Some, None}
 use Rattle.base.specs.Choice.{if◌then◌otherwise◌}
 use Rattle.base.specs.Floats.{zero64, whole}
 use Rattle.book.specs.Contents.{entry_count}
 use Rattle.book.specs.Passes.{passes}
 use Rattle.book.specs.Lookup.{lookup, covers}
 use Rattle.book.specs.Position.{place_or6}
-use Rattle.book_search.specs.declared.Lookup.{Lookup}
-use Rattle.book_search.specs.declared.Lookup.TheVariants.{Entry, Nothing}
-use Rattle.book.specs.declared.PositionAnswer.{PositionAnswer}
-use Rattle.book.specs.declared.PositionAnswer.TheVariants.{At, Refused}
 use Rattle.book_laws.specs.Fuller.{HoldsAll, Unless}
 
 -- a call that returns the position of a body at a moment of a book
 abbrev pub PositionCall : Type 0
-PositionCall = List ℕ → ℕ → ℕ → PositionAnswer
+PositionCall = List ℕ → ℕ → ℕ → Result Motion Refusal
 
 -- what R-12 demands of it: the same under a fuller book, unless the first has no cover
 abbrev pub Unmoved : PositionCall → Type 0
 Unmoved call =
-    (b c : List ℕ) → passes b ≡ true → passes c ≡ true → HoldsAll b c → (body t : ℕ) → Unless (Refused 6) (call b body t) (call c body t)
+    (b c : List ℕ) → passes b ≡ true → passes c ≡ true → HoldsAll b c → (body t : ℕ) → Unless (Err Refusal.Cover) (call b body t) (call c body t)
 
 -- the last number, of those below n, that meets the test
-abbrev pub last_below : ℕ → (ℕ → Bool) → Lookup
-last_below zero test = Nothing
-last_below (suc n) test = if test n then Entry n otherwise last_below n test
+abbrev pub last_below : ℕ → (ℕ → Bool) → Option ℕ
+last_below zero test = None
+last_below (suc n) test = if test n then Some n otherwise last_below n test
 
 -- a lookup that takes the last entry found from the back, even of another body
 abbrev pub from_the_back : PositionCall
 from_the_back b body t = place_or6 b t (last_below (entry_count b) (λ i. covers b i t))
 
 -- a program that uses the number of the entry: the body is that many km along x
-abbrev pub placed_by : Lookup → PositionAnswer
-placed_by (Entry i) =
-    At (record { place = record { x = whole i; y = zero64; z = zero64 }; velocity = record { x = zero64; y = zero64; z = zero64 } })
-placed_by Nothing = Refused 6
+abbrev pub placed_by : Option ℕ → Result Motion Refusal
+placed_by (Some i) =
+    Ok (record { place = record { x = whole i; y = zero64; z = zero64 }; velocity = record { x = zero64; y = zero64; z = zero64 } })
+placed_by None = Err Refusal.Cover
 
 abbrev pub by_number : PositionCall
 by_number b body t = placed_by (lookup b body t)

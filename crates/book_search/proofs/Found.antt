@@ -9,22 +9,21 @@ use lib.Dec.{ltb, leb, eqb}
 use borrow.Author.Tests.{ltb-true, ltb-false, leb-true, eqb-true, lt-ltb, le-leb, eq-eqb}
 use native.Mathlib.Nat.{eq-or-lt_of_le, le_of_suc-le-suc, not-suc-le-zero}
 use native.Mathlib.Omega.{arith}
+use Rattle.std.specs.Prelude.{Option, Some, None}
 use Rattle.base.specs.Choice.{if◌then◌otherwise◌}
 use Rattle.book_check.specs.Contents.{entry_count, body_of, start_of, end_of}
 use Rattle.book_search.specs.Lookup.{covers, serves, or_else, first_below, lookup}
 use Rattle.book_search.specs.Stands.{Stands, Narrowed}
-use Rattle.book_search.specs.declared.Lookup.{Lookup}
-use Rattle.book_search.specs.declared.Lookup.TheVariants.{Entry, Nothing}
 use Rattle.book_search.specs.declared.search.Stand.TheVariants.{Past, Before}
 use Rattle.base.proofs.Bools.{both, left, right, is_false}
 use Rattle.book_check.proofs.Passing.{Passing}
 
 -- ---- the first number that meets a test
-pub first_none : (n : ℕ) (test : ℕ → Bool) → ((k : ℕ) → k < n → test k ≡ false) → first_below n test ≡ Nothing
+pub first_none : (n : ℕ) (test : ℕ → Bool) → ((k : ℕ) → k < n → test k ≡ false) → first_below n test ≡ None
 first_none zero test h = refl
 first_none (suc n) test h = simp (first_none n test (λ k l. h k (omega arith)), h n (omega arith))
 
-pub first_only : (n : ℕ) (test : ℕ → Bool) (i : ℕ) → i < n → test i ≡ true → ((k : ℕ) → k < i → test k ≡ false) → first_below n test ≡ Entry i
+pub first_only : (n : ℕ) (test : ℕ → Bool) (i : ℕ) → i < n → test i ≡ true → ((k : ℕ) → k < i → test k ≡ false) → first_below n test ≡ Some i
 first_only zero test i l h none = absurd (not-suc-le-zero l)
 first_only (suc n) test i l h none =
     ⊎_elim
@@ -39,15 +38,15 @@ pub record Meets (n : ℕ) (test : ℕ → Bool) (i : ℕ) : Type 0 where
   pub below : i < n
   pub meets : test i ≡ true
 
-pub first_at : (n : ℕ) (test : ℕ → Bool) (i : ℕ) → first_below n test ≡ Entry i → Meets n test i
+pub first_at : (n : ℕ) (test : ℕ → Bool) (i : ℕ) → first_below n test ≡ Some i → Meets n test i
 first_at zero test i h = let z : ◌≡◌ {A = ℕ} 0 1 = cc in absurd (omega arith)
 first_at (suc n) test i h = by (first_below n test) (test n) refl refl (first_at n test i) h
   where
-    by : (earlier : Lookup) (now : Bool) → first_below n test ≡ earlier → test n ≡ now → (first_below n test ≡ Entry i → Meets n test i) →
-        or_else earlier (if now then Entry n otherwise Nothing) ≡ Entry i → Meets (suc n) test i
-    by (Entry j) now e t at h = let a = at (e ∙ h) in record { below = omega arith; meets = a.meets }
-    by Nothing true e t at h = let same : n ≡ i = cc in record { below = omega arith; meets = subst (λ (k : ℕ). test k ≡ true) same t }
-    by Nothing false e t at h = let z : ◌≡◌ {A = ℕ} 0 1 = cc in absurd (omega arith)
+    by : (earlier : Option ℕ) (now : Bool) → first_below n test ≡ earlier → test n ≡ now → (first_below n test ≡ Some i → Meets n test i) →
+        or_else earlier (if now then Some n otherwise None) ≡ Some i → Meets (suc n) test i
+    by (Some j) now e t at h = let a = at (e ∙ h) in record { below = omega arith; meets = a.meets }
+    by None true e t at h = let same : n ≡ i = cc in record { below = omega arith; meets = subst (λ (k : ℕ). test k ≡ true) same t }
+    by None false e t at h = let z : ◌≡◌ {A = ℕ} 0 1 = cc in absurd (omega arith)
 
 -- ---- an entry that serves
 pub record Serving (b : List ℕ) (body t i : ℕ) : Type 0 where
@@ -117,18 +116,18 @@ module _ (b : List ℕ) (body t : ℕ) (p : Passing b) where
   pub only : (i j : ℕ) → i < j → j < entry_count b → Serving b body t j → serves b body t i ≡ false
   only i j l m s = not_serving b body t i (λ r. let apart = (p.ordered i j l m).by_time (omega arith) in omega arith)
 
-  pub found : (i : ℕ) → i < entry_count b → Serving b body t i → lookup b body t ≡ Entry i
+  pub found : (i : ℕ) → i < entry_count b → Serving b body t i → lookup b body t ≡ Some i
   unfolding lookup
   found i l s = first_only (entry_count b) (serves b body t) i l (serving_back b body t i s) (λ k m. only k i m l s)
 
   pub at_most_one : (i j : ℕ) → i < entry_count b → j < entry_count b → Serving b body t i → Serving b body t j → i ≡ j
   at_most_one i j l m r s = cc (found i l r, found j m s)
 
-pub missing : (b : List ℕ) (body t : ℕ) → ((i : ℕ) → i < entry_count b → serves b body t i ≡ false) → lookup b body t ≡ Nothing
+pub missing : (b : List ℕ) (body t : ℕ) → ((i : ℕ) → i < entry_count b → serves b body t i ≡ false) → lookup b body t ≡ None
 unfolding lookup
 missing b body t none = first_none (entry_count b) (serves b body t) none
 
-pub looked_up_lem : (b : List ℕ) (body t i : ℕ) → lookup b body t ≡ Entry i → Meets (entry_count b) (serves b body t) i
+pub looked_up_lem : (b : List ℕ) (body t i : ℕ) → lookup b body t ≡ Some i → Meets (entry_count b) (serves b body t) i
 unfolding lookup
 looked_up_lem b body t i h = first_at (entry_count b) (serves b body t) i h
 
@@ -166,7 +165,7 @@ module _ (b : List ℕ) (body t : ℕ) (p : Passing b) (low high probe next : �
         probed = probed;
       }
 
-pub nothing_left : (b : List ℕ) (body t low high probe : ℕ) → Narrowed b body t low high probe → high ≤ low → lookup b body t ≡ Nothing
+pub nothing_left : (b : List ℕ) (body t low high probe : ℕ) → Narrowed b body t low high probe → high ≤ low → lookup b body t ≡ None
 nothing_left b body t low high probe n l = missing b body t (λ i m. by i m (ltb i low) refl)
   where
     by : (i : ℕ) → i < entry_count b → (x : Bool) → ltb i low ≡ x → serves b body t i ≡ false
@@ -174,5 +173,5 @@ nothing_left b body t low high probe n l = missing b body t (λ i m. by i m (ltb
     by i m false h = let le : low ≤ i = ltb-false i low h in n.none_from i (omega arith) m
 
 -- what the position of an entry that was looked up requires
-pub covered : (b : List ℕ) (body t i : ℕ) → lookup b body t ≡ Entry i → (i < entry_count b) × (covers b i t ≡ true)
+pub covered : (b : List ℕ) (body t i : ℕ) → lookup b body t ≡ Some i → (i < entry_count b) × (covers b i t ≡ true)
 covered b body t i h = let a = looked_up_lem b body t i h in (a.below, serving_covers b body t i a.meets)

@@ -5,9 +5,3 @@
 pub mod inner;
 mod search;
 
-// The entry that covers a moment, counted from 0.
-#[derive(Clone, Copy)]
-pub enum Lookup {
-    Entry(usize),
-    Nothing,
-}

@@ -7,7 +7,6 @@ ghost use Rattle.book_check.specs.Passes.{passes};
 ghost use Rattle.book_search.specs.Lookup.{lookup};
 ghost use Rattle.book_search.specs.Stands.{Stands, Narrowed};
 
-use crate::Lookup;
 use base_bytes::inner::{u16_at, u64_at};
 
 // Where a body and a moment are relative to an entry, in the order of the contents.
@@ -42,7 +41,7 @@ pub fn stand_at(book: &[u8], i: usize, body: u64, moment: u64) -> Stand
 }
 
 // No entry below low and none from high on serves. The search looks at `first` first.
-pub fn search(book: &[u8], body: u64, moment: u64, low: usize, high: usize, first: usize) -> Lookup
+pub fn search(book: &[u8], body: u64, moment: u64, low: usize, high: usize, first: usize) -> Option<usize>
     requires book_value { passes book.now ≡ true }
     requires narrowed { Narrowed book.now body moment low high first }
     ensures { result ≡ lookup book.now body moment }
@@ -53,11 +52,11 @@ pub fn search(book: &[u8], body: u64, moment: u64, low: usize, high: usize, firs
     while low < high {
         let stand = stand_at(book, probe, body, moment);
         match stand {
-            Stand::Covered => return Lookup::Entry(probe),
+            Stand::Covered => return Some(probe),
             Stand::Past => low = probe + 1,
             Stand::Before => high = probe,
         }
         probe = low + (high - low) / 2;
     }
-    Lookup::Nothing
+    None
 }

@@ -1,9 +1,9 @@
 -- The layout of a conic in the caller's memory, and what its call writes there.
-use Rattle.std.specs.Prelude.{ℕ, List, [], ◌∷◌, Float}
+use Rattle.base.specs.declared.Refusal.{Refusal}
+use Rattle.std.specs.Prelude.{ℕ, List, [], ◌∷◌, Float, Result, Ok, Err}
 use Rattle.conic.specs.declared.Conic.{Conic}
 use Rattle.conic.specs.declared.Conic.TheVariants.{Ellipse, Hyperbola}
 use Rattle.conic.specs.declared.CentredConic.{CentredConic}
-use Rattle.conic.specs.declared.ConicAnswer.{ConicAnswer}
 use Rattle.c_answer.specs.Handed.{Answer, Accepted, Refused}
 
 -- written: the number of the centre of a conic, then its kind, 1 for an ellipse and 2 for a hyperbola
@@ -31,6 +31,6 @@ abbrev pub both_in : List ℕ → List Float → Both
 both_in names figures = record { names = names; figures = figures }
 
 -- a conic is written in two places
-abbrev pub of_conic : ConicAnswer → Answer Both
-of_conic (ConicAnswer.Figures c) = Accepted (both_in (names_in c) (figures_in c))
-of_conic (ConicAnswer.Refused k) = Refused k
+abbrev pub of_conic : Result CentredConic Refusal → Answer Both
+of_conic (Ok c) = Accepted (both_in (names_in c) (figures_in c))
+of_conic (Err k) = Refused k

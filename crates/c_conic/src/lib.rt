@@ -9,7 +9,7 @@ ghost use Rattle.c_state.specs.Groups.{unkept_of};
 ghost use Rattle.c_conic.specs.Figures.{kind_of, figures_of, both_in, of_conic};
 
 use c_state::unkept_of;
-use conic::{Conic, ConicAnswer};
+use conic::Conic;
 
 fn kind_of(conic: Conic) -> u64
     ensures { result ≡ kind_of conic }
@@ -41,12 +41,12 @@ pub fn orbit(
         (of_conic (conic_answer m (unkept_of moment centre coordinates.now))) }
 {
     match conic::conic_figures(m, unkept_of(moment, centre, *coordinates)) {
-        ConicAnswer::Figures(c) => {
+        Ok(c) => {
             let conic = c.conic;
             *names = [c.centre, kind_of(conic)];
             *figures = figures_of(conic);
             0
         }
-        ConicAnswer::Refused(k) => k,
+        Err(k) => k,
     }
 }

@@ -1,12 +1,12 @@
 -- The layout of an injection as launch crews speak it and of Earth-fixed coordinates in the caller's memory, and what such a call writes
 -- there. Every array has the length that its type says, so reading an element never gives the defaults nan and 0.
-use Rattle.std.specs.Prelude.{ℕ, List, [], ◌∷◌, get_or, Float}
+use Rattle.base.specs.declared.Refusal.{Refusal}
+use Rattle.state.specs.declared.Injection.{Injection}
+use Rattle.std.specs.Prelude.{ℕ, List, [], ◌∷◌, get_or, Float, Result, Ok, Err}
 use Rattle.std.specs.Float.{nan}
 use Rattle.earth_fixed.specs.declared.EarthFixed.{EarthFixed}
-use Rattle.earth_fixed.specs.declared.FixedAnswer.{FixedAnswer}
 use Rattle.launch.specs.Signed.{signed_of}
 use Rattle.launch.specs.declared.Sphere.{Sphere}
-use Rattle.launch.specs.declared.SphereAnswer.{SphereAnswer}
 use Rattle.c_answer.specs.Handed.{Answer, Accepted, Refused}
 use Rattle.c_state.specs.Groups.{start_in}
 
@@ -25,10 +25,10 @@ sphere_of sizes angles =
 abbrev pub fixed_in : EarthFixed → List Float
 fixed_in f = f.x ∷ f.y ∷ f.z ∷ f.vx ∷ f.vy ∷ f.vz ∷ []
 
-abbrev pub of_sphere : SphereAnswer → Answer (List Float)
-of_sphere (SphereAnswer.Injected i) = Accepted (start_in i)
-of_sphere (SphereAnswer.Refused k) = Refused k
+abbrev pub of_sphere : Result Injection Refusal → Answer (List Float)
+of_sphere (Ok i) = Accepted (start_in i)
+of_sphere (Err k) = Refused k
 
-abbrev pub of_fixed : FixedAnswer → Answer (List Float)
-of_fixed (FixedAnswer.Fixed f) = Accepted (fixed_in f)
-of_fixed (FixedAnswer.Refused k) = Refused k
+abbrev pub of_fixed : Result EarthFixed Refusal → Answer (List Float)
+of_fixed (Ok f) = Accepted (fixed_in f)
+of_fixed (Err k) = Refused k

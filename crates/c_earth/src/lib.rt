@@ -9,7 +9,6 @@ ghost use Rattle.c_state.specs.Groups.{unkept_of};
 ghost use Rattle.c_earth.specs.Earth.{sphere_of, of_fixed};
 
 use c_state::unkept_of;
-use earth_fixed::FixedAnswer;
 use launch::{Sphere, signed_of};
 
 pub fn sphere_of(sizes: [f64; 2], angles: [u64; 4]) -> Sphere
@@ -40,10 +39,10 @@ pub fn turned(
         (of_fixed (fixed_answer rule dut (unkept_of moment centre coordinates.now))) }
 {
     match earth_fixed::earth_fixed(rule, dut, unkept_of(moment, centre, *coordinates)) {
-        FixedAnswer::Fixed(t) => {
+        Ok(t) => {
             *turned = [t.x, t.y, t.z, t.vx, t.vy, t.vz];
             0
         }
-        FixedAnswer::Refused(k) => k,
+        Err(k) => k,
     }
 }

@@ -10,8 +10,6 @@ ghost use Rattle.c_state.specs.Groups.{setting_of, vector_of, injection_of};
 ghost use Rattle.c_gravity.specs.Answers.{of_acceleration, of_injection};
 
 use c_state::{injection_of, setting_of, vector_of};
-use gravity::AccelerationAnswer;
-use gravity_stored::InjectionAnswer;
 
 pub fn pull(
     book: &[u8],
@@ -30,11 +28,11 @@ pub fn pull(
 {
     let setting = setting_of(*coefficients, *extras, dut, rule);
     match gravity::acceleration(book, setting, centre, moment, vector_of(*position)) {
-        AccelerationAnswer::Is(a) => {
+        Ok(a) => {
             *acceleration = [a.x, a.y, a.z];
             0
         }
-        AccelerationAnswer::Refused(k) => k,
+        Err(k) => k,
     }
 }
 
@@ -56,10 +54,10 @@ pub fn inject(
 {
     let setting = setting_of(*coefficients, *extras, dut, rule);
     match gravity_stored::inject(book, setting, injection_of(moment, centre, *coordinates)) {
-        InjectionAnswer::Injected(s) => {
+        Ok(s) => {
             *state = [s.x, s.y, s.z, s.vx, s.vy, s.vz, s.ax, s.ay, s.az];
             0
         }
-        InjectionAnswer::Refused(k) => k,
+        Err(k) => k,
     }
 }

@@ -7,6 +7,8 @@ use Prim.Native.Nat.{ℕ, ◌-◌, ◌≤◌, ◌<◌}
 use native.Mathlib.Omega.{arith}
 use lib.Ieee.{Float}
 use borrow.Author.Tests.{leb-true}
+use Rattle.base.specs.declared.Refusal.{Refusal}
+use Rattle.std.specs.Prelude.{Result, Ok, Err}
 use Rattle.base.specs.Choice.{if◌then◌otherwise◌, ◌<?◌, ◌≤?◌}
 use Rattle.base.proofs.Bools as bools
 use Rattle.state.specs.State.{finite_vector}
@@ -20,7 +22,6 @@ use Rattle.run.specs.declared.RunAnswer.{RunAnswer}
 use Rattle.run_laws.specs.Journey.{Call}
 use Rattle.run_laws.specs.Journey as journeys
 use Rattle.centre.specs.Move.{move_answer}
-use Rattle.centre.specs.declared.MoveAnswer.{MoveAnswer}
 use Rattle.centre_laws.specs.Legs.{Move, Leg, walk_with_moves, MayFly, Flown, LegHolds}
 use Rattle.centre_laws.specs.Legs as legs
 use Rattle.centre_laws.proofs.Moved.{move_keeps}
@@ -76,7 +77,7 @@ by_seven (One a) t k e = let z : ◌≡◌ {A = ℕ} 0 1 = cc in absurd (omega a
 by_seven (Two a b) t k e = go (b.moment <? t) (t <? a.moment) (finite_vector (figure a b t)) e
   where
     go : (late early fin : Bool)
-        → (if late then frame.Late (t - b.moment) otherwise if early then frame.Empty otherwise if fin then frame.Current (figure a b t) otherwise frame.Refused 7) ≡ frame.Refused k → k ≡ 7
+        → (if late then frame.Late (t - b.moment) otherwise if early then frame.Empty otherwise if fin then frame.Current (figure a b t) otherwise frame.Refused Refusal.NotFinite) ≡ frame.Refused k → k ≡ 7
     go true early fin e = let z : ◌≡◌ {A = ℕ} 0 1 = cc in absurd (omega arith)
     go false true fin e = let z : ◌≡◌ {A = ℕ} 0 1 = cc in absurd (omega arith)
     go false false true e = let z : ◌≡◌ {A = ℕ} 0 1 = cc in absurd (omega arith)
@@ -114,27 +115,27 @@ module _ (m extras : List Float) (dut rule : ℕ) where
   -- a move that returned 0 was accepted, and what it wrote reads as the moved state
   pub record Moves (b : List ℕ) (s : Held) (centre : ℕ) (before : List Float) : Type 0 where
     pub next : State
-    pub accepted : move_answer b setting (state_in s) centre ≡ MoveAnswer.Moved next
+    pub accepted : move_answer b setting (state_in s) centre ≡ Ok next
     pub reads : state_in (moved_to s centre (move m extras dut rule b s centre before)) ≡ next
 
   pub move_reads : (b : List ℕ) (s : Held) (centre : ℕ) (before : List Float) → (move m extras dut rule b s centre before).returned ≡ 0 → Moves b s centre before
   move_reads b s centre before zero = go (move_answer b setting (state_in s) centre) refl (move_told b setting (state_in s) centre) zero
     where
-      go : (answer : MoveAnswer) → move_answer b setting (state_in s) centre ≡ answer → in_table (of_move (move_answer b setting (state_in s) centre)) ≡ true
+      go : (answer : Result State Refusal) → move_answer b setting (state_in s) centre ≡ answer → in_table (of_move (move_answer b setting (state_in s) centre)) ≡ true
           → (answered before (of_move (move_answer b setting (state_in s) centre))).returned ≡ 0 → Moves b s centre before
-      go (MoveAnswer.Moved next) e tabled none =
+      go (Ok next) e tabled none =
           let keeps = move_keeps b setting (state_in s) centre next e in
           record {
             next = next;
             accepted = e;
             reads =
-                ap (λ (a : MoveAnswer). state_in (moved_to s centre (answered before (of_move a)))) e
+                ap (λ (a : Result State Refusal). state_in (moved_to s centre (answered before (of_move a)))) e
                 ∙ ap (λ (t : ℕ). state_of t centre (whole_in next)) (sym keeps.0)
                 ∙ ap (λ (c : ℕ). state_of next.moment c (whole_in next)) (sym keeps.1);
           }
-      go (MoveAnswer.Refused k) e is none =
-          let number : k ≡ 0 = sym (ap (λ (a : MoveAnswer). (answered before (of_move a)).returned) e) ∙ none in
-          let some : tabled k ≡ true = sym (ap (λ (a : MoveAnswer). in_table (of_move a)) e) ∙ is in
+      go (Err k) e is none =
+          let number : k ≡ 0 = sym (ap (λ (a : Result State Refusal). (answered before (of_move a)).returned) e) ∙ none in
+          let some : tabled k ≡ true = sym (ap (λ (a : Result State Refusal). in_table (of_move a)) e) ∙ is in
           let least : 1 ≤ k = leb-true 1 k (bools.left (1 ≤? k) (k ≤? 18) some) in
           absurd (omega arith)
 
@@ -263,9 +264,9 @@ module _ (m extras : List Float) (dut rule : ℕ) where
       }
 
   -- a move that is refused returns its number, and leaves the memory unchanged
-  pub refused_move_unwritten : (b : List ℕ) (s : Held) (centre : ℕ) (before : List Float) (k : ℕ) → move_answer b setting (state_in s) centre ≡ MoveAnswer.Refused k
+  pub refused_move_unwritten : (b : List ℕ) (s : Held) (centre : ℕ) (before : List Float) (k : ℕ) → move_answer b setting (state_in s) centre ≡ Err k
       → move m extras dut rule b s centre before ≡ handed k before
-  refused_move_unwritten b s centre before k e = ap (λ (a : MoveAnswer). answered before (of_move a)) e
+  refused_move_unwritten b s centre before k e = ap (λ (a : Result State Refusal). answered before (of_move a)) e
 
   -- ---- legs
 

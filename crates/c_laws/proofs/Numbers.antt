@@ -6,6 +6,11 @@ use mathlib.Core.Path.{◌≡◌, refl}
 use Prim.Native.Nat.{ℕ, ◌+◌}
 use lib.Ieee.{Float, eq}
 use lib.Ieee.Scale.{finite}
+use Rattle.base.specs.declared.Refusal.{Refusal}
+use Rattle.earth_fixed.specs.declared.EarthFixed.{EarthFixed}
+use Rattle.conic.specs.declared.CentredConic.{CentredConic}
+use Rattle.book.specs.declared.Motion.{Motion}
+use Rattle.std.specs.Prelude.{Result, Ok, Err}
 use Rattle.base.specs.Choice.{if◌then◌otherwise◌, ◌<?◌, ◌≤?◌, ◌=?◌}
 use Rattle.base.specs.Limits.{is_moment, is_dut, last_day, circle}
 use Rattle.base.proofs.Cases.{by_if}
@@ -18,35 +23,27 @@ use Rattle.state.specs.declared.Vector.{Vector}
 use Rattle.calendar.specs.Gregorian.{ymd, is_date}
 use Rattle.calendar.specs.Answers.{date_answer, day_answer, julian_answer}
 use Rattle.hour.specs.Hour.{is_rule, hour_answer, sidereal_answer}
-use Rattle.hour.specs.declared.HourAnswer.{HourAnswer}
 use Rattle.root.specs.Root.{negative, root_answer}
 use Rattle.sine.specs.Sine.{sine_cosine_answer}
 use Rattle.book.specs.Position.{position_answer}
 use Rattle.base.specs.Checks.{refused_by}
 use Rattle.book.proofs.Refused as book
-use Rattle.book.specs.declared.PositionAnswer.{PositionAnswer}
 use Rattle.gravity.specs.Acceleration.{acceleration_answer}
 use Rattle.gravity.proofs.Refused as gravity
-use Rattle.gravity.specs.declared.AccelerationAnswer.{AccelerationAnswer}
 use Rattle.gravity.specs.declared.Guesses.{Guesses}
 use Rattle.gravity_stored.specs.Injection.{injection_answer as stored_answer}
-use Rattle.gravity_stored.specs.declared.InjectionAnswer.{InjectionAnswer}
 use Rattle.gravity_stored.proofs.Refused as injection
 use Rattle.run.specs.Run.{run_answer, single_step_answer}
 use Rattle.run.specs.declared.Outcome.{Outcome}
 use Rattle.run_laws.proofs.Refused as journey
 use Rattle.centre.specs.Move.{move_answer}
-use Rattle.centre.specs.declared.MoveAnswer.{MoveAnswer}
 use Rattle.centre.proofs.Moves as centre
-use Rattle.earth_fixed.specs.declared.FixedAnswer.{FixedAnswer}
 use Rattle.launch.specs.Sphere as sphere
 use Rattle.launch.specs.Sphere.{angles_allowed, sizes_allowed, injected, injection_answer, sphere_answer}
 use Rattle.launch.specs.declared.Sphere.{Sphere}
-use Rattle.launch.specs.declared.SphereAnswer.{SphereAnswer}
 use Rattle.earth_rotation.specs.Rotation.{rotation}
 use Rattle.earth_fixed.specs.Fixed.{after_hour, finite_fixed, finite_answer, fixed_answer, turned}
 use Rattle.conic.specs.Conic.{unfit, ◌before◌, refusal, orbit_answer, orbit, figures_about, conic_answer}
-use Rattle.conic.specs.declared.ConicAnswer.{ConicAnswer}
 use Rattle.belfry_almanac.specs.Answers.{of_date, of_day, of_julian, of_hour, of_root, of_sine_cosine, of_position}
 use Rattle.c_run.specs.Answers.{of_acceleration, of_injection, of_move}
 use Rattle.c_earth.specs.Earth.{of_fixed, of_sphere}
@@ -78,7 +75,7 @@ julian_told day = by_if (λ a. in_table (of_julian a)) (day ≤? last_day) refl 
 
 pub sidereal_told : (rule moment dut : ℕ) → in_table (of_hour (sidereal_answer rule moment dut)) ≡ true
 sidereal_told rule moment dut =
-    let p : HourAnswer → Bool = λ a. in_table (of_hour a) in
+    let p : Result ℕ Refusal → Bool = λ a. in_table (of_hour a) in
     by_if p (not (is_dut dut)) refl
     (by_if p (not (is_rule rule)) refl (by_if p (not (is_moment moment)) refl (by_if p (moment <? dut) refl refl)))
 
@@ -93,31 +90,31 @@ pub sine_cosine_told : (parts : ℕ) → in_table (of_sine_cosine (sine_cosine_a
 unfolding sine_cosine_answer
 sine_cosine_told parts = by_if (λ a. in_table (of_sine_cosine a)) (parts <? circle) refl refl
 
-position_is_told : (a : PositionAnswer) → refused_by tabled (book.as_answer a) ≡ true → in_table (of_position a) ≡ true
-position_is_told (PositionAnswer.At R) by = refl
-position_is_told (PositionAnswer.Refused k) by = by
+position_is_told : (a : Result Motion Refusal) → refused_by tabled (book.as_answer a) ≡ true → in_table (of_position a) ≡ true
+position_is_told (Ok R) by = refl
+position_is_told (Err k) by = by
 
 pub position_told : (b : List ℕ) (body t : ℕ) → in_table (of_position (position_answer b body t)) ≡ true
 position_told b body t = position_is_told (position_answer b body t) (book.position_refused tabled refl refl refl refl b body t)
 
-acceleration_is_told : (a : AccelerationAnswer) → refused_by tabled (gravity.as_answer a) ≡ true → in_table (of_acceleration a) ≡ true
-acceleration_is_told (AccelerationAnswer.Is v) by = refl
-acceleration_is_told (AccelerationAnswer.Refused k) by = by
+acceleration_is_told : (a : Result Vector Refusal) → refused_by tabled (gravity.as_answer a) ≡ true → in_table (of_acceleration a) ≡ true
+acceleration_is_told (Ok v) by = refl
+acceleration_is_told (Err k) by = by
 
 pub acceleration_told : (b : List ℕ) (s : Setting) (c t : ℕ) (P : Vector) → in_table (of_acceleration (acceleration_answer b s c t P)) ≡ true
 acceleration_told b s c t P =
     acceleration_is_told (acceleration_answer b s c t P) (gravity.acceleration_refused tabled refl refl refl refl refl refl b s c t P)
 
-move_is_told : (a : MoveAnswer) → refused_by tabled (centre.as_answer a) ≡ true → in_table (of_move a) ≡ true
-move_is_told (MoveAnswer.Moved s) by = refl
-move_is_told (MoveAnswer.Refused k) by = by
+move_is_told : (a : Result State Refusal) → refused_by tabled (centre.as_answer a) ≡ true → in_table (of_move a) ≡ true
+move_is_told (Ok s) by = refl
+move_is_told (Err k) by = by
 
 pub move_told : (b : List ℕ) (setting : Setting) (s : State) (c : ℕ) → in_table (of_move (move_answer b setting s c)) ≡ true
 move_told b setting s c = move_is_told (move_answer b setting s c) (centre.move_refused tabled refl refl refl refl refl refl b setting s c)
 
-injection_is_told : (a : InjectionAnswer) → refused_by tabled (injection.as_answer a) ≡ true → in_table (of_injection a) ≡ true
-injection_is_told (InjectionAnswer.Injected s) by = refl
-injection_is_told (InjectionAnswer.Refused k) by = by
+injection_is_told : (a : Result State Refusal) → refused_by tabled (injection.as_answer a) ≡ true → in_table (of_injection a) ≡ true
+injection_is_told (Ok s) by = refl
+injection_is_told (Err k) by = by
 
 pub injection_told : (b : List ℕ) (setting : Setting) (i : Injection) → in_table (of_injection (stored_answer b setting i)) ≡ true
 injection_told b setting i =
@@ -141,21 +138,21 @@ single_step_told b setting s h given = run_told b setting s h (s.moment + h) 1 g
 finite_told : (rule dut : ℕ) (state : State) → in_table (of_fixed (finite_answer rule dut state)) ≡ true
 unfolding finite_answer
 finite_told rule dut state =
-    let p : FixedAnswer → Bool = λ a. in_table (of_fixed a) in
+    let p : Result EarthFixed Refusal → Bool = λ a. in_table (of_fixed a) in
     by_if p (not (finite_state state)) refl (by_if p (not (finite_fixed (turned (rotation rule state.moment dut) state))) refl refl)
 
 after_hour_told :
-    (hour : HourAnswer) (answer : FixedAnswer)
+    (hour : Result ℕ Refusal) (answer : Result EarthFixed Refusal)
     → in_table (of_hour hour) ≡ true
     → in_table (of_fixed answer) ≡ true
     → in_table (of_fixed (after_hour hour answer)) ≡ true
-after_hour_told (HourAnswer.Parts parts) answer first rest = rest
-after_hour_told (HourAnswer.Refused k) answer first rest = first
+after_hour_told (Ok parts) answer first rest = rest
+after_hour_told (Err k) answer first rest = first
 
 pub fixed_told : (rule dut : ℕ) (state : State) → in_table (of_fixed (fixed_answer rule dut state)) ≡ true
 unfolding fixed_answer
 fixed_told rule dut state =
-    let p : FixedAnswer → Bool = λ a. in_table (of_fixed a) in
+    let p : Result EarthFixed Refusal → Bool = λ a. in_table (of_fixed a) in
     by_if p (not (is_dut dut)) refl
     (by_if p (not (is_rule rule)) refl
     (by_if p (not (state.centre =? 1)) refl
@@ -165,16 +162,16 @@ fixed_told rule dut state =
 sphere_told : (s : Sphere) (rule moment dut : ℕ) → in_table (of_sphere (injection_answer s rule moment dut)) ≡ true
 unfolding injection_answer
 sphere_told s rule moment dut =
-    let p : SphereAnswer → Bool = λ a. in_table (of_sphere a) in
+    let p : Result Injection Refusal → Bool = λ a. in_table (of_sphere a) in
     by_if p (not (angles_allowed s)) refl (by_if p (not (sizes_allowed s)) refl (by_if p (finite_injection (injected s rule moment dut)) refl refl))
 
 sphere_after_hour :
-    (hour : HourAnswer) (answer : SphereAnswer)
+    (hour : Result ℕ Refusal) (answer : Result Injection Refusal)
     → in_table (of_hour hour) ≡ true
     → in_table (of_sphere answer) ≡ true
     → in_table (of_sphere (sphere.after_hour hour answer)) ≡ true
-sphere_after_hour (HourAnswer.Parts parts) answer first rest = rest
-sphere_after_hour (HourAnswer.Refused k) answer first rest = first
+sphere_after_hour (Ok parts) answer first rest = rest
+sphere_after_hour (Err k) answer first rest = first
 
 pub from_sphere_told : (s : Sphere) (rule moment dut : ℕ) → in_table (of_sphere (sphere_answer s rule moment dut)) ≡ true
 unfolding sphere_answer
@@ -219,6 +216,6 @@ orbit_told m state =
 pub conic_told : (m : Float) (state : State) → in_table (of_conic (conic_answer m state)) ≡ true
 unfolding conic_answer figures_about
 conic_told m state =
-    let p : ConicAnswer → Bool = λ a. in_table (of_conic a) in
+    let p : Result CentredConic Refusal → Bool = λ a. in_table (of_conic a) in
     by_if p (not (finite m && above0 m)) refl
     (by_if p (not (is_body state.centre)) refl (by_if p (not (finite_state state)) refl (orbit_told m state)))

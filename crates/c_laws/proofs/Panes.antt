@@ -7,6 +7,7 @@ use Prim.Native.Nat.{ℕ, ◌-◌, ◌≤◌, ◌<◌}
 use native.Mathlib.Omega.{arith}
 use lib.Ieee.{Float}
 use borrow.Author.Tests.{leb-true, ne_eqb}
+use Rattle.base.specs.declared.Refusal.{Refusal}
 use Rattle.base.specs.Choice.{◌<?◌, ◌≤?◌}
 use Rattle.base.proofs.Cases.{by_if}
 use Rattle.base.proofs.Bools as bools
@@ -103,7 +104,7 @@ module _ (before : Kept) where
   feeding answer = fed_or18 (left before answer).returned
 
   -- a state offered, by any test that 0 and 18 meet
-  offered : (p : TakeAnswer → Bool) (pane : Pane) (s : State) → ((next : Pane) → p (taken.Taken next) ≡ true) → p (taken.Refused 18) ≡ true → p (take pane s) ≡ true
+  offered : (p : TakeAnswer → Bool) (pane : Pane) (s : State) → ((next : Pane) → p (taken.Taken next) ≡ true) → p (taken.Refused Refusal.NotNext) ≡ true → p (take pane s) ≡ true
   unfolding take
   offered p Blank s took left_out = took _
   offered p (One a) s took left_out = by_if p (follows a s) (took _) left_out

@@ -1,17 +1,18 @@
 -- What an exported call under a book returns and writes to the caller's memory, for each answer of the call below it.
-use Rattle.std.specs.Prelude.{ℕ, List, Float}
+use Rattle.base.specs.declared.Refusal.{Refusal}
+use Rattle.state.specs.declared.State.{State}
+use Rattle.std.specs.Prelude.{ℕ, List, Float, Result, Ok, Err}
 use Rattle.run.specs.declared.Outcome.{Outcome}
 use Rattle.run.specs.declared.RunAnswer.{RunAnswer}
-use Rattle.centre.specs.declared.MoveAnswer.{MoveAnswer}
 use Rattle.c_answer.specs.Handed.{Answer, Accepted, Refused}
 use Rattle.c_state.specs.Groups.{coordinates_in, whole_in}
 pub use Rattle.c_gravity.specs.Answers.{of_acceleration, of_injection}
 use Rattle.c_run.specs.Lent.{guesses_in}
 
 -- a move does not change the moment, and the new centre was given
-abbrev pub of_move : MoveAnswer → Answer (List Float)
-of_move (MoveAnswer.Moved s) = Accepted (whole_in s)
-of_move (MoveAnswer.Refused k) = Refused k
+abbrev pub of_move : Result State Refusal → Answer (List Float)
+of_move (Ok s) = Accepted (whole_in s)
+of_move (Err k) = Refused k
 
 -- what a run returns: 0 arrived, 100 going, else the refusal number
 abbrev pub going : ℕ

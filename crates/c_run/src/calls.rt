@@ -12,7 +12,6 @@ ghost use Rattle.c_run.specs.Answers.{of_move, run_memory, of_flight};
 use crate::{guesses_of, hand_back_whole};
 pub use c_gravity::{inject, pull};
 use c_state::{setting_of, state_of};
-use centre::MoveAnswer;
 
 // Input and output are separate arrays: the next call reads what this one wrote. The centre is the one given.
 pub fn fly(
@@ -63,10 +62,10 @@ pub fn moved(
     let setting = setting_of(*coefficients, *extras, dut, rule);
     let state = state_of(moment, centre, *coordinates);
     match centre::move_to(book, setting, state, new) {
-        MoveAnswer::Moved(s) => {
+        Ok(s) => {
             *moved = [s.x, s.y, s.z, s.vx, s.vy, s.vz, s.ax, s.ay, s.az];
             0
         }
-        MoveAnswer::Refused(k) => k,
+        Err(k) => k,
     }
 }

@@ -4,11 +4,10 @@ use mathlib.Core.Path.{◌≡◌, refl, ap, sym, ◌∙◌}
 use Prim.Native.Nat.{ℕ, zero, suc, ◌+◌, ◌-◌, ◌≤◌, ◌<◌}
 use native.Mathlib.Omega.{arith}
 use borrow.Author.Tests.{leb-true, ltb-true, ltb-false, le-leb}
+use Rattle.std.specs.Prelude.{Ok}
 use Rattle.base.specs.Choice.{if◌then◌otherwise◌, ◌<?◌, ◌≤?◌}
 use Rattle.base.specs.Limits.{last_day}
 use Rattle.calendar.specs.declared.Calendar.{Calendar}
-use Rattle.calendar.specs.declared.DateAnswer.{DateAnswer}
-use Rattle.calendar.specs.declared.DayAnswer.{DayAnswer}
 use Rattle.calendar.specs.Answers.{date_answer, day_answer_of}
 use Rattle.calendar.specs.Gregorian.{ymd, is_leap, month_length, days_before_month, days_of_years, is_date, day_of, day_after, date_of}
 use Rattle.calendar_lengths.proofs.Lengths.{length_of, days_of_years_lem, days_of_months, length_of_month, length_of_year, month_step, year_step, month_within}
@@ -173,8 +172,8 @@ date_in_range date h =
     omega (arith, years_later (date.year - 1950) 100 (omega arith), within_year date p, hundred_years)
 
 -- the calls undo each other
-pub day_call_and_back : (day : ℕ) → day ≤ last_day → day_answer_of (date_of day) ≡ DayAnswer.Day day
+pub day_call_and_back : (day : ℕ) → day ≤ last_day → day_answer_of (date_of day) ≡ Ok day
 day_call_and_back day h = rw (day_is_date day h, day_and_back day)
 
-pub date_call_and_back : (date : Calendar) → is_date date ≡ true → date_answer (day_of date) ≡ DateAnswer.Date date
+pub date_call_and_back : (date : Calendar) → is_date date ≡ true → date_answer (day_of date) ≡ Ok date
 date_call_and_back date h = rw (le-leb (day_of date) last_day (date_in_range date h), date_and_back date h)

@@ -6,6 +6,7 @@ ghost use Rattle.std.specs.Prelude.{◌≡◌, ◌+◌, ◌<◌, ◌≤◌};
 ghost use Rattle.calendar.specs.Gregorian.{ymd, is_leap, year_length, days_before_year, is_date, date_of};
 ghost use Rattle.calendar.specs.Answers.{date_answer, day_answer, julian_answer};
 
+use base::Refusal;
 use calendar_lengths::inner::{days_before_month, days_before_year, is_leap, month_length};
 
 // A date.
@@ -14,24 +15,6 @@ pub struct Calendar {
     pub year: u64,
     pub month: u64,
     pub day: u64,
-}
-
-#[derive(Clone, Copy)]
-pub enum DateAnswer {
-    Date(Calendar),
-    Refused(u64),
-}
-
-#[derive(Clone, Copy)]
-pub enum DayAnswer {
-    Day(u64),
-    Refused(u64),
-}
-
-#[derive(Clone, Copy)]
-pub enum JulianAnswer {
-    Twice(u64),
-    Refused(u64),
 }
 
 // The date that many days after the start of a year.
@@ -86,35 +69,35 @@ impl Calendar {
 
     pub const LAST_YEAR: u64 = 2049;
 
-    pub fn from_day(day: u64) -> DateAnswer
+    pub fn from_day(day: u64) -> Result<Calendar, Refusal>
         ensures { result ≡ date_answer day }
     {
         if Calendar::LAST_DAY < day {
-            return DateAnswer::Refused(8);
+            return Err(Refusal::Date);
         }
         let elapsed = day - Calendar::FIRST_DAY;
         // Four years have 1461 days.
         let year = Calendar::FIRST_YEAR + (4 * elapsed + 2) / 1461;
-        DateAnswer::Date(date_in_year(year, elapsed - days_before_year(year)))
+        Ok(date_in_year(year, elapsed - days_before_year(year)))
     }
 
-    pub fn from_date(year: u64, month: u64, day: u64) -> DayAnswer
+    pub fn from_date(year: u64, month: u64, day: u64) -> Result<u64, Refusal>
         ensures { result ≡ day_answer year month day }
     {
         if is_date(year, month, day) {
             let before = days_before_year(year) + days_before_month(is_leap(year), month);
-            return DayAnswer::Day(Calendar::FIRST_DAY + before + (day - 1));
+            return Ok(Calendar::FIRST_DAY + before + (day - 1));
         }
-        DayAnswer::Refused(8)
+        Err(Refusal::Date)
     }
 
     // Twice the Julian date: at 0h it ends in a half, and twice it is a whole number.
-    pub fn twice_julian_date(day: u64) -> JulianAnswer
+    pub fn twice_julian_date(day: u64) -> Result<u64, Refusal>
         ensures { result ≡ julian_answer day }
     {
         if day <= Calendar::LAST_DAY {
-            return JulianAnswer::Twice(4_866_565 + 2 * day);
+            return Ok(4_866_565 + 2 * day);
         }
-        JulianAnswer::Refused(8)
+        Err(Refusal::Date)
     }
 }

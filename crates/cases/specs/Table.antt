@@ -1,42 +1,36 @@
 -- Document 01, "Figures to check against": the cases marked P, in one table with one statement.
-use Rattle.std.specs.Prelude.{List, [], ◌∷◌, ◌≡◌, ℕ, ◌+◌, ◌*◌, Float}
+use Rattle.base.specs.declared.Refusal.{Refusal}
+use Rattle.calendar.specs.declared.Calendar.{Calendar}
+use Rattle.conic.specs.declared.CentredConic.{CentredConic}
+use Rattle.book.specs.declared.Motion.{Motion}
+use Rattle.std.specs.Prelude.{List, [], ◌∷◌, ◌≡◌, ℕ, ◌+◌, ◌*◌, Float, Result, Ok, Err}
 use Rattle.std.specs.Float.Ieee.{neg}
 use Rattle.base.specs.Floats.{whole}
 use Rattle.calendar.specs.Gregorian.{ymd}
 use Rattle.calendar.specs.Answers.{date_answer}
-use Rattle.calendar.specs.declared.DateAnswer.{DateAnswer}
-use Rattle.calendar.specs.declared.DateAnswer.TheVariants as dated
 use Rattle.hour.specs.Hour.{hour_answer}
-use Rattle.hour.specs.declared.HourAnswer.{HourAnswer}
-use Rattle.hour.specs.declared.HourAnswer.TheVariants as hour
 use Rattle.root.specs.Root.{root_of}
 use Rattle.state.specs.declared.Vector.{Vector}
 use Rattle.state.specs.declared.Setting.{Setting}
 use Rattle.state.specs.declared.State.{State}
 use Rattle.book.specs.Position.{position_answer}
-use Rattle.book.specs.declared.PositionAnswer.{PositionAnswer}
-use Rattle.book.specs.declared.PositionAnswer.TheVariants as position
 use Rattle.gravity.specs.Acceleration.{acceleration_answer}
-use Rattle.gravity.specs.declared.AccelerationAnswer.{AccelerationAnswer}
-use Rattle.gravity.specs.declared.AccelerationAnswer.TheVariants as acceleration
 use Rattle.conic.specs.Conic.{conic_answer}
 use Rattle.conic.specs.declared.Conic.{Conic}
 use Rattle.conic.specs.declared.Conic.TheVariants.{Ellipse, Hyperbola}
-use Rattle.conic.specs.declared.ConicAnswer.{ConicAnswer}
-use Rattle.conic.specs.declared.ConicAnswer.TheVariants.{Figures, Refused}
 
 -- a case: the input of a public call, and its whole answer
 pub data Case : Type 0 where
   -- a day count
-  day : ℕ → DateAnswer → Case
+  day : ℕ → Result Calendar Refusal → Case
   -- d whole days and t milliseconds of UT, with DUT 0
-  angle : ℕ → ℕ → HourAnswer → Case
+  angle : ℕ → ℕ → Result ℕ Refusal → Case
   -- the Moon at a moment, in `series_book`
-  moon_at : ℕ → PositionAnswer → Case
+  moon_at : ℕ → Result Motion Refusal → Case
   -- a book and a setting; at (2, 0, 0) from the Earth at moment 0
-  pulled : List ℕ → Setting → AccelerationAnswer → Case
+  pulled : List ℕ → Setting → Result Vector Refusal → Case
   -- m 8, position (2, 0, 0) and the velocity's x and y
-  orbit : ℕ → ℕ → ConicAnswer → Case
+  orbit : ℕ → ℕ → Result CentredConic Refusal → Case
 
 -- the book without entries, of 8 bytes
 abbrev pub empty_book : List ℕ
@@ -94,12 +88,12 @@ earth8moon m =
     }
 
 -- the same position on each axis, and the same velocity
-abbrev pub all_three : Float → Float → PositionAnswer
-all_three p v = position.At (record { place = record { x = p; y = p; z = p }; velocity = record { x = v; y = v; z = v } })
+abbrev pub all_three : Float → Float → Result Motion Refusal
+all_three p v = Ok (record { place = record { x = p; y = p; z = p }; velocity = record { x = v; y = v; z = v } })
 
 -- an acceleration along x: y and z are -0.0, because the sum starts with -g
-abbrev pub along_x : Float → AccelerationAnswer
-along_x x = acceleration.Is (record { x = x; y = neg (whole 0); z = neg (whole 0) })
+abbrev pub along_x : Float → Result Vector Refusal
+along_x x = Ok (record { x = x; y = neg (whole 0); z = neg (whole 0) })
 
 abbrev pub moving : ℕ → ℕ → State
 moving vx vy =
@@ -124,26 +118,26 @@ Right (moon_at t answer) = position_answer series_book 2 t ≡ answer
 Right (pulled book setting answer) = acceleration_answer book setting 1 0 at200 ≡ answer
 Right (orbit vx vy answer) = conic_answer (whole 8) (moving vx vy) ≡ answer
 
-abbrev pub about1 : Conic → ConicAnswer
-about1 conic = Figures (record { centre = 1; conic = conic })
+abbrev pub about1 : Conic → Result CentredConic Refusal
+about1 conic = Ok (record { centre = 1; conic = conic })
 
 abbrev pub table : List Case
 table =
-    day 2_922 (dated.Date (ymd 1958 1 1))
-    ∷ day 18_321 (dated.Date (ymd 2000 2 29))
-    ∷ day 36_524 (dated.Date (ymd 2049 12 31))
-    ∷ day 36_525 (dated.Refused 8)
-    ∷ angle 0 0 (hour.Parts 1_000_755_426_000)
-    ∷ angle 1 0 (hour.Parts 1_010_611_899_460)
-    ∷ angle 0 86_399_999 (hour.Parts 1_010_611_467_099)
-    ∷ angle 4_322 82_951_000 (hour.Parts 266_188_071_271)
+    day 2_922 (Ok (ymd 1958 1 1))
+    ∷ day 18_321 (Ok (ymd 2000 2 29))
+    ∷ day 36_524 (Ok (ymd 2049 12 31))
+    ∷ day 36_525 (Err Refusal.Date)
+    ∷ angle 0 0 (Ok 1_000_755_426_000)
+    ∷ angle 1 0 (Ok 1_010_611_899_460)
+    ∷ angle 0 86_399_999 (Ok 1_010_611_467_099)
+    ∷ angle 4_322 82_951_000 (Ok 266_188_071_271)
     ∷ moon_at 5_000 (all_three (whole 2) (neg (whole 20)))
     ∷ moon_at 5_500 (all_three (neg (whole 2)) (whole 4))
     ∷ pulled empty_book (earth8moon 0) (along_x (neg (whole 2)))
     ∷ pulled moon_book (earth8moon 16) (along_x (whole 1))
     ∷ orbit 0 2 (about1 (Ellipse (whole 2) (whole 0) (whole 2) (whole 2) (whole 2)))
     ∷ orbit 0 4 (about1 (Hyperbola (neg (whole 1)) (whole 3) (whole 8) (whole 2) (root_of (whole 8))))
-    ∷ orbit 2 2 (Refused 9)
+    ∷ orbit 2 2 (Err Refusal.Parabola)
     ∷ []
 
 abbrev pub AllRight : List Case → Type 0

@@ -4,6 +4,9 @@ use mathlib.Core.List.{List}
 use mathlib.Core.Path.{◌≡◌, refl, sym}
 use Prim.Native.Nat.{ℕ}
 use native.Mathlib.Omega.{arith}
+use Rattle.base.specs.declared.Refusal.{Refusal}
+use Rattle.book.specs.declared.Motion.{Motion}
+use Rattle.std.specs.Prelude.{Result, Ok, Err, Option, Some, None}
 use Rattle.base.specs.Choice.{if◌then◌otherwise◌, ◌=?◌}
 use Rattle.base.specs.Checks.{Answer, Accepted, refused_by}
 use Rattle.base.specs.Checks as base
@@ -18,15 +21,9 @@ use Rattle.book.specs.Passes.{passes}
 use Rattle.state_checks.proofs.Passed.{passed}
 use Rattle.state_checks.proofs.Numbers.{common_meets}
 use Rattle.gravity_stored.specs.Injection.{kept, stored_is_rule}
-use Rattle.gravity_stored.specs.declared.InjectionAnswer.{InjectionAnswer}
-use Rattle.gravity_stored.specs.declared.InjectionAnswer.TheVariants as injection
 use Rattle.gravity_stored.proofs.Refused as refused
 use Rattle.gravity_stored.proofs.Stored.{kept_is_rule}
 use Rattle.centre.specs.Move.{motion_of, shifted, moved_by, kept_or7, move_by, move_of, move_refusal, move_answer}
-use Rattle.centre.specs.declared.Seen.{Seen}
-use Rattle.centre.specs.declared.Seen.TheVariants.{Covered, Uncovered}
-use Rattle.centre.specs.declared.MoveAnswer.{MoveAnswer}
-use Rattle.centre.specs.declared.MoveAnswer.TheVariants.{Moved, Refused}
 
 pub may_move : (b : List ℕ) (setting : Setting) (s : State) (centre : ℕ) → move_refusal b setting s centre ≡ 0
     → (passes b ≡ true) × (centre_allowed setting centre ≡ true)
@@ -35,22 +32,22 @@ may_move b setting s centre e =
     let p = passed b setting _ _ _ e in
     (p.book, right (centre_allowed setting s.centre) (centre_allowed setting centre) p.centre)
 
-abbrev pub as_answer : MoveAnswer → Answer State
-as_answer (Moved s) = Accepted s
-as_answer (Refused k) = base.Refused k
+abbrev pub as_answer : Result State Refusal → Answer State
+as_answer (Ok s) = Accepted s
+as_answer (Err k) = base.Refused k
 
 -- a move is refused only with 1, 4, 14, 3, 7 and 6
 module _ (ok : ℕ → Bool) (one : ok 1 ≡ true) (four : ok 4 ≡ true) (fourteen : ok 14 ≡ true) (three : ok 3 ≡ true) (seven : ok 7 ≡ true) (six : ok 6 ≡ true) where
-  kept_refused : (q : InjectionAnswer) → refused_by ok (refused.as_answer q) ≡ true → refused_by ok (as_answer (moved_by q)) ≡ true
-  kept_refused (injection.Injected s) e = refl
-  kept_refused (injection.Refused k) e = e
+  kept_refused : (q : Result State Refusal) → refused_by ok (refused.as_answer q) ≡ true → refused_by ok (as_answer (moved_by q)) ≡ true
+  kept_refused (Ok s) e = refl
+  kept_refused (Err k) e = e
 
-  by_refused : (b : List ℕ) (setting : Setting) (s : State) (centre : ℕ) (from to : Seen) → refused_by ok (as_answer (move_by b setting s centre from to)) ≡ true
-  by_refused b setting s centre (Covered old) (Covered new) =
+  by_refused : (b : List ℕ) (setting : Setting) (s : State) (centre : ℕ) (from to : Option Motion) → refused_by ok (as_answer (move_by b setting s centre from to)) ≡ true
+  by_refused b setting s centre (Some old) (Some new) =
       by_if (λ x. refused_by ok (as_answer x)) (finite_injection (shifted s centre old new))
       (kept_refused (kept b setting (shifted s centre old new)) (refused.kept_refused ok six seven b setting (shifted s centre old new))) seven
-  by_refused b setting s centre (Covered old) Uncovered = six
-  by_refused b setting s centre Uncovered to = six
+  by_refused b setting s centre (Some old) None = six
+  by_refused b setting s centre None to = six
 
   of_refused : (b : List ℕ) (setting : Setting) (s : State) (centre : ℕ) → refused_by ok (as_answer (move_of b setting s centre)) ≡ true
   unfolding move_of
@@ -60,46 +57,46 @@ module _ (ok : ℕ → Bool) (one : ok 1 ≡ true) (four : ok 4 ≡ true) (fourt
   pub move_refused : (b : List ℕ) (setting : Setting) (s : State) (centre : ℕ) → refused_by ok (as_answer (move_answer b setting s centre)) ≡ true
   unfolding move_answer move_refusal
   move_refused b setting s centre =
-      common_meets (λ x. refused_by ok (as_answer x)) Refused (move_of b setting s centre) one four fourteen three seven (of_refused b setting s centre) b setting
+      common_meets (λ x. refused_by ok (as_answer x)) Err (move_of b setting s centre) one four fourteen three seven (of_refused b setting s centre) b setting
       (centre_allowed setting s.centre && centre_allowed setting centre) (is_moment s.moment) (finite_state s)
 
 -- ---- order
 
 -- "Injection, step and change of centre must keep it equal to the rule at that state"
 module _ (b : List ℕ) (setting : Setting) (s : State) (centre : ℕ) (next : State) where
-  by_kept : (q : InjectionAnswer) → moved_by q ≡ Moved next → q ≡ injection.Injected next
-  by_kept (injection.Injected there) e = cc
-  by_kept (injection.Refused k) e = let z : ◌≡◌ {A = ℕ} 0 1 = cc in absurd (omega arith)
+  by_kept : (q : Result State Refusal) → moved_by q ≡ Ok next → q ≡ Ok next
+  by_kept (Ok there) e = cc
+  by_kept (Err k) e = let z : ◌≡◌ {A = ℕ} 0 1 = cc in absurd (omega arith)
 
-  by_end : (i : Injection) → kept_or7 b setting i ≡ Moved next → stored_is_rule b setting next ≡ true
+  by_end : (i : Injection) → kept_or7 b setting i ≡ Ok next → stored_is_rule b setting next ≡ true
   by_end i = go (finite_injection i)
     where
-      go : (fin : Bool) → (if fin then moved_by (kept b setting i) otherwise Refused 7) ≡ Moved next → stored_is_rule b setting next ≡ true
+      go : (fin : Bool) → (if fin then moved_by (kept b setting i) otherwise Err Refusal.NotFinite) ≡ Ok next → stored_is_rule b setting next ≡ true
       go true e = kept_is_rule b setting i next (by_kept (kept b setting i) e)
       go false e = let z : ◌≡◌ {A = ℕ} 0 1 = cc in absurd (omega arith)
 
-  by_seen : (from to : Seen) → move_by b setting s centre from to ≡ Moved next → stored_is_rule b setting next ≡ true
-  by_seen (Covered old) (Covered new) e = by_end (shifted s centre old new) e
-  by_seen (Covered old) Uncovered e = let z : ◌≡◌ {A = ℕ} 0 1 = cc in absurd (omega arith)
-  by_seen Uncovered to e = let z : ◌≡◌ {A = ℕ} 0 1 = cc in absurd (omega arith)
+  by_seen : (from to : Option Motion) → move_by b setting s centre from to ≡ Ok next → stored_is_rule b setting next ≡ true
+  by_seen (Some old) (Some new) e = by_end (shifted s centre old new) e
+  by_seen (Some old) None e = let z : ◌≡◌ {A = ℕ} 0 1 = cc in absurd (omega arith)
+  by_seen None to e = let z : ◌≡◌ {A = ℕ} 0 1 = cc in absurd (omega arith)
 
   -- a move to another centre leads to a state that is in order; a move to the same centre changes nothing
-  of_rule : move_of b setting s centre ≡ Moved next → ((s.centre =? centre) ≡ false → stored_is_rule b setting next ≡ true) × ((s.centre =? centre) ≡ true → next ≡ s)
+  of_rule : move_of b setting s centre ≡ Ok next → ((s.centre =? centre) ≡ false → stored_is_rule b setting next ≡ true) × ((s.centre =? centre) ≡ true → next ≡ s)
   unfolding move_of
   of_rule = go (s.centre =? centre)
     where
       go : (same : Bool)
-          → (if same then Moved s otherwise move_by b setting s centre (motion_of b s.centre s.moment) (motion_of b centre s.moment)) ≡ Moved next
+          → (if same then Ok s otherwise move_by b setting s centre (motion_of b s.centre s.moment) (motion_of b centre s.moment)) ≡ Ok next
           → (same ≡ false → stored_is_rule b setting next ≡ true) × (same ≡ true → next ≡ s)
       go true e = (λ z. absurd (true≢false z), λ z. cc)
       go false e = (λ z. by_seen (motion_of b s.centre s.moment) (motion_of b centre s.moment) e, λ z. absurd (true≢false (sym z)))
 
-  pub move_is_rule : move_answer b setting s centre ≡ Moved next
+  pub move_is_rule : move_answer b setting s centre ≡ Ok next
       → ((s.centre =? centre) ≡ false → stored_is_rule b setting next ≡ true) × ((s.centre =? centre) ≡ true → next ≡ s)
   unfolding move_answer
   move_is_rule = go (move_refusal b setting s centre =? 0)
     where
-      go : (none : Bool) → (if none then move_of b setting s centre otherwise Refused (move_refusal b setting s centre)) ≡ Moved next
+      go : (none : Bool) → (if none then move_of b setting s centre otherwise Err (move_refusal b setting s centre)) ≡ Ok next
           → ((s.centre =? centre) ≡ false → stored_is_rule b setting next ≡ true) × ((s.centre =? centre) ≡ true → next ≡ s)
       go true e = of_rule e
       go false e = let z : ◌≡◌ {A = ℕ} 0 1 = cc in absurd (omega arith)

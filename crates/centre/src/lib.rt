@@ -8,26 +8,13 @@ ghost use Rattle.book.specs.Passes.{passes};
 ghost use Rattle.gravity.specs.Acceleration.{at_rest};
 ghost use Rattle.centre.specs.Move.{motion_of, moved_by, kept_or7, move_by, move_of, move_refusal, move_answer};
 
+use base::Refusal;
 use base::{END_OF_TIME, both};
-use book::{Lookup, Motion, Place, Velocity};
+use book::{Motion, Place, Velocity};
 use centre_shift::shifted_state;
-use gravity_stored::InjectionAnswer;
 use gravity_stored::inner::kept_at;
 use state::{Injection, Setting, State};
 use state_checks::common_refusal;
-
-#[derive(Clone, Copy)]
-pub enum MoveAnswer {
-    Moved(State),
-    Refused(u64),
-}
-
-// The position and velocity of a body, seen from the Earth, if an entry covers the moment.
-#[derive(Clone, Copy)]
-pub enum Seen {
-    Covered(Motion),
-    Uncovered,
-}
 
 // The Earth is at rest and needs no cover.
 fn at_rest() -> Motion
@@ -46,31 +33,31 @@ fn at_rest() -> Motion
     Motion { place, velocity }
 }
 
-fn motion_of(book: &[u8], number: u64, moment: u64) -> Seen
+fn motion_of(book: &[u8], number: u64, moment: u64) -> Option<Motion>
     requires { passes book.now ≡ true }
     ensures { result ≡ motion_of book.now number moment }
 {
     if number == 1 {
-        return Seen::Covered(at_rest());
+        return Some(at_rest());
     }
-    let Lookup::Entry(entry) = book::inner::lookup_guessed(book, number, moment, 0) else {
-        return Seen::Uncovered;
+    let Some(entry) = book::inner::lookup_guessed(book, number, moment, 0) else {
+        return None;
     };
     let place = book::inner::place_at(book, entry, moment);
     let velocity = book::inner::velocity_at(book, entry, moment);
-    Seen::Covered(Motion { place, velocity })
+    Some(Motion { place, velocity })
 }
 
-fn moved_by(answer: InjectionAnswer) -> MoveAnswer
+fn moved_by(answer: Result<State, Refusal>) -> Result<State, Refusal>
     ensures { result ≡ moved_by answer }
 {
     match answer {
-        InjectionAnswer::Injected(s) => MoveAnswer::Moved(s),
-        InjectionAnswer::Refused(k) => MoveAnswer::Refused(k),
+        Ok(s) => Ok(s),
+        Err(k) => Err(k),
     }
 }
 
-fn kept_or_7(book: &[u8], setting: Setting, i: Injection) -> MoveAnswer
+fn kept_or_7(book: &[u8], setting: Setting, i: Injection) -> Result<State, Refusal>
     requires { (passes book.now ≡ true) × (centre_allowed setting i.centre ≡ true) }
     ensures { result ≡ kept_or7 book.now setting i }
 {
@@ -78,31 +65,31 @@ fn kept_or_7(book: &[u8], setting: Setting, i: Injection) -> MoveAnswer
         let answer = kept_at(book, setting, i);
         return moved_by(answer);
     }
-    MoveAnswer::Refused(7)
+    Err(Refusal::NotFinite)
 }
 
 // Both centres must have cover before anything is computed.
-fn move_by(book: &[u8], setting: Setting, s: State, centre: u64, from: Seen, to: Seen) -> MoveAnswer
+fn move_by(book: &[u8], setting: Setting, s: State, centre: u64, from: Option<Motion>, to: Option<Motion>) -> Result<State, Refusal>
     requires { (passes book.now ≡ true) × (centre_allowed setting centre ≡ true) }
     ensures { result ≡ move_by book.now setting s centre from to }
 {
-    let Seen::Covered(old) = from else {
-        return MoveAnswer::Refused(6);
+    let Some(old) = from else {
+        return Err(Refusal::Cover);
     };
-    let Seen::Covered(new) = to else {
-        return MoveAnswer::Refused(6);
+    let Some(new) = to else {
+        return Err(Refusal::Cover);
     };
     kept_or_7(book, setting, shifted_state(s, centre, old, new))
 }
 
 // The move itself. The book is known to pass, and the new centre is a used body. If the centre stays the same,
 // nothing is looked up.
-fn moved(book: &[u8], setting: Setting, s: State, centre: u64) -> MoveAnswer
+fn moved(book: &[u8], setting: Setting, s: State, centre: u64) -> Result<State, Refusal>
     requires { (passes book.now ≡ true) × (centre_allowed setting centre ≡ true) }
     ensures { result ≡ move_of book.now setting s centre }
 {
     if s.centre == centre {
-        return MoveAnswer::Moved(s);
+        return Ok(s);
     }
     let from = motion_of(book, s.centre, s.moment);
     let to = motion_of(book, centre, s.moment);
@@ -126,12 +113,12 @@ fn move_refusal(book: &[u8], setting: Setting, s: State, centre: u64) -> u64
 }
 
 // The state about another centre: its position and velocity minus those of the new centre, seen from the old.
-pub fn move_to(book: &[u8], setting: Setting, state: State, centre: u64) -> MoveAnswer
+pub fn move_to(book: &[u8], setting: Setting, state: State, centre: u64) -> Result<State, Refusal>
     ensures { result ≡ move_answer book.now setting state centre }
 {
     let refusal = move_refusal(book, setting, state, centre);
     if refusal == 0 {
         return moved(book, setting, state, centre);
     }
-    MoveAnswer::Refused(refusal)
+    Err(refusal)
 }

@@ -4,6 +4,8 @@ use mathlib.Core.Path.{◌≡◌, refl, sym, ap, ◌∙◌}
 use Prim.Native.Nat.{ℕ, zero, suc, ◌+◌, ◌-◌, ◌*◌, ◌/◌, ◌≤◌}
 use native.Mathlib.Nat.{mul-div_cancel, zero-mul, zero-div}
 use native.Mathlib.Omega.{arith}
+use Rattle.base.specs.declared.Refusal.{Refusal}
+use Rattle.std.specs.Prelude.{Result, Ok, Err}
 use Rattle.state.specs.declared.State.{State}
 use Rattle.state.specs.declared.Setting.{Setting}
 use Rattle.run_checks.specs.Start.{start_refusal}
@@ -16,8 +18,6 @@ use Rattle.run.proofs.Walks.{walk_none}
 use Rattle.run_laws.specs.Journey.{Call, journey, after, Holds, AllHold}
 use Rattle.run_laws.proofs.Portions.{portions}
 use Rattle.centre.specs.Move.{move_answer}
-use Rattle.centre.specs.declared.MoveAnswer.{MoveAnswer}
-use Rattle.centre.specs.declared.MoveAnswer.TheVariants as answer
 use Rattle.centre_laws.specs.Legs.{Move, Leg, move_after, moves_of, as_step, walk_to, moving, walk_with_moves, MoveStands, MovesStand, none, one, MayFly, Flown, no_leg, leg, LegHolds, MoveRefused}
 use Rattle.centre_laws.proofs.Moved.{move_keeps}
 
@@ -91,7 +91,7 @@ module _ (b : List ℕ) (setting : Setting) (h : ℕ) where
   stand_walked s last moves (none s') = refl
   stand_walked s last moves (one s' next last' move rest stands later) =
       ap (λ (m : Moved). onward (walk_with_moves b setting h rest) (onward (moving b setting h move) m)) stands.walked
-      ∙ ap (λ (m : MoveAnswer). onward (walk_with_moves b setting h rest) (as_step m)) stands.moved
+      ∙ ap (λ (m : Result State Refusal). onward (walk_with_moves b setting h rest) (as_step m)) stands.moved
       ∙ stand_walked next last rest later
 
   pub one_more_stands : (s from next : State) (moves : List Move) (move : Move) → MovesStand b setting h s moves from → MoveStands b setting h from move next
@@ -101,7 +101,7 @@ module _ (b : List ℕ) (setting : Setting) (h : ℕ) where
       one s then next first (rest ++ (move ∷ [])) here (one_more_stands then from next rest move later stands)
 
   -- a move made at the state of the walk
-  pub stands_there : (s before next : State) (centre : ℕ) → walk_to b setting h before.moment s ≡ On before → move_answer b setting before centre ≡ answer.Moved next
+  pub stands_there : (s before next : State) (centre : ℕ) → walk_to b setting h before.moment s ≡ On before → move_answer b setting before centre ≡ Ok next
       → MoveStands b setting h s (record { at = before.moment; centre = centre }) next
   stands_there s before next centre walked moved =
       let keeps = move_keeps b setting before centre next moved in
@@ -110,7 +110,7 @@ module _ (b : List ℕ) (setting : Setting) (h : ℕ) where
   -- ---- legs
 
   leg_stands : (s next : State) (l : Leg) → MayFly b setting h s l.target l.calls → (after b setting h l.target s l.calls).moment ≡ l.target
-      → move_answer b setting (after b setting h l.target s l.calls) l.centre ≡ answer.Moved next → MoveStands b setting h s (move_after l) next
+      → move_answer b setting (after b setting h l.target s l.calls) l.centre ≡ Ok next → MoveStands b setting h s (move_after l) next
   leg_stands s next l may at moved =
       let before = after b setting h l.target s l.calls in
       let keeps = move_keeps b setting before l.centre next moved in
@@ -145,7 +145,7 @@ module _ (b : List ℕ) (setting : Setting) (h : ℕ) where
   -- a move that is refused
   pub refused_move : (injection from : State) (before : List Leg) (l : Leg) (k : ℕ) → Flown b setting h injection before from
       → MayFly b setting h from l.target l.calls → (after b setting h l.target from l.calls).moment ≡ l.target
-      → move_answer b setting (after b setting h l.target from l.calls) l.centre ≡ answer.Refused k → MoveRefused b setting h injection before l k
+      → move_answer b setting (after b setting h l.target from l.calls) l.centre ≡ Err k → MoveRefused b setting h injection before l k
   refused_move injection from before l k flown may at refused =
       let walked = stand_walked injection from (moves_of before) (flown_stand injection from before flown) in
       let there = arrive l.target from l.calls may at in

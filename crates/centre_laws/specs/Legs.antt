@@ -1,5 +1,6 @@
 -- Demand 3, as document 02's R-6 reads it: "walks in which moves stand at named moments, each the target of the calls before it".
-use Rattle.std.specs.Prelude.{List, [], ◌∷◌, ◌++◌, ◌≡◌, ℕ, ◌-◌, ◌/◌}
+use Rattle.base.specs.declared.Refusal.{Refusal}
+use Rattle.std.specs.Prelude.{List, [], ◌∷◌, ◌++◌, ◌≡◌, ℕ, ◌-◌, ◌/◌, Result, Ok, Err}
 use Rattle.state.specs.declared.State.{State}
 use Rattle.state.specs.declared.Setting.{Setting}
 use Rattle.run_checks.specs.Start.{start_refusal}
@@ -7,8 +8,6 @@ use Rattle.run.specs.Step.{Moved, On, Off, step}
 use Rattle.run.specs.Walk.{onward, walk}
 use Rattle.run_laws.specs.Journey.{Call, journey, after, AllHold}
 use Rattle.centre.specs.Move.{move_answer}
-use Rattle.centre.specs.declared.MoveAnswer.{MoveAnswer}
-use Rattle.centre.specs.declared.MoveAnswer.TheVariants as answer
 
 -- a move at a named moment
 pub record Move : Type 0 where
@@ -29,9 +28,9 @@ moves_of [] = []
 moves_of (leg ∷ legs) = move_after leg ∷ moves_of legs
 
 -- a move as a step of the walk: the moved state, or the number of its refusal
-abbrev pub as_step : MoveAnswer → Moved
-as_step (answer.Moved s) = On s
-as_step (answer.Refused k) = Off k
+abbrev pub as_step : Result State Refusal → Moved
+as_step (Ok s) = On s
+as_step (Err k) = Off k
 
 module _ (b : List ℕ) (setting : Setting) (h : ℕ) where
   -- the plain walk, step by step, to a moment
@@ -51,7 +50,7 @@ module _ (b : List ℕ) (setting : Setting) (h : ℕ) where
     pub before : State
     pub walked : walk_to move.at s ≡ On before
     pub at : before.moment ≡ move.at
-    pub moved : move_answer b setting before move.centre ≡ answer.Moved next
+    pub moved : move_answer b setting before move.centre ≡ Ok next
     pub moment : next.moment ≡ move.at
     pub centre : next.centre ≡ move.centre
 
@@ -73,7 +72,7 @@ module _ (b : List ℕ) (setting : Setting) (h : ℕ) where
     no_leg : (s : State) → Flown s [] s
     leg : (s next last : State) (l : Leg) (legs : List Leg) → MayFly s l.target l.calls
         → (after b setting h l.target s l.calls).moment ≡ l.target
-        → move_answer b setting (after b setting h l.target s l.calls) l.centre ≡ answer.Moved next
+        → move_answer b setting (after b setting h l.target s l.calls) l.centre ≡ Ok next
         → Flown next legs last → Flown s (l ∷ legs) last
 
   -- the calls of a leg that follows these legs: they start from the state that the plain walk with its moves reaches. Each move of that

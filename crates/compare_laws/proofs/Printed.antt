@@ -12,6 +12,8 @@ use lib.Ieee.{Float, binary64, fits, of_bits}
 use lib.Ieee.Bits.{of_bits-fits}
 use lib.Ieee.Fits.{add-fits}
 use lib.Ieee.Scale.{finite}
+use Rattle.base.specs.declared.Refusal.{Refusal}
+use Rattle.std.specs.Prelude.{Result, Ok, Err}
 use Rattle.base.specs.Choice.{if◌then◌otherwise◌}
 use Rattle.base.specs.Limits.{end_of_time}
 use Rattle.state.specs.State.{position, velocity, acceleration, injection_at, carrying, bare, finite_vector, finite_state}
@@ -20,8 +22,6 @@ use Rattle.state.specs.declared.State.{State}
 use Rattle.state.specs.declared.Injection.{Injection}
 use Rattle.state.specs.declared.Setting.{Setting}
 use Rattle.gravity.specs.Acceleration.{acceleration_at}
-use Rattle.gravity.specs.declared.AccelerationAnswer.{AccelerationAnswer}
-use Rattle.gravity.specs.declared.AccelerationAnswer.TheVariants.{Is, Refused}
 use Rattle.gravity_stored.specs.Injection.{kept_by, launched}
 use Rattle.gravity_stored.proofs.Launched.{launched_bare}
 use Rattle.run_checks.specs.Start.{start_refusal}
@@ -61,25 +61,25 @@ pub record Fits (s : Injection) : Type 0 where
   pub vy : T (fits binary64 s.vy)
   pub vz : T (fits binary64 s.vz)
 
-kept_fits : (i : Injection) (q : AccelerationAnswer) (next : State) → Fits i → moved_by (kept_by i q) ≡ On next → Fits (bare next)
-kept_fits i (Is a) next f e = let is : carrying i a ≡ next = cc in subst (λ (s : State). Fits (bare s)) is f
-kept_fits i (Refused k) next f e = let z : ◌≡◌ {A = ℕ} 0 1 = cc in absurd (omega arith)
+kept_fits : (i : Injection) (q : Result Vector Refusal) (next : State) → Fits i → moved_by (kept_by i q) ≡ On next → Fits (bare next)
+kept_fits i (Ok a) next f e = let is : carrying i a ≡ next = cc in subst (λ (s : State). Fits (bare s)) is f
+kept_fits i (Err k) next f e = let z : ◌≡◌ {A = ℕ} 0 1 = cc in absurd (omega arith)
 
-arrived_fits : (acc : ℕ → Vector → AccelerationAnswer) (t o : ℕ) (b : Vector) (f : Float) (d c : Vector) (g : Float) (e : Vector) (next : State)
+arrived_fits : (acc : ℕ → Vector → Result Vector Refusal) (t o : ℕ) (b : Vector) (f : Float) (d c : Vector) (g : Float) (e : Vector) (next : State)
     → arrive (keeping acc) t o (along b f d) (along c g e) ≡ On next → Fits (bare next)
 unfolding along
 arrived_fits acc t o b f d c g e next = go (finite_vector (along b f d) && finite_vector (along c g e))
   where
-    go : (ok : Bool) → (if ok then keeping acc (injection_at t o (along b f d) (along c g e)) otherwise Off 7) ≡ On next → Fits (bare next)
+    go : (ok : Bool) → (if ok then keeping acc (injection_at t o (along b f d) (along c g e)) otherwise Off Refusal.NotFinite) ≡ On next → Fits (bare next)
     go true q =
         kept_fits (injection_at t o (along b f d) (along c g e)) (acc t (along b f d)) next
         (record { x = add-fits binary64 _ _; y = add-fits binary64 _ _; z = add-fits binary64 _ _; vx = add-fits binary64 _ _; vy = add-fits binary64 _ _; vz = add-fits binary64 _ _ })
         q
     go false q = let z : ◌≡◌ {A = ℕ} 0 1 = cc in absurd (omega arith)
 
-peel : (q : AccelerationAnswer) (rest : Vector → Moved) (next : State) → ((a : Vector) → rest a ≡ On next → Fits (bare next)) → and_then q rest ≡ On next → Fits (bare next)
-peel (Is a) rest next k e = k a e
-peel (Refused n) rest next k e = let z : ◌≡◌ {A = ℕ} 0 1 = cc in absurd (omega arith)
+peel : (q : Result Vector Refusal) (rest : Vector → Moved) (next : State) → ((a : Vector) → rest a ≡ On next → Fits (bare next)) → and_then q rest ≡ On next → Fits (bare next)
+peel (Ok a) rest next k e = k a e
+peel (Err n) rest next k e = let z : ◌≡◌ {A = ℕ} 0 1 = cc in absurd (omega arith)
 
 step_fits : (b : List ℕ) (setting : Setting) (h : ℕ) (s next : State) → step b setting h s ≡ On next → Fits (bare next)
 unfolding step

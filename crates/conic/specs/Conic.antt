@@ -1,5 +1,7 @@
 -- Document 01, "Earth-fixed turn and conic", and document 02, R-6: the figures of the conic for a centre coefficient m, and their refusals.
-use Rattle.std.specs.Prelude.{not, ◌&&◌, ℕ, Float}
+use Rattle.base.specs.declared.Refusal.{Refusal}
+use Rattle.conic.specs.declared.CentredConic.{CentredConic}
+use Rattle.std.specs.Prelude.{not, ◌&&◌, ℕ, Float, Result, Ok, Err}
 use Rattle.std.specs.Float.Ieee.Scale.{finite}
 use Rattle.base.specs.Choice.{if◌then◌otherwise◌, ◌=?◌}
 use Rattle.base.specs.Floats.{above0, below0}
@@ -7,8 +9,6 @@ use Rattle.state.specs.declared.State.{State}
 use Rattle.state.specs.State.{finite_state, is_body}
 use Rattle.conic.specs.declared.Conic.{Conic}
 use Rattle.conic.specs.declared.Conic.TheVariants.{Ellipse, Hyperbola}
-use Rattle.conic.specs.declared.ConicAnswer.{ConicAnswer}
-use Rattle.conic.specs.declared.ConicAnswer.TheVariants.{Figures, Refused}
 use Rattle.conic_checks.specs.declared.Orbit.{Orbit}
 unfoldable pub use Rattle.conic_checks.specs.Refusal.{unfit, ◌before◌, refusal}
 unfoldable pub use Rattle.conic_formulas.specs.Orbit.{cross, eccentricity, last_figure, orbit}
@@ -20,17 +20,17 @@ conic_of o =
     Hyperbola o.a o.e o.p o.q o.last
 
 -- "A conic answer names its centre and holds one kind"; R-6: the state's own centre
-unfoldable pub orbit_answer : ℕ → Orbit → ConicAnswer
+unfoldable pub orbit_answer : ℕ → Orbit → Result CentredConic Refusal
 orbit_answer centre o =
-    if refusal o =? 0 then Figures (record { centre = centre; conic = conic_of o }) otherwise
-    Refused (refusal o)
+    if refusal o =? 0 then Ok (record { centre = centre; conic = conic_of o }) otherwise
+    Err (refusal o)
 
 -- "4 (m not finite or not above 0), 7 (state), then" the figures; R-6: a centre outside 1 to 6 is 14, "directly after 4"
-unfoldable pub figures_about : Float → State → ConicAnswer
+unfoldable pub figures_about : Float → State → Result CentredConic Refusal
 figures_about m state =
-    if not (is_body state.centre) then Refused 14 otherwise
-    if not (finite_state state) then Refused 7 otherwise
+    if not (is_body state.centre) then Err Refusal.Centre otherwise
+    if not (finite_state state) then Err Refusal.NotFinite otherwise
     orbit_answer state.centre (orbit m state)
 
-unfoldable pub conic_answer : Float → State → ConicAnswer
-conic_answer m state = if not (finite m && above0 m) then Refused 4 otherwise figures_about m state
+unfoldable pub conic_answer : Float → State → Result CentredConic Refusal
+conic_answer m state = if not (finite m && above0 m) then Err Refusal.Setting otherwise figures_about m state

@@ -5,6 +5,7 @@
 ghost use Rattle.std.specs.Prelude.{◌≡◌};
 ghost use Rattle.conic.specs.Conic.{conic_of, orbit_answer, figures_about, conic_answer};
 
+use base::Refusal;
 use conic_checks::{Orbit, refusal_of};
 use conic_formulas::orbit_of;
 use state::State;
@@ -33,12 +34,6 @@ pub struct CentredConic {
     pub conic: Conic,
 }
 
-#[derive(Clone, Copy)]
-pub enum ConicAnswer {
-    Figures(CentredConic),
-    Refused(u64),
-}
-
 fn conic_of(o: Orbit) -> Conic
     ensures { result ≡ conic_of o }
 {
@@ -60,30 +55,30 @@ fn conic_of(o: Orbit) -> Conic
     }
 }
 
-fn answer_of(centre: u64, o: Orbit) -> ConicAnswer
+fn answer_of(centre: u64, o: Orbit) -> Result<CentredConic, Refusal>
     ensures { result ≡ orbit_answer centre o }
 {
     let number = refusal_of(o);
     if number == 0 {
         let conic = conic_of(o);
-        return ConicAnswer::Figures(CentredConic { centre, conic });
+        return Ok(CentredConic { centre, conic });
     }
-    ConicAnswer::Refused(number)
+    Err(number)
 }
 
-fn figures_about(m: f64, state: State) -> ConicAnswer
+fn figures_about(m: f64, state: State) -> Result<CentredConic, Refusal>
     ensures { result ≡ figures_about m state }
 {
     if state::is_body(state.centre) {
         if state::state_is_finite(state) {
             return answer_of(state.centre, orbit_of(m, state));
         }
-        return ConicAnswer::Refused(7);
+        return Err(Refusal::NotFinite);
     }
-    ConicAnswer::Refused(14)
+    Err(Refusal::Centre)
 }
 
-pub fn conic_figures(m: f64, state: State) -> ConicAnswer
+pub fn conic_figures(m: f64, state: State) -> Result<CentredConic, Refusal>
     ensures { result ≡ conic_answer m state }
 {
     if base::is_finite(m) {
@@ -91,5 +86,5 @@ pub fn conic_figures(m: f64, state: State) -> ConicAnswer
             return figures_about(m, state);
         }
     }
-    ConicAnswer::Refused(4)
+    Err(Refusal::Setting)
 }

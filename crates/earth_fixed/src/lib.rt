@@ -3,12 +3,11 @@
 #![tactic(auto)]
 
 ghost use Rattle.std.specs.Prelude.{◌≡◌};
-ghost use Rattle.hour.specs.declared.HourAnswer.TheVariants.{Parts};
 ghost use Rattle.hour.specs.Hour.{sidereal_answer};
 ghost use Rattle.earth_fixed.specs.Fixed.{turned, finite_fixed, finite_answer, after_hour, fixed_answer};
 
+use base::Refusal;
 use earth_rotation::inner::{rate_on, table_on, table_times};
-use hour::HourAnswer;
 use state::{State, Vector};
 
 // Position in km and velocity in km/s, in axes that turn with the Earth.
@@ -20,12 +19,6 @@ pub struct EarthFixed {
     pub vx: f64,
     pub vy: f64,
     pub vz: f64,
-}
-
-#[derive(Clone, Copy)]
-pub enum FixedAnswer {
-    Fixed(EarthFixed),
-    Refused(u64),
 }
 
 fn turned_state(table: [[f64; 3]; 3], w: f64, state: State) -> EarthFixed
@@ -62,8 +55,8 @@ fn fixed_is_finite(f: EarthFixed) -> bool
     false
 }
 
-fn fixed_at(rule: u64, dut: u32, state: State, parts: u64) -> FixedAnswer
-    requires { sidereal_answer rule state.moment dut ≡ Parts parts }
+fn fixed_at(rule: u64, dut: u32, state: State, parts: u64) -> Result<EarthFixed, Refusal>
+    requires { sidereal_answer rule state.moment dut ≡ Ok parts }
     ensures { result ≡ finite_answer rule dut state }
 {
     if state::state_is_finite(state) {
@@ -71,33 +64,33 @@ fn fixed_at(rule: u64, dut: u32, state: State, parts: u64) -> FixedAnswer
         let w = rate_on(rule, state.moment, dut, parts);
         let fixed = turned_state(table, w, state);
         if fixed_is_finite(fixed) {
-            return FixedAnswer::Fixed(fixed);
+            return Ok(fixed);
         }
     }
-    FixedAnswer::Refused(7)
+    Err(Refusal::NotFinite)
 }
 
 // (02, R-6) Only a state about the Earth has Earth-fixed coordinates.
-pub fn earth_fixed(rule: u64, dut: u32, state: State) -> FixedAnswer
+pub fn earth_fixed(rule: u64, dut: u32, state: State) -> Result<EarthFixed, Refusal>
     ensures { result ≡ fixed_answer rule dut state }
 {
     if base::LONGEST_DUT < dut {
-        return FixedAnswer::Refused(4);
+        return Err(Refusal::Setting);
     }
     if hour::LAST_RULE < rule {
-        return FixedAnswer::Refused(4);
+        return Err(Refusal::Setting);
     }
     if state.centre == 1 {
         return after_hour(rule, dut, state);
     }
-    FixedAnswer::Refused(14)
+    Err(Refusal::Centre)
 }
 
-fn after_hour(rule: u64, dut: u32, state: State) -> FixedAnswer
+fn after_hour(rule: u64, dut: u32, state: State) -> Result<EarthFixed, Refusal>
     ensures { result ≡ after_hour (sidereal_answer rule state.moment dut) (finite_answer rule dut state) }
 {
     match hour::sidereal(rule, state.moment, dut) {
-        HourAnswer::Parts(parts) => fixed_at(rule, dut, state, parts),
-        HourAnswer::Refused(number) => FixedAnswer::Refused(number),
+        Ok(parts) => fixed_at(rule, dut, state, parts),
+        Err(number) => Err(number),
     }
 }

@@ -3,7 +3,6 @@
 
 ghost use Rattle.std.specs.Prelude.{◌≡◌, ◌≤◌};
 ghost use Rattle.base.specs.Limits.{last_day};
-ghost use Rattle.hour.specs.declared.HourAnswer.TheVariants.{Parts};
 ghost use Rattle.hour.specs.Hour.{sidereal_answer};
 ghost use Rattle.earth_rotation.specs.Rotation.{turn, row_times, times, row_product, product, rate, rotation};
 
@@ -81,7 +80,7 @@ fn turning_rate(d: u64) -> f64
 }
 
 pub fn table_on(rule: u64, moment: u64, dut: u32, parts: u64) -> [[f64; 3]; 3]
-    requires { sidereal_answer rule moment dut ≡ Parts parts }
+    requires { sidereal_answer rule moment dut ≡ Ok parts }
     ensures { result ≡ (rotation rule moment dut).table }
 {
     let of = sine::inner::of_parts(parts);
@@ -89,7 +88,7 @@ pub fn table_on(rule: u64, moment: u64, dut: u32, parts: u64) -> [[f64; 3]; 3]
 }
 
 pub fn rate_on(rule: u64, moment: u64, dut: u32, parts: u64) -> f64
-    requires { sidereal_answer rule moment dut ≡ Parts parts }
+    requires { sidereal_answer rule moment dut ≡ Ok parts }
     ensures { result ≡ (rotation rule moment dut).w }
 {
     let ut = moment - dut as u64;

@@ -5,10 +5,7 @@
 
 ghost use Rattle.std.specs.Prelude.{◌≤◌, ◌<◌, length};
 
-use calendar::{Calendar, DateAnswer, DayAnswer, JulianAnswer};
-use hour::HourAnswer;
-use root::RootAnswer;
-use sine::SineCosineAnswer;
+use calendar::Calendar;
 use std::io;
 use text_write::{Bits, Field};
 
@@ -44,12 +41,12 @@ fn date(rt: &impl Print, day: u64) -> io::Result<()> {
     print!(rt; "date {day}")?;
     let answer = Calendar::from_day(day);
     match answer {
-        DateAnswer::Date(d) => {
+        Ok(d) => {
             say_number(rt, d.year)?;
             say_number(rt, d.month)?;
             say_number(rt, d.day)?;
         }
-        DateAnswer::Refused(number) => say_refused(rt, number)?,
+        Err(number) => say_refused(rt, number)?,
     }
     say(rt, "\n")
 }
@@ -58,8 +55,8 @@ fn day(rt: &impl Print, year: u64, month: u64, of_month: u64) -> io::Result<()> 
     print!(rt; "day {year} {month} {of_month}")?;
     let answer = Calendar::from_date(year, month, of_month);
     match answer {
-        DayAnswer::Day(n) => say_number(rt, n)?,
-        DayAnswer::Refused(number) => say_refused(rt, number)?,
+        Ok(n) => say_number(rt, n)?,
+        Err(number) => say_refused(rt, number)?,
     }
     say(rt, "\n")
 }
@@ -68,8 +65,8 @@ fn julian(rt: &impl Print, day: u64) -> io::Result<()> {
     print!(rt; "julian {day}")?;
     let answer = Calendar::twice_julian_date(day);
     match answer {
-        JulianAnswer::Twice(n) => say_number(rt, n)?,
-        JulianAnswer::Refused(number) => say_refused(rt, number)?,
+        Ok(n) => say_number(rt, n)?,
+        Err(number) => say_refused(rt, number)?,
     }
     say(rt, "\n")
 }
@@ -78,8 +75,8 @@ fn hour_of(rt: &impl Print, moment: u64, dut: u32) -> io::Result<()> {
     print!(rt; "hour {moment} {dut}")?;
     let answer = hour::hour_angle(moment, dut);
     match answer {
-        HourAnswer::Parts(parts) => say_number(rt, parts)?,
-        HourAnswer::Refused(number) => say_refused(rt, number)?,
+        Ok(parts) => say_number(rt, parts)?,
+        Err(number) => say_refused(rt, number)?,
     }
     say(rt, "\n")
 }
@@ -88,11 +85,11 @@ fn angle(rt: &impl Print, parts: u64) -> io::Result<()> {
     print!(rt; "sincos {parts}")?;
     let answer = sine::sine_cosine(parts);
     match answer {
-        SineCosineAnswer::Both(both) => {
+        Ok(both) => {
             say_float(rt, both.sine)?;
             say_float(rt, both.cosine)?;
         }
-        SineCosineAnswer::Refused(number) => say_refused(rt, number)?,
+        Err(number) => say_refused(rt, number)?,
     }
     say(rt, "\n")
 }
@@ -100,8 +97,8 @@ fn angle(rt: &impl Print, parts: u64) -> io::Result<()> {
 fn root_of(rt: &impl Print, bits: u64) -> io::Result<()> {
     let answer = root::root(text_write::float_of_bits(bits));
     match answer {
-        RootAnswer::Value(y) => say_float(rt, y),
-        RootAnswer::Refused(number) => say_refused(rt, number),
+        Ok(y) => say_float(rt, y),
+        Err(number) => say_refused(rt, number),
     }
 }
 

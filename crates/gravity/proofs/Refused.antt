@@ -3,6 +3,8 @@ use mathlib.Core.Bool.{Bool, true, ◌&&◌}
 use mathlib.Core.List.{List, [], ◌∷◌}
 use mathlib.Core.Path.{◌≡◌, refl}
 use Prim.Native.Nat.{ℕ}
+use Rattle.book.specs.declared.Motion.{Motion}
+use Rattle.std.specs.Prelude.{Result, Ok, Err}
 use Rattle.base.specs.Choice.{◌=?◌}
 use Rattle.base.specs.Checks.{Answer, Accepted, refused_by}
 use Rattle.base.specs.Checks as base
@@ -12,28 +14,24 @@ use Rattle.state.specs.State.{finite_vector, centre_allowed, looked_up}
 use Rattle.state.specs.declared.Vector.{Vector}
 use Rattle.state.specs.declared.Setting.{Setting}
 use Rattle.state_checks.proofs.Numbers.{common_meets}
-use Rattle.book.specs.declared.PositionAnswer.{PositionAnswer}
-use Rattle.book.specs.declared.PositionAnswer.TheVariants as position
 use Rattle.book.proofs.Refused as book
 use Rattle.gravity_pull.specs.Pull.{minus, negated, g, sound}
 use Rattle.gravity_bodies.specs.Sky.{Body, Sky, Bodies, Refusal, Listed, bodies_of, stands, place_of, seen, sky_of, sky}
 use Rattle.gravity.specs.Acceleration.{last_terms, last_sound, View, view_from, less, all_sound, settled, rule, seen_then, acceleration_at, acceleration_answer}
-use Rattle.gravity.specs.declared.AccelerationAnswer.{AccelerationAnswer}
-use Rattle.gravity.specs.declared.AccelerationAnswer.TheVariants.{Is, Refused}
 
-abbrev pub as_answer : AccelerationAnswer → Answer Vector
-as_answer (Is a) = Accepted a
-as_answer (Refused k) = base.Refused k
+abbrev pub as_answer : Result Vector Refusal → Answer Vector
+as_answer (Ok a) = Accepted a
+as_answer (Err k) = base.Refused k
 
 abbrev sky_by : (ℕ → Bool) → Sky → Bool
 sky_by ok (Bodies bodies) = true
 sky_by ok (Refusal k) = ok k
 
 module _ (ok : ℕ → Bool) (six : ok 6 ≡ true) (seven : ok 7 ≡ true) where
-  seen_refused : (body : Listed) (p : PositionAnswer) (later : Sky) → refused_by ok (book.as_answer p) ≡ true → sky_by ok later ≡ true → sky_by ok (seen body p later) ≡ true
-  seen_refused body (position.At R) (Bodies later) first rest = refl
-  seen_refused body (position.At R) (Refusal k) first rest = rest
-  seen_refused body (position.Refused k) later first rest = first
+  seen_refused : (body : Listed) (p : Result Motion Refusal) (later : Sky) → refused_by ok (book.as_answer p) ≡ true → sky_by ok later ≡ true → sky_by ok (seen body p later) ≡ true
+  seen_refused body (Ok R) (Bodies later) first rest = refl
+  seen_refused body (Ok R) (Refusal k) first rest = rest
+  seen_refused body (Err k) later first rest = first
 
   stands_refused : (b : List ℕ) (number t : ℕ) → refused_by ok (book.as_answer (stands b number t)) ≡ true
   stands_refused b number t = by_if (λ x. refused_by ok (book.as_answer x)) (number =? 1) refl (book.body_refused ok six seven b number t)
@@ -56,7 +54,7 @@ module _ (ok : ℕ → Bool) (six : ok 6 ≡ true) (seven : ok 7 ≡ true) where
       settled_refused sofar (last_terms s Q S (less P (negated (g P view.m)) view.bodies))
 
   -- after the bodies are looked up there is no other refusal
-  then_refused : (f : List Body → AccelerationAnswer) → ((bodies : List Body) → refused_by ok (as_answer (f bodies)) ≡ true) → (bodies : Sky) → sky_by ok bodies ≡ true
+  then_refused : (f : List Body → Result Vector Refusal) → ((bodies : List Body) → refused_by ok (as_answer (f bodies)) ≡ true) → (bodies : Sky) → sky_by ok bodies ≡ true
       → refused_by ok (as_answer (seen_then f bodies)) ≡ true
   then_refused f each (Bodies bodies) e = each bodies
   then_refused f each (Refusal k) e = e
@@ -74,5 +72,5 @@ module _ (ok : ℕ → Bool) (six : ok 6 ≡ true) (seven : ok 7 ≡ true) where
       → refused_by ok (as_answer (acceleration_answer b s c t P)) ≡ true
   unfolding acceleration_answer
   acceleration_refused one four fourteen three b s c t P =
-      common_meets (λ x. refused_by ok (as_answer x)) Refused (acceleration_at b s c t P) one four fourteen three seven (rule_refused b s c t P) b s (centre_allowed s c) (is_moment t)
+      common_meets (λ x. refused_by ok (as_answer x)) Err (acceleration_at b s c t P) one four fourteen three seven (rule_refused b s c t P) b s (centre_allowed s c) (is_moment t)
       (finite_vector P)

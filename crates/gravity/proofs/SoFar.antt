@@ -2,13 +2,12 @@
 use mathlib.Core.Bool.{Bool, ◌&&◌}
 use mathlib.Core.Path.{◌≡◌, refl}
 use Prim.Native.Nat.{ℕ}
+use Rattle.std.specs.Prelude.{Result, Err}
 use Rattle.state.specs.State.{coefficient_of}
 use Rattle.state.specs.declared.Vector.{Vector}
 use Rattle.state.specs.declared.Setting.{Setting}
 use Rattle.gravity_pull.specs.Pull.{minus, negated, g, sound}
 use Rattle.gravity.specs.Acceleration.{Sky, Bodies, Refusal, nowhere, last_terms, last_sound, others, view_from, less, all_sound, settled, rule, seen_then}
-use Rattle.gravity.specs.declared.AccelerationAnswer.{AccelerationAnswer}
-use Rattle.gravity.specs.declared.AccelerationAnswer.TheVariants.{Refused}
 
 -- the bodies other than the centre, seen from it
 abbrev pub from_centre : ℕ → Vector → Sky → Sky
@@ -16,9 +15,9 @@ from_centre centre C (Bodies bodies) = Bodies (others centre C bodies)
 from_centre centre C (Refusal k) = Refusal k
 
 -- the sum a, sound so far or not, with these bodies still to come, and then the last terms
-abbrev pub finished : Setting → Vector → Vector → Vector → Bool → Vector → Sky → AccelerationAnswer
+abbrev pub finished : Setting → Vector → Vector → Vector → Bool → Vector → Sky → Result Vector Refusal
 finished s Q S P ok a (Bodies bodies) = settled (ok && all_sound P bodies && last_sound s Q S) (last_terms s Q S (less P a bodies))
-finished s Q S P ok a (Refusal k) = Refused k
+finished s Q S P ok a (Refusal k) = Err k
 
 -- from the beginning on it is the rule
 pub whole_rule : (s : Setting) (centre : ℕ) (C sun P : Vector) (bodies : Sky)

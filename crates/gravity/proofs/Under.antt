@@ -6,13 +6,13 @@ use Prim.Native.Nat.{ℕ, zero, suc}
 use lib.Dec.{eqb-suc-zero}
 use borrow.Author.Tests.{ne_eqb}
 use native.Mathlib.Omega.{arith}
+use Rattle.std.specs.Prelude.{Ok, Err}
 use Rattle.base.specs.Checks.{or_later}
 use Rattle.base.specs.Choice.{if◌then◌otherwise◌, ◌=?◌}
 use Rattle.state.specs.State.{used, coefficient_of, centre_allowed}
 use Rattle.state.specs.declared.Vector.{Vector}
 use Rattle.state.specs.declared.Setting.{Setting}
 use Rattle.book.specs.declared.Motion.{Motion}
-use Rattle.book.specs.declared.PositionAnswer.TheVariants as position
 use Rattle.gravity_pull.specs.Pull.{plus, minus, negated, g, sound}
 use Rattle.gravity_terms.specs.Terms.{sound_if, last_terms, last_sound}
 use Rattle.gravity_pull.specs.Sum.{pull_of, taken_off, less_by, less_all, vector_of, start_by}
@@ -28,7 +28,6 @@ use Rattle.gravity.specs.Acceleration.{others, less, all_sound, settled, acceler
 use Rattle.gravity.proofs.SoFar.{from_centre, finished, whole_rule}
 use Rattle.gravity.specs.Sight.{other_of, others_of, sights, listed, settled_by, finished_by, acceleration_by}
 use Rattle.gravity.proofs.Centres.{One, one, two, three, four, five, six, centre_one}
-use Rattle.gravity.specs.declared.AccelerationAnswer.TheVariants.{Is, Refused}
 use Rattle.gravity.specs.declared.Sights.{Sights}
 
 -- ---- by the refusal: none, or some
@@ -39,7 +38,7 @@ module _ (s : Sights) (setting : Setting) (P : Vector) where
   unfolding acceleration_by
   clear e = rw e
 
-  pub refused : (s.refusal ≡ 0 → ⊥) → acceleration_by s setting P ≡ Refused s.refusal
+  pub refused : (s.refusal ≡ 0 → ⊥) → acceleration_by s setting P ≡ Err s.refusal
   unfolding acceleration_by
   refused h = rw (ne_eqb s.refusal 0 h)
 
@@ -67,7 +66,7 @@ last_is st home sun P sum =
 module _ (st : Setting) (Q S P : Vector) (centre : ℕ) (C : Vector) (body : Listed) (M : Motion) where
   -- a body that is there: the rest continues from the sum minus this body,
   onward : (ok : Bool) (a : Vector) (later : Sky) → (body.number =? centre) ≡ false → used body.m ≡ true
-      → finished st Q S P ok a (from_centre centre C (seen body (position.At M) later))
+      → finished st Q S P ok a (from_centre centre C (seen body (Ok M) later))
       ≡ finished st Q S P ((ok && sound (minus P (minus (standing M.place) C))) && sound (minus (standing M.place) C))
       (minus a (plus (g (minus P (minus (standing M.place) C)) body.m) (g (minus (standing M.place) C) body.m))) (from_centre centre C later)
   onward ok a (Bodies bs) far u =
@@ -82,12 +81,12 @@ module _ (st : Setting) (Q S P : Vector) (centre : ℕ) (C : Vector) (body : Lis
 
   -- unless it is the centre, or does not pull
   itself : (ok : Bool) (a : Vector) (later : Sky) → (body.number =? centre) ≡ true
-      → finished st Q S P ok a (from_centre centre C (seen body (position.At M) later)) ≡ finished st Q S P ok a (from_centre centre C later)
+      → finished st Q S P ok a (from_centre centre C (seen body (Ok M) later)) ≡ finished st Q S P ok a (from_centre centre C later)
   itself ok a (Bodies bs) near = rw near
   itself ok a (Refusal k) near = refl
 
   lit_alone : (ok : Bool) (a : Vector) (later : Sky) → (body.number =? centre) ≡ false → used body.m ≡ false
-      → finished st Q S P ok a (from_centre centre C (seen body (position.At M) later)) ≡ finished st Q S P ok a (from_centre centre C later)
+      → finished st Q S P ok a (from_centre centre C (seen body (Ok M) later)) ≡ finished st Q S P ok a (from_centre centre C later)
   lit_alone ok a (Bodies bs) far u = rw (far, u)
   lit_alone ok a (Refusal k) far u = refl
 
@@ -197,7 +196,7 @@ module _ (b : List ℕ) (s : Setting) (t : ℕ) (P : Vector) where
 
 -- ---- what follows for the bodies if an acceleration is accepted
 
-pub is_clear : (s : Sights) (setting : Setting) (P a : Vector) → acceleration_by s setting P ≡ Is a → s.refusal ≡ 0
+pub is_clear : (s : Sights) (setting : Setting) (P a : Vector) → acceleration_by s setting P ≡ Ok a → s.refusal ≡ 0
 unfolding acceleration_by
 is_clear s setting P a e = go s.refusal refl
   where

@@ -1,6 +1,6 @@
 -- Document 01, "Setting, state, acceleration", and document 02, R-6 and R-7: the acceleration about a centre by the bodies looked up, with
 -- an oblate Earth and sunlight.
-use Rattle.std.specs.Prelude.{Bool, true, not, ◌&&◌, List, [], ◌∷◌, ℕ, Float}
+use Rattle.std.specs.Prelude.{Bool, true, not, ◌&&◌, List, [], ◌∷◌, ℕ, Float, Result, Ok, Err}
 use Rattle.base.specs.Choice.{if◌then◌otherwise◌, ◌=?◌}
 use Rattle.base.specs.Limits.{is_moment}
 use Rattle.state.specs.State.{finite_vector, used, coefficient_of, centre_allowed}
@@ -11,8 +11,6 @@ use Rattle.gravity_pull.specs.Pull.{plus, minus, negated, g, sound}
 pub use Rattle.gravity_terms.specs.Terms.{last_terms, last_sound}
 pub use Rattle.gravity_bodies.specs.Sky.{Body, Sky, Bodies, Refusal, Listed, standing, nowhere, at_rest, stands, seen, sky_of, place_of}
 unfoldable pub use Rattle.gravity_bodies.specs.Sky.{sky}
-use Rattle.gravity.specs.declared.AccelerationAnswer.{AccelerationAnswer}
-use Rattle.gravity.specs.declared.AccelerationAnswer.TheVariants as answer
 
 -- ---- what is seen from the centre
 
@@ -49,12 +47,12 @@ all_sound P [] = true
 all_sound P (body ∷ rest) = sound (minus P body.R) && sound body.R && all_sound P rest
 
 -- "refused with 7 if some n is not finite, some r3 is zero or not finite, or a final component is not finite"
-abbrev pub settled : Bool → Vector → AccelerationAnswer
-settled ok a = if ok && finite_vector a then answer.Is a otherwise answer.Refused 7
+abbrev pub settled : Bool → Vector → Result Vector Refusal
+settled ok a = if ok && finite_vector a then Ok a otherwise Err Refusal.NotFinite
 
 -- "Acceleration at position P: start with -g(P, Earth)", or (R-6) "the centre's own pull"; "for each used body .. subtract". Then (R-7) the
 -- last terms, "after all others", at Q from the Earth and S from the Sun.
-abbrev pub rule : Setting → View → Vector → AccelerationAnswer
+abbrev pub rule : Setting → View → Vector → Result Vector Refusal
 rule s view P =
     let Q = minus P view.earth in
     let S = minus P view.sun in
@@ -64,18 +62,18 @@ rule s view P =
     settled (sound P && all_sound P view.bodies && last_sound s Q S) final
 
 -- "These bodies are looked up in rising number first": the first refusal is the answer, 6 or 7
-abbrev pub seen_then : (List Body → AccelerationAnswer) → Sky → AccelerationAnswer
+abbrev pub seen_then : (List Body → Result Vector Refusal) → Sky → Result Vector Refusal
 seen_then f (Bodies bodies) = f bodies
-seen_then f (Refusal k) = answer.Refused k
+seen_then f (Refusal k) = Err k
 
-unfoldable pub acceleration_at : List ℕ → Setting → ℕ → ℕ → Vector → AccelerationAnswer
+unfoldable pub acceleration_at : List ℕ → Setting → ℕ → ℕ → Vector → Result Vector Refusal
 acceleration_at b s centre t P =
     let C = place_of (stands b centre t) in
     let sun = place_of (stands b 3 t) in
     seen_then (λ bodies. rule s (view_from s centre C sun bodies) P) (sky b s t)
 
 -- "Acceleration: 1, 4, 3, 7 (position), then its own rule"; R-6: 14 "directly after 4"
-unfoldable pub acceleration_answer : List ℕ → Setting → ℕ → ℕ → Vector → AccelerationAnswer
+unfoldable pub acceleration_answer : List ℕ → Setting → ℕ → ℕ → Vector → Result Vector Refusal
 acceleration_answer b s centre t P =
     let k = common_refusal b s (centre_allowed s centre) (is_moment t) (finite_vector P) in
-    if k =? 0 then acceleration_at b s centre t P otherwise answer.Refused k
+    if k =? 0 then acceleration_at b s centre t P otherwise Err k

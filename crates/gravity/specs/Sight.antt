@@ -1,5 +1,6 @@
 -- What the code keeps for a moment about a centre: the other bodies, each with its pull on the centre, computed once.
-use Rattle.std.specs.Prelude.{Bool, ◌||◌, List, [], ◌∷◌, ◌≡◌, ℕ, Float}
+use Rattle.base.specs.declared.Refusal.{Refusal}
+use Rattle.std.specs.Prelude.{Bool, ◌||◌, List, [], ◌∷◌, ◌≡◌, ℕ, Float, Result, Err}
 use Rattle.base.specs.Choice.{if◌then◌otherwise◌, ◌=?◌}
 use Rattle.state.specs.State.{used, coefficient_of}
 use Rattle.state.specs.declared.Vector.{Vector}
@@ -19,8 +20,6 @@ use Rattle.gravity_bodies.specs.declared.Sight.{Sight}
 use Rattle.gravity_bodies.specs.declared.Found.{Found}
 use Rattle.gravity_bodies.specs.declared.Besides.{Besides}
 use Rattle.gravity.specs.Acceleration.{settled}
-use Rattle.gravity.specs.declared.AccelerationAnswer.{AccelerationAnswer}
-use Rattle.gravity.specs.declared.AccelerationAnswer.TheVariants.{Refused}
 use Rattle.gravity.specs.declared.Others.{Others}
 use Rattle.gravity.specs.declared.Guesses.{Guesses}
 use Rattle.gravity.specs.declared.Sights.{Sights}
@@ -75,11 +74,11 @@ sights b s centre t =
 abbrev pub listed : Others → List Other
 listed o = o.first ∷ o.second ∷ o.third ∷ o.fourth ∷ o.fifth ∷ []
 
-abbrev pub settled_by : Pull → AccelerationAnswer
+abbrev pub settled_by : Pull → Result Vector Refusal
 settled_by p = settled p.sound (vector_of p)
 
-abbrev pub finished_by : Setting → Vector → Vector → Vector → Pull → ℕ → List Other → AccelerationAnswer
-finished_by s home sun P sum k os = if k =? 0 then settled_by (sunlit_by s sun P (oblate_by s home P (less_all P sum os))) otherwise Refused k
+abbrev pub finished_by : Setting → Vector → Vector → Vector → Pull → ℕ → List Other → Result Vector Refusal
+finished_by s home sun P sum k os = if k =? 0 then settled_by (sunlit_by s sun P (oblate_by s home P (less_all P sum os))) otherwise Err k
 
-unfoldable pub acceleration_by : Sights → Setting → Vector → AccelerationAnswer
+unfoldable pub acceleration_by : Sights → Setting → Vector → Result Vector Refusal
 acceleration_by s setting P = finished_by setting s.home s.sun P (start_by P s.own) s.refusal (listed s.others)

@@ -20,7 +20,8 @@ ghost use Rattle.gravity.specs.Sight.{
   acceleration_by,
 };
 
-use crate::{AccelerationAnswer, Guesses, LastSeen, Others, OthersSeen, Seen, Sights};
+use base::Refusal;
+use crate::{Guesses, LastSeen, Others, OthersSeen, Seen, Sights};
 use gravity_bodies::inner::{found, found_two};
 use gravity_bodies::{Besides, Found, beside, blank_sight, centre_place, refusal_of};
 pub use gravity_pull::pulls::difference;
@@ -232,7 +233,7 @@ pub fn seen_at(
     }
 }
 
-fn settle(sum: Pull) -> AccelerationAnswer
+fn settle(sum: Pull) -> Result<Vector, Refusal>
     ensures { result ≡ settled_by sum }
 {
     let a = Vector {
@@ -242,10 +243,10 @@ fn settle(sum: Pull) -> AccelerationAnswer
     };
     if sum.sound {
         if state::vector_is_finite(a) {
-            return AccelerationAnswer::Is(a);
+            return Ok(a);
         }
     }
-    AccelerationAnswer::Refused(7)
+    Err(Refusal::NotFinite)
 }
 
 // The acceleration at p, if the roots for that position are known.
@@ -254,7 +255,7 @@ pub fn acceleration_by(
     setting: Setting,
     p: Vector,
     roots: SixRoots,
-) -> AccelerationAnswer
+) -> Result<Vector, Refusal>
     requires { RootsAt p bodies.others roots }
     ensures { result ≡ acceleration_by bodies setting p }
 {
@@ -275,12 +276,12 @@ pub fn acceleration_by(
         let with_earth = oblate_sum(setting, bodies.home, p, all, known);
         return settle(sunlit_sum(setting, bodies.sun, p, with_earth, known));
     }
-    AccelerationAnswer::Refused(bodies.refusal)
+    Err(bodies.refusal)
 }
 
 // The same without known roots. All roots are computed side by side: three, or six if one of the last three bodies is
 // used.
-pub fn acceleration_under(bodies: Sights, setting: Setting, p: Vector) -> AccelerationAnswer
+pub fn acceleration_under(bodies: Sights, setting: Setting, p: Vector) -> Result<Vector, Refusal>
     ensures { result ≡ acceleration_by bodies setting p }
 {
     if bodies.refusal == 0 {
@@ -307,7 +308,7 @@ pub fn acceleration_under(bodies: Sights, setting: Setting, p: Vector) -> Accele
         let with_earth = oblate_sum(setting, bodies.home, p, sum, known);
         return settle(sunlit_sum(setting, bodies.sun, p, with_earth, known));
     }
-    AccelerationAnswer::Refused(bodies.refusal)
+    Err(bodies.refusal)
 }
 
 // The rule itself. The book is known to pass, and the centre is known to be a used body.
@@ -317,7 +318,7 @@ pub fn rule(
     centre: u64,
     moment: u64,
     position: Vector,
-) -> AccelerationAnswer
+) -> Result<Vector, Refusal>
     requires { (passes book.now ≡ true) × (centre_allowed setting centre ≡ true) }
     ensures { result ≡ acceleration_at book.now setting centre moment position }
 {

@@ -8,17 +8,12 @@ pub mod inner;
 ghost use Rattle.std.specs.Prelude.{◌≡◌};
 ghost use Rattle.gravity.specs.Acceleration.{acceleration_answer};
 
+use base::Refusal;
 use base::END_OF_TIME;
 use gravity_pull::Other;
 use root::{SixRoots, ThreeRoots};
 use state::{Setting, Vector};
 use state_checks::common_refusal;
-
-#[derive(Clone, Copy)]
-pub enum AccelerationAnswer {
-    Is(Vector),
-    Refused(u64),
-}
 
 // (02, R-6) The five bodies other than the centre, in rising number, each seen from the centre with its pull on the
 // centre.
@@ -84,7 +79,7 @@ pub fn acceleration(
     centre: u64,
     moment: u64,
     position: Vector,
-) -> AccelerationAnswer
+) -> Result<Vector, Refusal>
     ensures { result ≡ acceleration_answer book.now setting centre moment position }
 {
     let centred = state::centre_is_allowed(setting, centre);
@@ -93,5 +88,5 @@ pub fn acceleration(
     if refusal == 0 {
         return inner::rule(book, setting, centre, moment, position);
     }
-    AccelerationAnswer::Refused(refusal)
+    Err(refusal)
 }

@@ -5,6 +5,8 @@ use mathlib.Core.Path.{◌≡◌, refl, sym, ◌∙◌}
 use Prim.Native.Nat.{ℕ, suc}
 use lib.Ieee.{Float}
 use native.Mathlib.Omega.{arith}
+use Rattle.base.specs.declared.Refusal.{Refusal}
+use Rattle.std.specs.Prelude.{Result, Ok, Err, Option, Some, None}
 use Rattle.base.proofs.Checks.{first_of}
 use Rattle.base.specs.Choice.{if◌then◌otherwise◌, ◌=?◌}
 use Rattle.state.specs.State.{finite_vector, used, looked_up}
@@ -14,10 +16,6 @@ use Rattle.book.specs.Position.{finite_velocity, body_at}
 use Rattle.book.proofs.BodyAt.{no_cover, not_finite, too_fast, at_place}
 use Rattle.book_series.specs.declared.Place.{Place}
 use Rattle.book.specs.declared.Motion.{Motion}
-use Rattle.book_search.specs.declared.Lookup.{Lookup}
-use Rattle.book_search.specs.declared.Lookup.TheVariants.{Entry, Nothing}
-use Rattle.book.specs.declared.PositionAnswer.{PositionAnswer}
-use Rattle.book.specs.declared.PositionAnswer.TheVariants as position
 use Rattle.gravity_bodies.specs.Sky.{Listed, standing, at_rest, stands, place_of}
 use Rattle.gravity_bodies.specs.Looked.{blank, found_at, found_by, found_of, refusal_of, entry_or}
 use Rattle.gravity_bodies.specs.declared.Sight.{Sight}
@@ -26,8 +24,8 @@ use Rattle.gravity_bodies.specs.declared.Sight.{Sight}
 
 pub data Looked (b : List ℕ) (number : ℕ) (m : Float) (for_light : Bool) (t : ℕ) : Sight → Type 0 where
   unlooked : looked_up m for_light ≡ false → Looked b number m for_light t (blank m 0)
-  refused_by_lem : (k : ℕ) → looked_up m for_light ≡ true → stands b number t ≡ position.Refused (suc k) → Looked b number m for_light t (blank m (suc k))
-  there : (M : Motion) (i : ℕ) → looked_up m for_light ≡ true → stands b number t ≡ position.At M
+  refused_by_lem : (k : ℕ) → looked_up m for_light ≡ true → stands b number t ≡ Err (suc k) → Looked b number m for_light t (blank m (suc k))
+  there : (M : Motion) (i : ℕ) → looked_up m for_light ≡ true → stands b number t ≡ Ok M
       → Looked b number m for_light t (record { refusal = 0; entry = i; m = m; place = standing M.place })
 
 -- what is not looked up does not pull
@@ -47,25 +45,25 @@ module _ (b : List ℕ) (number : ℕ) (m : Float) (for_light : Bool) (t : ℕ) 
   unfolding found_of
   found far = go (looked_up m for_light) refl
     where
-      is : {p : PositionAnswer} → body_at b number t ≡ p → stands b number t ≡ p
+      is : {p : Result Motion Refusal} → body_at b number t ≡ p → stands b number t ≡ p
       is e = rw far e
 
-      at : looked_up m for_light ≡ true → (i : ℕ) (ok slow : Bool) → lookup b number t ≡ Entry i → finite_vector (standing (place b i t)) ≡ ok → finite_velocity (velocity b i t) ≡ slow
+      at : looked_up m for_light ≡ true → (i : ℕ) (ok slow : Bool) → lookup b number t ≡ Some i → finite_vector (standing (place b i t)) ≡ ok → finite_velocity (velocity b i t) ≡ slow
           → Looked b number m for_light t (found_at (place b i t) (finite_velocity (velocity b i t)) i m)
       at u i true true l e v = rw (e, v) (there (record { place = place b i t; velocity = velocity b i t }) i u (is (at_place b number t i l e v)))
       at u i true false l e v = rw (e, v) (refused_by_lem 6 u (is (too_fast b number t i l e v)))
       at u i false slow l e v = rw e (refused_by_lem 6 u (is (not_finite b number t i l e)))
 
-      by : looked_up m for_light ≡ true → (l : Lookup) → lookup b number t ≡ l → Looked b number m for_light t (found_by b m t l)
-      by u Nothing e = refused_by_lem 5 u (is (no_cover b number t e))
-      by u (Entry i) e = at u i (finite_vector (standing (place b i t))) (finite_velocity (velocity b i t)) e refl refl
+      by : looked_up m for_light ≡ true → (l : Option ℕ) → lookup b number t ≡ l → Looked b number m for_light t (found_by b m t l)
+      by u None e = refused_by_lem 5 u (is (no_cover b number t e))
+      by u (Some i) e = at u i (finite_vector (standing (place b i t))) (finite_velocity (velocity b i t)) e refl refl
 
       go : (u : Bool) → looked_up m for_light ≡ u → Looked b number m for_light t (if u then found_by b m t (lookup b number t) otherwise blank m 0)
       go true u = by u (lookup b number t) refl
       go false u = unlooked u
 
   -- a body that is looked up and has entry i, by its place and the test of its velocity
-  pub by_entry : (i : ℕ) (p : Place) (slow : Bool) → looked_up m for_light ≡ true → lookup b number t ≡ Entry i → p ≡ place b i t → slow ≡ finite_velocity (velocity b i t)
+  pub by_entry : (i : ℕ) (p : Place) (slow : Bool) → looked_up m for_light ≡ true → lookup b number t ≡ Some i → p ≡ place b i t → slow ≡ finite_velocity (velocity b i t)
       → found_at p slow i m ≡ found_of b number m for_light t
   unfolding found_of
   by_entry i p slow u l e v = rw (u, l, e, v)
@@ -121,9 +119,9 @@ seen_entry b number m for_light t given = go (looked_up m for_light)
     at i true false e r = let z : ◌≡◌ {A = ℕ} 7 0 = rw e at r in absurd (omega arith)
     at i false slow e r = let z : ◌≡◌ {A = ℕ} 7 0 = rw e at r in absurd (omega arith)
 
-    by : (l : Lookup) → (found_by b m t l).refusal ≡ 0 → (found_by b m t l).entry ≡ entry_or given l
-    by Nothing r = absurd (omega arith)
-    by (Entry i) r = at i (finite_vector (standing (place b i t))) (finite_velocity (velocity b i t)) refl r
+    by : (l : Option ℕ) → (found_by b m t l).refusal ≡ 0 → (found_by b m t l).entry ≡ entry_or given l
+    by None r = absurd (omega arith)
+    by (Some i) r = at i (finite_vector (standing (place b i t))) (finite_velocity (velocity b i t)) refl r
 
     go : (u : Bool) → (if u then found_by b m t (lookup b number t) otherwise blank m 0).refusal ≡ 0
         → (if u then (if u then found_by b m t (lookup b number t) otherwise blank m 0).entry otherwise given)

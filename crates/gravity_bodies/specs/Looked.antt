@@ -1,5 +1,5 @@
 -- What the code keeps of the bodies looked up, seen from the Earth.
-use Rattle.std.specs.Prelude.{Bool, false, List, [], ◌∷◌, ℕ, Float}
+use Rattle.std.specs.Prelude.{Bool, false, List, [], ◌∷◌, ℕ, Float, Option, Some, None}
 use Rattle.base.specs.Checks.{or_later}
 use Rattle.base.specs.Choice.{if◌then◌otherwise◌, ◌=?◌, ◌≤?◌}
 use Rattle.state.specs.State.{finite_vector, used, looked_up}
@@ -9,8 +9,6 @@ use Rattle.book.specs.Lookup.{lookup}
 use Rattle.book.specs.Series.{place, velocity}
 use Rattle.book.specs.Position.{finite_velocity}
 use Rattle.book_series.specs.declared.Place.{Place}
-use Rattle.book_search.specs.declared.Lookup.{Lookup}
-use Rattle.book_search.specs.declared.Lookup.TheVariants.{Entry, Nothing}
 use Rattle.gravity_bodies.specs.Sky.{standing, nowhere}
 use Rattle.gravity_bodies.specs.declared.Sight.{Sight}
 use Rattle.gravity_bodies.specs.declared.Found.{Found}
@@ -27,9 +25,9 @@ found_at p slow i m =
     then (if slow then record { refusal = 0; entry = i; m = m; place = standing p } otherwise blank m 7)
     otherwise blank m 7
 
-abbrev pub found_by : List ℕ → Float → ℕ → Lookup → Sight
-found_by b m t Nothing = blank m 6
-found_by b m t (Entry i) = found_at (place b i t) (finite_velocity (velocity b i t)) i m
+abbrev pub found_by : List ℕ → Float → ℕ → Option ℕ → Sight
+found_by b m t None = blank m 6
+found_by b m t (Some i) = found_at (place b i t) (finite_velocity (velocity b i t)) i m
 
 unfoldable pub found_of : List ℕ → ℕ → Float → Bool → ℕ → Sight
 found_of b number m for_light t = if looked_up m for_light then found_by b m t (lookup b number t) otherwise blank m 0
@@ -73,6 +71,6 @@ unfoldable pub refusal_in : Found → ℕ
 refusal_in f = refusal_of (f.moon ∷ f.sun ∷ f.venus ∷ f.mars ∷ f.jupiter ∷ [])
 
 -- the entry found, or the guess that was given
-abbrev pub entry_or : ℕ → Lookup → ℕ
-entry_or given (Entry i) = i
-entry_or given Nothing = given
+abbrev pub entry_or : ℕ → Option ℕ → ℕ
+entry_or given (Some i) = i
+entry_or given None = given

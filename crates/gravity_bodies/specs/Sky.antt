@@ -1,5 +1,6 @@
 -- Document 01, "Setting, state, acceleration", and document 02, R-6 and R-7: the bodies looked up at a moment, seen from the Earth.
-use Rattle.std.specs.Prelude.{Bool, false, List, [], ◌∷◌, ℕ, Float}
+use Rattle.base.specs.declared.Refusal.{Refusal}
+use Rattle.std.specs.Prelude.{Bool, false, List, [], ◌∷◌, ℕ, Float, Result, Ok, Err}
 use Rattle.base.specs.Choice.{if◌then◌otherwise◌, ◌=?◌}
 use Rattle.base.specs.Floats.{zero64}
 use Rattle.state.specs.State.{used, looked_up}
@@ -9,8 +10,6 @@ use Rattle.state.specs.declared.Setting.{Setting}
 use Rattle.book.specs.Position.{body_at}
 use Rattle.book_series.specs.declared.Place.{Place}
 use Rattle.book.specs.declared.Motion.{Motion}
-use Rattle.book.specs.declared.PositionAnswer.{PositionAnswer}
-use Rattle.book.specs.declared.PositionAnswer.TheVariants.{At, Refused}
 
 -- a body that pulls: its number, its coefficient m, and its position R
 pub record Body : Type 0 where
@@ -30,8 +29,8 @@ standing p = record { x = p.x; y = p.y; z = p.z }
 abbrev pub at_rest : Motion
 at_rest = record { place = record { x = zero64; y = zero64; z = zero64 }; velocity = record { x = zero64; y = zero64; z = zero64 } }
 
-abbrev pub stands : List ℕ → ℕ → ℕ → PositionAnswer
-stands b number t = if number =? 1 then At at_rest otherwise body_at b number t
+abbrev pub stands : List ℕ → ℕ → ℕ → Result Motion Refusal
+stands b number t = if number =? 1 then Ok at_rest otherwise body_at b number t
 
 -- a body of the setting: its number, its coefficient, and whether its light counts. R-7: "With K above 0 the Sun is looked up as a used
 -- body, even where its coefficient is 0 and it does not pull."
@@ -41,10 +40,10 @@ pub record Listed : Type 0 where
   pub for_light : Bool
 
 -- one body's answer before the bodies after it: the first refusal counts
-abbrev pub seen : Listed → PositionAnswer → Sky → Sky
-seen body (At M) (Bodies later) = Bodies (record { number = body.number; m = body.m; R = standing M.place } ∷ later)
-seen body (At M) (Refusal k) = Refusal k
-seen body (Refused k) later = Refusal k
+abbrev pub seen : Listed → Result Motion Refusal → Sky → Sky
+seen body (Ok M) (Bodies later) = Bodies (record { number = body.number; m = body.m; R = standing M.place } ∷ later)
+seen body (Ok M) (Refusal k) = Refusal k
+seen body (Err k) later = Refusal k
 
 -- "looked up in rising number first, each for cover (6), then for a finite position (7)"; and, document 02, R-5, for a finite velocity (7)
 abbrev pub sky_of : List ℕ → ℕ → List Listed → Sky
@@ -66,6 +65,6 @@ unfoldable pub sky : List ℕ → Setting → ℕ → Sky
 sky b s t = sky_of b t (bodies_of s)
 
 -- the position of the centre; if the centre is refused, it is not used
-abbrev pub place_of : PositionAnswer → Vector
-place_of (At M) = standing M.place
-place_of (Refused k) = nowhere
+abbrev pub place_of : Result Motion Refusal → Vector
+place_of (Ok M) = standing M.place
+place_of (Err k) = nowhere

@@ -5,7 +5,7 @@ ghost use Rattle.book.specs.Calm.{Ready};
 ghost use Rattle.gravity_bodies.specs.Looked.{found_at, found_of};
 
 use crate::{Sight, TwoSights, blank_sight};
-use book::{Lookup, Place};
+use book::Place;
 use state::Vector;
 
 // A body that an entry puts at p; `slow` says whether its velocity is finite.
@@ -46,7 +46,7 @@ pub fn found(
     ensures { result ≡ found_of book.now number m light moment }
 {
     if state::is_looked_up(m, light) {
-        let Lookup::Entry(entry) = book::inner::lookup_guessed(book, number, moment, guess as usize)
+        let Some(entry) = book::inner::lookup_guessed(book, number, moment, guess as usize)
         else {
             return blank_sight(m, 6);
         };
@@ -95,11 +95,11 @@ pub fn found_two(
 {
     if state::is_looked_up(m, false) {
         if state::is_looked_up(m2, light) {
-            let Lookup::Entry(i) = book::inner::lookup_guessed(book, 2, moment, guess as usize)
+            let Some(i) = book::inner::lookup_guessed(book, 2, moment, guess as usize)
             else {
                 return found_each(book, m, m2, light, moment, guess, guess2, calm);
             };
-            let Lookup::Entry(j) = book::inner::lookup_guessed(book, 3, moment, guess2 as usize)
+            let Some(j) = book::inner::lookup_guessed(book, 3, moment, guess2 as usize)
             else {
                 return found_each(book, m, m2, light, moment, guess, guess2, calm);
             };

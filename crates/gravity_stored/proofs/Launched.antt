@@ -3,6 +3,9 @@ use mathlib.Core.Bool.{Bool, true, false}
 use mathlib.Core.List.{List}
 use mathlib.Core.Path.{◌≡◌, refl, ap}
 use Prim.Native.Nat.{ℕ}
+use Rattle.base.specs.declared.Refusal.{Refusal}
+use Rattle.state.specs.declared.Vector.{Vector}
+use Rattle.std.specs.Prelude.{Result, Ok, Err}
 use Rattle.base.specs.Choice.{if◌then◌otherwise◌, ◌=?◌}
 use Rattle.base.specs.Limits.{is_moment}
 use Rattle.state.specs.State.{position, acceleration, bare, finite_state, setting_allowed, centre_allowed}
@@ -12,22 +15,19 @@ use Rattle.state.specs.declared.Setting.{Setting}
 use Rattle.book.specs.Passes.{passes}
 use Rattle.state_checks.proofs.Passed.{passes_all}
 use Rattle.gravity.specs.Acceleration.{acceleration_at}
-use Rattle.gravity.specs.declared.AccelerationAnswer.{AccelerationAnswer}
-use Rattle.gravity.specs.declared.AccelerationAnswer.TheVariants as rule
 use Rattle.gravity_stored.specs.Injection.{rule_at, kept_by, kept, injection_refusal, injection_answer, or_none, launched}
-use Rattle.gravity_stored.specs.declared.InjectionAnswer.TheVariants.{Refused}
 
 module _ (b : List ℕ) (setting : Setting) where
   -- position, velocity, moment and centre are the injection's
-  by_rule : (i : Injection) (q : AccelerationAnswer) → bare (or_none i (kept_by i q)) ≡ i
-  by_rule i (rule.Is a) = refl
-  by_rule i (rule.Refused k) = refl
+  by_rule : (i : Injection) (q : Result Vector Refusal) → bare (or_none i (kept_by i q)) ≡ i
+  by_rule i (Ok a) = refl
+  by_rule i (Err k) = refl
 
   pub launched_bare : (i : Injection) → bare (launched b setting i) ≡ i
   unfolding launched injection_answer kept
   launched_bare i = go (injection_refusal b setting i =? 0)
     where
-      go : (none : Bool) → bare (or_none i (if none then kept_by i (rule_at b setting i) otherwise Refused (injection_refusal b setting i))) ≡ i
+      go : (none : Bool) → bare (or_none i (if none then kept_by i (rule_at b setting i) otherwise Err (injection_refusal b setting i))) ≡ i
       go true = by_rule i (rule_at b setting i)
       go false = refl
 
@@ -37,7 +37,7 @@ module _ (b : List ℕ) (setting : Setting) where
 
   -- and so is any state whose stored acceleration is the rule's
   pub launched_itself : (s : State) → passes b ≡ true → setting_allowed setting ≡ true → centre_allowed setting s.centre ≡ true → is_moment s.moment ≡ true
-      → finite_state s ≡ true → acceleration_at b setting s.centre s.moment (position s) ≡ rule.Is (acceleration s)
+      → finite_state s ≡ true → acceleration_at b setting s.centre s.moment (position s) ≡ Ok (acceleration s)
       → launched b setting (bare s) ≡ s
   unfolding launched injection_answer injection_refusal kept
   launched_itself s book set centred begins finite is =

@@ -3,6 +3,9 @@ use mathlib.Core.Bool.{Bool, true}
 use mathlib.Core.List.{List}
 use mathlib.Core.Path.{◌≡◌, refl}
 use Prim.Native.Nat.{ℕ}
+use Rattle.base.specs.declared.Refusal.{Refusal}
+use Rattle.state.specs.declared.Vector.{Vector}
+use Rattle.std.specs.Prelude.{Result, Ok, Err}
 use Rattle.base.specs.Checks.{Answer, Accepted, refused_by}
 use Rattle.base.specs.Checks as base
 use Rattle.base.specs.Limits.{is_moment}
@@ -11,21 +14,17 @@ use Rattle.state.specs.declared.State.{State}
 use Rattle.state.specs.declared.Injection.{Injection}
 use Rattle.state.specs.declared.Setting.{Setting}
 use Rattle.state_checks.proofs.Numbers.{common_meets}
-use Rattle.gravity.specs.declared.AccelerationAnswer.{AccelerationAnswer}
-use Rattle.gravity.specs.declared.AccelerationAnswer.TheVariants as rule
 use Rattle.gravity.proofs.Refused as gravity
 use Rattle.gravity_stored.specs.Injection.{rule_at, kept_by, kept, injection_refusal, injection_answer}
-use Rattle.gravity_stored.specs.declared.InjectionAnswer.{InjectionAnswer}
-use Rattle.gravity_stored.specs.declared.InjectionAnswer.TheVariants.{Injected, Refused}
 
-abbrev pub as_answer : InjectionAnswer → Answer State
-as_answer (Injected s) = Accepted s
-as_answer (Refused k) = base.Refused k
+abbrev pub as_answer : Result State Refusal → Answer State
+as_answer (Ok s) = Accepted s
+as_answer (Err k) = base.Refused k
 
 module _ (ok : ℕ → Bool) (six : ok 6 ≡ true) (seven : ok 7 ≡ true) where
-  by_refused : (i : Injection) (q : AccelerationAnswer) → refused_by ok (gravity.as_answer q) ≡ true → refused_by ok (as_answer (kept_by i q)) ≡ true
-  by_refused i (rule.Is a) e = refl
-  by_refused i (rule.Refused k) e = e
+  by_refused : (i : Injection) (q : Result Vector Refusal) → refused_by ok (gravity.as_answer q) ≡ true → refused_by ok (as_answer (kept_by i q)) ≡ true
+  by_refused i (Ok a) e = refl
+  by_refused i (Err k) e = e
 
   -- the rule refuses only with 6 or 7
   pub kept_refused : (b : List ℕ) (setting : Setting) (i : Injection) → refused_by ok (as_answer (kept b setting i)) ≡ true
@@ -37,5 +36,5 @@ module _ (ok : ℕ → Bool) (six : ok 6 ≡ true) (seven : ok 7 ≡ true) where
       → refused_by ok (as_answer (injection_answer b setting i)) ≡ true
   unfolding injection_answer injection_refusal
   injection_refused one four fourteen three b setting i =
-      common_meets (λ x. refused_by ok (as_answer x)) Refused (kept b setting i) one four fourteen three seven (kept_refused b setting i) b setting
+      common_meets (λ x. refused_by ok (as_answer x)) Err (kept b setting i) one four fourteen three seven (kept_refused b setting i) b setting
       (centre_allowed setting i.centre) (is_moment i.moment) (finite_injection i)

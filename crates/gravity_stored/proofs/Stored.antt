@@ -7,6 +7,8 @@ use native.Mathlib.Omega.{arith}
 use borrow.Author.Tests.{eq-eqb}
 use lib.Ieee.{Float, binary64, to_bits}
 use lib.Ieee.Scale.{finite}
+use Rattle.base.specs.declared.Refusal.{Refusal}
+use Rattle.std.specs.Prelude.{Result, Ok, Err}
 use Rattle.base.specs.Choice.{if◌then◌otherwise◌, ◌=?◌}
 use Rattle.state.specs.State.{position, acceleration, carrying, bare, same_bits, same_vector, finite_vector}
 use Rattle.state.specs.declared.Vector.{Vector}
@@ -14,14 +16,11 @@ use Rattle.state.specs.declared.State.{State}
 use Rattle.state.specs.declared.Injection.{Injection}
 use Rattle.state.specs.declared.Setting.{Setting}
 use Rattle.gravity.specs.Acceleration.{acceleration_at}
-use Rattle.gravity.specs.declared.AccelerationAnswer.{AccelerationAnswer}
-use Rattle.gravity.specs.declared.AccelerationAnswer.TheVariants as rule
 use Rattle.gravity.proofs.Finite.{rule_finite}
 use Rattle.base.specs.Checks.{refused_by}
 use Rattle.base.proofs.Bools.{left, right}
 use Rattle.gravity.proofs.Refused.{rule_refused, as_answer}
 use Rattle.gravity_stored.specs.Injection.{rule_at, kept_by, kept, injection_refusal, injection_answer, stored_is_rule_by, stored_is_rule, stored_refusal_by, stored_refusal}
-use Rattle.gravity_stored.specs.declared.InjectionAnswer.TheVariants.{Injected, Refused}
 
 -- ---- bits
 
@@ -39,7 +38,7 @@ same_vector_lem v f =
 
 module _ (b : List ℕ) (setting : Setting) where
   -- a state with the rule's acceleration
-  pub carries_rule : (s : State) → acceleration_at b setting s.centre s.moment (position s) ≡ rule.Is (acceleration s) → stored_is_rule b setting s ≡ true
+  pub carries_rule : (s : State) → acceleration_at b setting s.centre s.moment (position s) ≡ Ok (acceleration s) → stored_is_rule b setting s ≡ true
   unfolding stored_is_rule
   carries_rule s e = ap (stored_is_rule_by s) e ∙ same_vector_lem (acceleration s) (rule_finite b setting s.centre s.moment (position s) (acceleration s) e)
 
@@ -48,9 +47,9 @@ module _ (b : List ℕ) (setting : Setting) where
   unfolding stored_is_rule stored_refusal
   stored_passes s = go (rule_at b setting (bare s))
     where
-      go : (q : AccelerationAnswer) → stored_is_rule_by s q ≡ true → stored_refusal_by s q ≡ 0
-      go (rule.Is a) e = rw e
-      go (rule.Refused k) e = let z : ◌≡◌ {A = Bool} true false = sym e in let n : ◌≡◌ {A = ℕ} 0 1 = cc in absurd (omega arith)
+      go : (q : Result Vector Refusal) → stored_is_rule_by s q ≡ true → stored_refusal_by s q ≡ 0
+      go (Ok a) e = rw e
+      go (Err k) e = let z : ◌≡◌ {A = Bool} true false = sym e in let n : ◌≡◌ {A = ℕ} 0 1 = cc in absurd (omega arith)
 
   -- and no other value passes
   pub only_stored : (s : State) → stored_refusal b setting s ≡ 0 → stored_is_rule b setting s ≡ true
@@ -61,27 +60,27 @@ module _ (b : List ℕ) (setting : Setting) where
       by true e = refl
       by false e = absurd (omega arith)
 
-      go : (q : AccelerationAnswer) → refused_by (λ (k : ℕ). not (k =? 0)) (as_answer q) ≡ true → stored_refusal_by s q ≡ 0 → stored_is_rule_by s q ≡ true
-      go (rule.Is a) some e = by (same_vector a (acceleration s)) e
-      go (rule.Refused zero) some e = some
-      go (rule.Refused (suc k)) some e = absurd (omega arith)
+      go : (q : Result Vector Refusal) → refused_by (λ (k : ℕ). not (k =? 0)) (as_answer q) ≡ true → stored_refusal_by s q ≡ 0 → stored_is_rule_by s q ≡ true
+      go (Ok a) some e = by (same_vector a (acceleration s)) e
+      go (Err zero) some e = some
+      go (Err (suc k)) some e = absurd (omega arith)
 
   -- the rule makes such a state
-  kept_by_lem : (i : Injection) (q : AccelerationAnswer) (s : State) → rule_at b setting i ≡ q → kept_by i q ≡ Injected s → stored_is_rule b setting s ≡ true
-  kept_by_lem i (rule.Is a) s is e =
+  kept_by_lem : (i : Injection) (q : Result Vector Refusal) (s : State) → rule_at b setting i ≡ q → kept_by i q ≡ Ok s → stored_is_rule b setting s ≡ true
+  kept_by_lem i (Ok a) s is e =
       let same : s ≡ carrying i a = cc in
       ap (stored_is_rule b setting) same ∙ carries_rule (carrying i a) is
-  kept_by_lem i (rule.Refused k) s is e = let z : ◌≡◌ {A = ℕ} 0 1 = cc in absurd (omega arith)
+  kept_by_lem i (Err k) s is e = let z : ◌≡◌ {A = ℕ} 0 1 = cc in absurd (omega arith)
 
-  pub kept_is_rule : (i : Injection) (s : State) → kept b setting i ≡ Injected s → stored_is_rule b setting s ≡ true
+  pub kept_is_rule : (i : Injection) (s : State) → kept b setting i ≡ Ok s → stored_is_rule b setting s ≡ true
   unfolding kept
   kept_is_rule i s e = kept_by_lem i (rule_at b setting i) s refl e
 
   -- "Injection .. must keep it equal to the rule at that state"
-  pub injection_is_rule : (i : Injection) (s : State) → injection_answer b setting i ≡ Injected s → stored_is_rule b setting s ≡ true
+  pub injection_is_rule : (i : Injection) (s : State) → injection_answer b setting i ≡ Ok s → stored_is_rule b setting s ≡ true
   unfolding injection_answer
   injection_is_rule i s = go (injection_refusal b setting i =? 0)
     where
-      go : (none : Bool) → (if none then kept b setting i otherwise Refused (injection_refusal b setting i)) ≡ Injected s → stored_is_rule b setting s ≡ true
+      go : (none : Bool) → (if none then kept b setting i otherwise Err (injection_refusal b setting i)) ≡ Ok s → stored_is_rule b setting s ≡ true
       go true e = kept_is_rule i s e
       go false e = let z : ◌≡◌ {A = ℕ} 0 1 = cc in absurd (omega arith)

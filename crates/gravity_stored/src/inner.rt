@@ -7,29 +7,30 @@ ghost use Rattle.book.specs.Passes.{passes};
 ghost use Rattle.gravity.specs.Sight.{acceleration_by};
 ghost use Rattle.gravity_stored.specs.Injection.{kept_by, kept, stored_refusal_by, stored_refusal};
 
-use crate::InjectionAnswer;
+use base::Refusal;
+use state::Vector;
 use gravity::inner::{acceleration_under, rule};
-use gravity::{AccelerationAnswer, Sights};
+use gravity::Sights;
 use state::{Injection, Setting, State, acceleration_of, carrying, position_of, starting_position};
 
-fn keep(i: Injection, answer: AccelerationAnswer) -> InjectionAnswer
+fn keep(i: Injection, answer: Result<Vector, Refusal>) -> Result<State, Refusal>
     ensures { result ≡ kept_by i answer }
 {
     match answer {
-        AccelerationAnswer::Is(a) => InjectionAnswer::Injected(carrying(i, a)),
-        AccelerationAnswer::Refused(k) => InjectionAnswer::Refused(k),
+        Ok(a) => Ok(carrying(i, a)),
+        Err(k) => Err(k),
     }
 }
 
 // The bodies at its moment are known already.
-pub fn kept_under(bodies: Sights, setting: Setting, i: Injection) -> InjectionAnswer
+pub fn kept_under(bodies: Sights, setting: Setting, i: Injection) -> Result<State, Refusal>
     ensures { result ≡ kept_by i (acceleration_by bodies setting (starting_position i)) }
 {
     let answer = acceleration_under(bodies, setting, starting_position(i));
     keep(i, answer)
 }
 
-pub fn kept_at(book: &[u8], setting: Setting, i: Injection) -> InjectionAnswer
+pub fn kept_at(book: &[u8], setting: Setting, i: Injection) -> Result<State, Refusal>
     requires { (passes book.now ≡ true) × (centre_allowed setting i.centre ≡ true) }
     ensures { result ≡ kept book.now setting i }
 {
@@ -37,17 +38,17 @@ pub fn kept_at(book: &[u8], setting: Setting, i: Injection) -> InjectionAnswer
     keep(i, answer)
 }
 
-fn stored_refusal_by(s: State, answer: AccelerationAnswer) -> u64
+fn stored_refusal_by(s: State, answer: Result<Vector, Refusal>) -> u64
     ensures { result ≡ stored_refusal_by s answer }
 {
     match answer {
-        AccelerationAnswer::Is(a) => {
+        Ok(a) => {
             if state::vectors_agree(a, acceleration_of(s)) {
                 return 0;
             }
             15
         }
-        AccelerationAnswer::Refused(k) => k,
+        Err(k) => k,
     }
 }
 

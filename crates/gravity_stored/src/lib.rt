@@ -8,15 +8,10 @@ pub mod inner;
 ghost use Rattle.std.specs.Prelude.{◌≡◌};
 ghost use Rattle.gravity_stored.specs.Injection.{injection_refusal, injection_answer, or_none, launched};
 
+use base::Refusal;
 use base::END_OF_TIME;
 use state::{Injection, Setting, State, Vector, carrying};
 use state_checks::common_refusal;
-
-#[derive(Clone, Copy)]
-pub enum InjectionAnswer {
-    Injected(State),
-    Refused(u64),
-}
 
 // The number of the first check that fails, or 0.
 fn injection_refusal(book: &[u8], setting: Setting, i: Injection) -> u64
@@ -28,22 +23,22 @@ fn injection_refusal(book: &[u8], setting: Setting, i: Injection) -> u64
 }
 
 // The state with the acceleration that the rule gives it.
-pub fn inject(book: &[u8], setting: Setting, injection: Injection) -> InjectionAnswer
+pub fn inject(book: &[u8], setting: Setting, injection: Injection) -> Result<State, Refusal>
     ensures { result ≡ injection_answer book.now setting injection }
 {
     let refusal = injection_refusal(book, setting, injection);
     if refusal == 0 {
         return inner::kept_at(book, setting, injection);
     }
-    InjectionAnswer::Refused(refusal)
+    Err(refusal)
 }
 
-fn or_none(i: Injection, answer: InjectionAnswer) -> State
+fn or_none(i: Injection, answer: Result<State, Refusal>) -> State
     ensures { result ≡ or_none i answer }
 {
     match answer {
-        InjectionAnswer::Injected(s) => s,
-        InjectionAnswer::Refused(k) => carrying(
+        Ok(s) => s,
+        Err(k) => carrying(
             i,
             Vector {
                 x: 0.0,

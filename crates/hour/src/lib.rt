@@ -6,14 +6,10 @@ ghost use Rattle.std.specs.Prelude.{◌≡◌, ◌<◌, ◌≤◌};
 ghost use Rattle.base.specs.Limits.{day_length, last_day};
 ghost use Rattle.hour.specs.Hour.{hour_answer, sidereal_angle, sidereal_answer};
 
+use base::Refusal;
+
 // Rule 0 is document 01's, rule 1 that of 1982.
 pub const LAST_RULE: u64 = 1;
-
-#[derive(Clone, Copy)]
-pub enum HourAnswer {
-    Parts(u64),
-    Refused(u64),
-}
 
 // The rule is 0 or 1.
 fn angle_by(rule: u64, d: u64, t: u64) -> u64
@@ -26,27 +22,27 @@ fn angle_by(rule: u64, d: u64, t: u64) -> u64
     hour_1982::inner::angle_1982(d, t)
 }
 
-pub fn sidereal(rule: u64, moment: u64, dut: u32) -> HourAnswer
+pub fn sidereal(rule: u64, moment: u64, dut: u32) -> Result<u64, Refusal>
     ensures { result ≡ sidereal_answer rule moment dut }
 {
     if base::LONGEST_DUT < dut {
-        return HourAnswer::Refused(4);
+        return Err(Refusal::Setting);
     }
     if LAST_RULE < rule {
-        return HourAnswer::Refused(4);
+        return Err(Refusal::Setting);
     }
     if base::END_OF_TIME <= moment {
-        return HourAnswer::Refused(3);
+        return Err(Refusal::Moment);
     }
     let lag = dut as u64;
     if lag <= moment {
         let ut = moment - lag;
-        return HourAnswer::Parts(angle_by(rule, ut / base::DAY_LENGTH, ut % base::DAY_LENGTH));
+        return Ok(angle_by(rule, ut / base::DAY_LENGTH, ut % base::DAY_LENGTH));
     }
-    HourAnswer::Refused(3)
+    Err(Refusal::Moment)
 }
 
-pub fn hour_angle(moment: u64, dut: u32) -> HourAnswer
+pub fn hour_angle(moment: u64, dut: u32) -> Result<u64, Refusal>
     ensures { result ≡ hour_answer moment dut }
 {
     sidereal(0, moment, dut)

@@ -1,5 +1,6 @@
 -- Document 02, R-4: an injection as launch crews speak it.
-use Rattle.std.specs.Prelude.{Bool, not, ◌&&◌, ℕ, ◌-◌}
+use Rattle.base.specs.declared.Refusal.{Refusal}
+use Rattle.std.specs.Prelude.{Bool, not, ◌&&◌, ℕ, ◌-◌, Result, Ok, Err}
 use Rattle.std.specs.Float.Ieee.Scale.{finite}
 use Rattle.base.specs.Choice.{if◌then◌otherwise◌, ◌<?◌, ◌≤?◌, ◌=?◌}
 use Rattle.base.specs.Limits.{circle}
@@ -8,14 +9,11 @@ use Rattle.state.specs.declared.Injection.{Injection}
 use Rattle.state.specs.declared.Vector.{Vector}
 use Rattle.state.specs.State.{finite_injection}
 use Rattle.hour.specs.Hour.{sidereal_answer}
-use Rattle.hour.specs.declared.HourAnswer.{HourAnswer}
 use Rattle.sine.specs.Sine.{sine_cosine}
 use Rattle.earth_rotation.specs.Rotation.{rotation}
 unfoldable pub use Rattle.launch_turns.specs.Turns.{place_on, horizontal, tilt, swing, relative, carried, transposed, returned}
 use Rattle.launch.specs.declared.Signed.{Signed}
 use Rattle.launch.specs.declared.Sphere.{Sphere}
-use Rattle.launch.specs.declared.SphereAnswer.{SphereAnswer}
-use Rattle.launch.specs.declared.SphereAnswer.TheVariants.{Injected, Refused}
 
 -- 90 degrees in parts
 abbrev pub quarter : ℕ
@@ -48,16 +46,16 @@ abbrev pub sizes_allowed : Sphere → Bool
 sizes_allowed s = finite s.radius && finite s.speed && above0 s.radius
 
 -- "Refusals, after 4 and 3: angle out of range 12; radius or speed not finite, radius not above 0, or a non-finite result, 7"
-unfoldable pub injection_answer : Sphere → ℕ → ℕ → ℕ → SphereAnswer
+unfoldable pub injection_answer : Sphere → ℕ → ℕ → ℕ → Result Injection Refusal
 injection_answer s rule moment dut =
-    if not (angles_allowed s) then Refused 12 otherwise
-    if not (sizes_allowed s) then Refused 7 otherwise
-    if finite_injection (injected s rule moment dut) then Injected (injected s rule moment dut) otherwise Refused 7
+    if not (angles_allowed s) then Err Refusal.Angle otherwise
+    if not (sizes_allowed s) then Err Refusal.NotFinite otherwise
+    if finite_injection (injected s rule moment dut) then Ok (injected s rule moment dut) otherwise Err Refusal.NotFinite
 
 -- an answer after the refusals of the hour angle, 4 (DUT, rule) and 3
-abbrev pub after_hour : HourAnswer → SphereAnswer → SphereAnswer
-after_hour (HourAnswer.Parts parts) answer = answer
-after_hour (HourAnswer.Refused number) answer = Refused number
+abbrev pub after_hour : Result ℕ Refusal → Result Injection Refusal → Result Injection Refusal
+after_hour (Ok parts) answer = answer
+after_hour (Err number) answer = Err number
 
-unfoldable pub sphere_answer : Sphere → ℕ → ℕ → ℕ → SphereAnswer
+unfoldable pub sphere_answer : Sphere → ℕ → ℕ → ℕ → Result Injection Refusal
 sphere_answer s rule moment dut = after_hour (sidereal_answer rule moment dut) (injection_answer s rule moment dut)

@@ -3,13 +3,12 @@
 #![tactic(auto)]
 
 ghost use Rattle.std.specs.Prelude.{true, ◌&&◌, ◌≡◌, ◌≤◌};
-ghost use Rattle.hour.specs.declared.HourAnswer.TheVariants.{Parts};
 ghost use Rattle.hour.specs.Hour.{sidereal_answer};
 ghost use Rattle.launch.specs.Signed.{signed_of};
 ghost use Rattle.launch.specs.Sphere.{quarter, angles_allowed, parts_of, place_of, velocity_of, injected, sizes_allowed, injection_answer, sphere_answer};
 
+use base::Refusal;
 use base::{CIRCLE, unless};
-use hour::HourAnswer;
 use launch_turns::{horizontal_velocity, place_on, relative_velocity, returned_state};
 use state::{Injection, Vector};
 
@@ -32,12 +31,6 @@ pub struct Sphere {
     pub speed: f64,
     pub path: Signed,
     pub azimuth: u64,
-}
-
-#[derive(Clone, Copy)]
-pub enum SphereAnswer {
-    Injected(Injection),
-    Refused(u64),
 }
 
 // A signed number of 64 bits, as in C.
@@ -119,7 +112,7 @@ fn fixed_velocity(s: Sphere) -> Vector
 }
 
 fn injected_state(s: Sphere, rule: u64, moment: u64, dut: u32, parts: u64) -> Injection
-    requires { (sidereal_answer rule moment dut ≡ Parts parts) × (angles_allowed s ≡ true) }
+    requires { (sidereal_answer rule moment dut ≡ Ok parts) × (angles_allowed s ≡ true) }
     ensures { result ≡ injected s rule moment dut }
 {
     let table = earth_rotation::inner::table_on(rule, moment, dut, parts);
@@ -129,8 +122,8 @@ fn injected_state(s: Sphere, rule: u64, moment: u64, dut: u32, parts: u64) -> In
     returned_state(moment, table, w, place, velocity)
 }
 
-fn injection(s: Sphere, rule: u64, moment: u64, dut: u32, parts: u64) -> SphereAnswer
-    requires { sidereal_answer rule moment dut ≡ Parts parts }
+fn injection(s: Sphere, rule: u64, moment: u64, dut: u32, parts: u64) -> Result<Injection, Refusal>
+    requires { sidereal_answer rule moment dut ≡ Ok parts }
     ensures { result ≡ injection_answer s rule moment dut }
 {
     let angles = angles_allowed(s);
@@ -139,18 +132,18 @@ fn injection(s: Sphere, rule: u64, moment: u64, dut: u32, parts: u64) -> SphereA
     if refusal == 0 {
         let state = injected_state(s, rule, moment, dut, parts);
         if state::injection_is_finite(state) {
-            return SphereAnswer::Injected(state);
+            return Ok(state);
         }
-        return SphereAnswer::Refused(7);
+        return Err(Refusal::NotFinite);
     }
-    SphereAnswer::Refused(refusal)
+    Err(refusal)
 }
 
-pub fn from_sphere(s: Sphere, rule: u64, moment: u64, dut: u32) -> SphereAnswer
+pub fn from_sphere(s: Sphere, rule: u64, moment: u64, dut: u32) -> Result<Injection, Refusal>
     ensures { result ≡ sphere_answer s rule moment dut }
 {
     match hour::sidereal(rule, moment, dut) {
-        HourAnswer::Parts(parts) => injection(s, rule, moment, dut, parts),
-        HourAnswer::Refused(number) => SphereAnswer::Refused(number),
+        Ok(parts) => injection(s, rule, moment, dut, parts),
+        Err(number) => Err(number),
     }
 }

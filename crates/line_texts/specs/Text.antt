@@ -1,36 +1,20 @@
 -- How an answer of `ask` is spelled: its words and numbers, in their order, as one line.
-use Rattle.std.specs.Prelude.{ℕ, List, [], ◌∷◌, ◌++◌}
-use Rattle.calendar.specs.declared.DateAnswer.{DateAnswer}
-use Rattle.calendar.specs.declared.DateAnswer.TheVariants as date
-use Rattle.calendar.specs.declared.DayAnswer.{DayAnswer}
-use Rattle.calendar.specs.declared.DayAnswer.TheVariants as day
-use Rattle.hour.specs.declared.HourAnswer.{HourAnswer}
-use Rattle.hour.specs.declared.HourAnswer.TheVariants as hour
-use Rattle.root.specs.declared.RootAnswer.{RootAnswer}
-use Rattle.root.specs.declared.RootAnswer.TheVariants as root
-use Rattle.sine.specs.declared.SineCosineAnswer.{SineCosineAnswer}
-use Rattle.sine.specs.declared.SineCosineAnswer.TheVariants as sine
-use Rattle.book.specs.declared.PositionAnswer.{PositionAnswer}
-use Rattle.book.specs.declared.PositionAnswer.TheVariants as position
+use Rattle.base.specs.declared.Refusal.{Refusal}
+use Rattle.calendar.specs.declared.Calendar.{Calendar}
+use Rattle.state.specs.declared.Vector.{Vector}
+use Rattle.state.specs.declared.Injection.{Injection}
+use Rattle.earth_fixed.specs.declared.EarthFixed.{EarthFixed}
+use Rattle.conic.specs.declared.CentredConic.{CentredConic}
+use Rattle.book.specs.declared.Motion.{Motion}
+use Rattle.sine.specs.declared.SineCosine.{SineCosine}
+use Rattle.std.specs.Prelude.{ℕ, List, [], ◌∷◌, ◌++◌, Result, Ok, Err, Float}
 use Rattle.state.specs.declared.State.{State}
 use Rattle.gravity.specs.declared.Guesses.{Guesses}
-use Rattle.gravity.specs.declared.AccelerationAnswer.{AccelerationAnswer}
-use Rattle.gravity.specs.declared.AccelerationAnswer.TheVariants as acceleration
-use Rattle.gravity_stored.specs.declared.InjectionAnswer.{InjectionAnswer}
-use Rattle.gravity_stored.specs.declared.InjectionAnswer.TheVariants as injection
 use Rattle.run.specs.declared.Outcome.{Outcome}
 use Rattle.run.specs.declared.Outcome.TheVariants as outcome
 use Rattle.run.specs.declared.RunAnswer.{RunAnswer}
-use Rattle.centre.specs.declared.MoveAnswer.{MoveAnswer}
-use Rattle.centre.specs.declared.MoveAnswer.TheVariants as move
-use Rattle.earth_fixed.specs.declared.FixedAnswer.{FixedAnswer}
-use Rattle.earth_fixed.specs.declared.FixedAnswer.TheVariants as fixed
-use Rattle.launch.specs.declared.SphereAnswer.{SphereAnswer}
-use Rattle.launch.specs.declared.SphereAnswer.TheVariants as sphere
 use Rattle.conic.specs.declared.Conic.{Conic}
 use Rattle.conic.specs.declared.Conic.TheVariants.{Ellipse, Hyperbola}
-use Rattle.conic.specs.declared.ConicAnswer.{ConicAnswer}
-use Rattle.conic.specs.declared.ConicAnswer.TheVariants as conic
 use Rattle.line_form.specs.Spelled.{Item, word, whole, real, refused_items}
 use Rattle.line_types.specs.declared.Answer.{Answer}
 use Rattle.line_types.specs.declared.Answer.TheVariants as answer
@@ -55,51 +39,51 @@ going_word = 71 ∷ 79 ∷ 73 ∷ 78 ∷ 71 ∷ []
 abbrev pub unreadable_word : List ℕ
 unreadable_word = 85 ∷ 78 ∷ 82 ∷ 69 ∷ 65 ∷ 68 ∷ 65 ∷ 66 ∷ 76 ∷ 69 ∷ []
 
-abbrev pub root_items : RootAnswer → List Item
-root_items (root.Value y) = real y ∷ []
-root_items (root.Refused n) = refused_items n
+abbrev pub root_items : Result Float Refusal → List Item
+root_items (Ok y) = real y ∷ []
+root_items (Err n) = refused_items n
 
-abbrev pub sine_items : SineCosineAnswer → List Item
-sine_items (sine.Both of) = real of.sine ∷ real of.cosine ∷ []
-sine_items (sine.Refused n) = refused_items n
+abbrev pub sine_items : Result SineCosine Refusal → List Item
+sine_items (Ok of) = real of.sine ∷ real of.cosine ∷ []
+sine_items (Err n) = refused_items n
 
-abbrev pub hour_items : HourAnswer → List Item
-hour_items (hour.Parts parts) = whole parts ∷ []
-hour_items (hour.Refused n) = refused_items n
+abbrev pub hour_items : Result ℕ Refusal → List Item
+hour_items (Ok parts) = whole parts ∷ []
+hour_items (Err n) = refused_items n
 
-abbrev pub date_items : DateAnswer → List Item
-date_items (date.Date d) = whole d.year ∷ whole d.month ∷ whole d.day ∷ []
-date_items (date.Refused n) = refused_items n
+abbrev pub date_items : Result Calendar Refusal → List Item
+date_items (Ok d) = whole d.year ∷ whole d.month ∷ whole d.day ∷ []
+date_items (Err n) = refused_items n
 
-abbrev pub day_items : DayAnswer → List Item
-day_items (day.Day d) = whole d ∷ []
-day_items (day.Refused n) = refused_items n
+abbrev pub day_items : Result ℕ Refusal → List Item
+day_items (Ok d) = whole d ∷ []
+day_items (Err n) = refused_items n
 
-abbrev pub fixed_items : FixedAnswer → List Item
-fixed_items (fixed.Fixed f) = real f.x ∷ real f.y ∷ real f.z ∷ real f.vx ∷ real f.vy ∷ real f.vz ∷ []
-fixed_items (fixed.Refused n) = refused_items n
+abbrev pub fixed_items : Result EarthFixed Refusal → List Item
+fixed_items (Ok f) = real f.x ∷ real f.y ∷ real f.z ∷ real f.vx ∷ real f.vy ∷ real f.vz ∷ []
+fixed_items (Err n) = refused_items n
 
-abbrev pub launched_items : SphereAnswer → List Item
-launched_items (sphere.Injected i) = whole i.moment ∷ real i.x ∷ real i.y ∷ real i.z ∷ real i.vx ∷ real i.vy ∷ real i.vz ∷ []
-launched_items (sphere.Refused n) = refused_items n
+abbrev pub launched_items : Result Injection Refusal → List Item
+launched_items (Ok i) = whole i.moment ∷ real i.x ∷ real i.y ∷ real i.z ∷ real i.vx ∷ real i.vy ∷ real i.vz ∷ []
+launched_items (Err n) = refused_items n
 
 -- the kind, the centre and the five figures
 abbrev pub figure_items : ℕ → Conic → List Item
 figure_items centre (Ellipse a e p q far) = word ellipse_word ∷ whole centre ∷ real a ∷ real e ∷ real p ∷ real q ∷ real far ∷ []
 figure_items centre (Hyperbola a e p q v) = word hyperbola_word ∷ whole centre ∷ real a ∷ real e ∷ real p ∷ real q ∷ real v ∷ []
 
-abbrev pub conic_items : ConicAnswer → List Item
-conic_items (conic.Figures c) = figure_items c.centre c.conic
-conic_items (conic.Refused n) = refused_items n
+abbrev pub conic_items : Result CentredConic Refusal → List Item
+conic_items (Ok c) = figure_items c.centre c.conic
+conic_items (Err n) = refused_items n
 
-abbrev pub position_items : PositionAnswer → List Item
-position_items (position.At m) =
+abbrev pub position_items : Result Motion Refusal → List Item
+position_items (Ok m) =
     real m.place.x ∷ real m.place.y ∷ real m.place.z ∷ real m.velocity.x ∷ real m.velocity.y ∷ real m.velocity.z ∷ []
-position_items (position.Refused n) = refused_items n
+position_items (Err n) = refused_items n
 
-abbrev pub acceleration_items : AccelerationAnswer → List Item
-acceleration_items (acceleration.Is a) = real a.x ∷ real a.y ∷ real a.z ∷ []
-acceleration_items (acceleration.Refused n) = refused_items n
+abbrev pub acceleration_items : Result Vector Refusal → List Item
+acceleration_items (Ok a) = real a.x ∷ real a.y ∷ real a.z ∷ []
+acceleration_items (Err n) = refused_items n
 
 -- X Y Z VX VY VZ
 abbrev pub coordinate_items : State → List Item
@@ -109,13 +93,13 @@ coordinate_items s = real s.x ∷ real s.y ∷ real s.z ∷ real s.vx ∷ real s
 abbrev pub state_items : State → List Item
 state_items s = whole s.moment ∷ whole s.centre ∷ (coordinate_items s ++ (real s.ax ∷ real s.ay ∷ real s.az ∷ []))
 
-abbrev pub injected_items : InjectionAnswer → List Item
-injected_items (injection.Injected s) = state_items s
-injected_items (injection.Refused n) = refused_items n
+abbrev pub injected_items : Result State Refusal → List Item
+injected_items (Ok s) = state_items s
+injected_items (Err n) = refused_items n
 
-abbrev pub moved_items : MoveAnswer → List Item
-moved_items (move.Moved s) = state_items s
-moved_items (move.Refused n) = refused_items n
+abbrev pub moved_items : Result State Refusal → List Item
+moved_items (Ok s) = state_items s
+moved_items (Err n) = refused_items n
 
 -- G2 .. G6
 abbrev pub guess_items : Guesses → List Item

@@ -4,93 +4,92 @@ ghost use Rattle.std.specs.Prelude.{◌+◌, ◌≤◌};
 ghost use Rattle.line_form.specs.Spelled.{spaced, line_text, Puts};
 ghost use Rattle.line_texts.specs.Text.{root_items, sine_items, hour_items, date_items, day_items, fixed_items, launched_items, figure_items, conic_items, position_items, acceleration_items, coordinate_items, state_items, injected_items, moved_items, guess_items, outcome_items, run_items, flown_items, answer_items};
 
-use book::PositionAnswer;
-use calendar::{DateAnswer, DayAnswer};
-use centre::MoveAnswer;
-use conic::{Conic, ConicAnswer};
-use earth_fixed::FixedAnswer;
-use gravity::{AccelerationAnswer, Guesses};
-use gravity_stored::InjectionAnswer;
-use hour::HourAnswer;
-use launch::SphereAnswer;
+use base::Refusal;
+use book::Motion;
+use calendar::Calendar;
+use conic::CentredConic;
+use earth_fixed::EarthFixed;
+use sine::SineCosine;
+use state::Injection;
+use state::Vector;
+use conic::Conic;
+use gravity::Guesses;
 use line_form::put::{Out, end_line, put_floats, put_numbers, put_refused};
 use line_types::Answer;
-use root::RootAnswer;
 use run::{Outcome, RunAnswer};
-use sine::SineCosineAnswer;
 use state::State;
 use text_write::inner::put_bytes;
 
-fn put_root(out: &mut Out, at: usize, answer: RootAnswer) -> usize
+fn put_root(out: &mut Out, at: usize, answer: Result<f64, Refusal>) -> usize
     requires { at + 512 ≤ 65_536 }
     ensures { Puts out.old at (spaced (root_items answer)) out.new 1 512 result }
 {
     match answer {
-        RootAnswer::Value(y) => put_floats(out, at, &[y]),
-        RootAnswer::Refused(number) => put_refused(out, at, number),
+        Ok(y) => put_floats(out, at, &[y]),
+        Err(number) => put_refused(out, at, number),
     }
 }
 
-fn put_sine(out: &mut Out, at: usize, answer: SineCosineAnswer) -> usize
+fn put_sine(out: &mut Out, at: usize, answer: Result<SineCosine, Refusal>) -> usize
     requires { at + 512 ≤ 65_536 }
     ensures { Puts out.old at (spaced (sine_items answer)) out.new 1 512 result }
 {
     match answer {
-        SineCosineAnswer::Both(of) => put_floats(out, at, &[of.sine, of.cosine]),
-        SineCosineAnswer::Refused(number) => put_refused(out, at, number),
+        Ok(of) => put_floats(out, at, &[of.sine, of.cosine]),
+        Err(number) => put_refused(out, at, number),
     }
 }
 
-fn put_hour(out: &mut Out, at: usize, answer: HourAnswer) -> usize
+fn put_hour(out: &mut Out, at: usize, answer: Result<u64, Refusal>) -> usize
     requires { at + 512 ≤ 65_536 }
     ensures { Puts out.old at (spaced (hour_items answer)) out.new 1 512 result }
 {
     match answer {
-        HourAnswer::Parts(parts) => put_numbers(out, at, &[parts]),
-        HourAnswer::Refused(number) => put_refused(out, at, number),
+        Ok(parts) => put_numbers(out, at, &[parts]),
+        Err(number) => put_refused(out, at, number),
     }
 }
 
-fn put_date(out: &mut Out, at: usize, answer: DateAnswer) -> usize
+fn put_date(out: &mut Out, at: usize, answer: Result<Calendar, Refusal>) -> usize
     requires { at + 512 ≤ 65_536 }
     ensures { Puts out.old at (spaced (date_items answer)) out.new 1 512 result }
 {
     match answer {
-        DateAnswer::Date(date) => put_numbers(out, at, &[date.year, date.month, date.day]),
-        DateAnswer::Refused(number) => put_refused(out, at, number),
+        Ok(date) => put_numbers(out, at, &[date.year, date.month, date.day]),
+        Err(number) => put_refused(out, at, number),
     }
 }
 
-fn put_day(out: &mut Out, at: usize, answer: DayAnswer) -> usize
+fn put_day(out: &mut Out, at: usize, answer: Result<u64, Refusal>) -> usize
     requires { at + 512 ≤ 65_536 }
     ensures { Puts out.old at (spaced (day_items answer)) out.new 1 512 result }
 {
     match answer {
-        DayAnswer::Day(day) => put_numbers(out, at, &[day]),
-        DayAnswer::Refused(number) => put_refused(out, at, number),
+        Ok(day) => put_numbers(out, at, &[day]),
+        Err(number) => put_refused(out, at, number),
     }
 }
 
-fn put_fixed(out: &mut Out, at: usize, answer: FixedAnswer) -> usize
+fn put_fixed(out: &mut Out, at: usize, answer: Result<EarthFixed, Refusal>) -> usize
     requires { at + 512 ≤ 65_536 }
     ensures { Puts out.old at (spaced (fixed_items answer)) out.new 1 512 result }
 {
     match answer {
-        FixedAnswer::Fixed(f) => put_floats(out, at, &[f.x, f.y, f.z, f.vx, f.vy, f.vz]),
-        FixedAnswer::Refused(number) => put_refused(out, at, number),
+        Ok(f) => put_floats(out, at, &[f.x, f.y, f.z, f.vx, f.vy, f.vz]),
+        Err(number) => put_refused(out, at, number),
     }
 }
 
-fn put_launched(out: &mut Out, from: usize, answer: SphereAnswer) -> usize
+fn put_launched(out: &mut Out, from: usize, answer: Result<Injection, Refusal>) -> usize
     requires { from + 512 ≤ 65_536 }
     ensures { Puts out.old from (spaced (launched_items answer)) out.new 1 512 result }
 {
     match answer {
-        SphereAnswer::Injected(s) => {
+        Ok(s) => {
             let at = put_numbers(out, from, &[s.moment]);
             put_floats(out, at, &[s.x, s.y, s.z, s.vx, s.vy, s.vz])
         }
-        SphereAnswer::Refused(number) => put_refused(out, from, number),
+        Err(number) => put_refused(out, from, number),
     }
 }
 
@@ -113,40 +112,40 @@ fn put_figures(out: &mut Out, from: usize, centre: u64, conic: Conic) -> usize
     }
 }
 
-fn put_conic(out: &mut Out, at: usize, answer: ConicAnswer) -> usize
+fn put_conic(out: &mut Out, at: usize, answer: Result<CentredConic, Refusal>) -> usize
     requires { at + 512 ≤ 65_536 }
     ensures { Puts out.old at (spaced (conic_items answer)) out.new 1 512 result }
 {
     match answer {
-        ConicAnswer::Figures(centred) => {
+        Ok(centred) => {
             let conic = centred.conic;
             put_figures(out, at, centred.centre, conic)
         }
-        ConicAnswer::Refused(number) => put_refused(out, at, number),
+        Err(number) => put_refused(out, at, number),
     }
 }
 
-fn put_position(out: &mut Out, at: usize, answer: PositionAnswer) -> usize
+fn put_position(out: &mut Out, at: usize, answer: Result<Motion, Refusal>) -> usize
     requires { at + 512 ≤ 65_536 }
     ensures { Puts out.old at (spaced (position_items answer)) out.new 1 512 result }
 {
     match answer {
-        PositionAnswer::At(motion) => {
+        Ok(motion) => {
             let p = motion.place;
             let w = motion.velocity;
             put_floats(out, at, &[p.x, p.y, p.z, w.x, w.y, w.z])
         }
-        PositionAnswer::Refused(number) => put_refused(out, at, number),
+        Err(number) => put_refused(out, at, number),
     }
 }
 
-fn put_acceleration(out: &mut Out, at: usize, answer: AccelerationAnswer) -> usize
+fn put_acceleration(out: &mut Out, at: usize, answer: Result<Vector, Refusal>) -> usize
     requires { at + 512 ≤ 65_536 }
     ensures { Puts out.old at (spaced (acceleration_items answer)) out.new 1 512 result }
 {
     match answer {
-        AccelerationAnswer::Is(a) => put_floats(out, at, &[a.x, a.y, a.z]),
-        AccelerationAnswer::Refused(number) => put_refused(out, at, number),
+        Ok(a) => put_floats(out, at, &[a.x, a.y, a.z]),
+        Err(number) => put_refused(out, at, number),
     }
 }
 
@@ -166,23 +165,23 @@ fn put_state(out: &mut Out, from: usize, s: State) -> usize
     put_floats(out, at, &[s.ax, s.ay, s.az])
 }
 
-fn put_injected(out: &mut Out, at: usize, answer: InjectionAnswer) -> usize
+fn put_injected(out: &mut Out, at: usize, answer: Result<State, Refusal>) -> usize
     requires { at + 512 ≤ 65_536 }
     ensures { Puts out.old at (spaced (injected_items answer)) out.new 1 512 result }
 {
     match answer {
-        InjectionAnswer::Injected(s) => put_state(out, at, s),
-        InjectionAnswer::Refused(number) => put_refused(out, at, number),
+        Ok(s) => put_state(out, at, s),
+        Err(number) => put_refused(out, at, number),
     }
 }
 
-fn put_moved(out: &mut Out, at: usize, answer: MoveAnswer) -> usize
+fn put_moved(out: &mut Out, at: usize, answer: Result<State, Refusal>) -> usize
     requires { at + 512 ≤ 65_536 }
     ensures { Puts out.old at (spaced (moved_items answer)) out.new 1 512 result }
 {
     match answer {
-        MoveAnswer::Moved(s) => put_state(out, at, s),
-        MoveAnswer::Refused(number) => put_refused(out, at, number),
+        Ok(s) => put_state(out, at, s),
+        Err(number) => put_refused(out, at, number),
     }
 }
 

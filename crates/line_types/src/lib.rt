@@ -2,33 +2,31 @@
 
 #![tactic(auto)]
 
-use book::PositionAnswer;
-use calendar::{DateAnswer, DayAnswer};
-use centre::MoveAnswer;
-use conic::ConicAnswer;
-use earth_fixed::FixedAnswer;
-use gravity::AccelerationAnswer;
-use gravity_stored::InjectionAnswer;
-use hour::HourAnswer;
-use launch::SphereAnswer;
-use root::RootAnswer;
+use base::Refusal;
+use book::Motion;
+use calendar::Calendar;
+use conic::CentredConic;
+use earth_fixed::EarthFixed;
+use sine::SineCosine;
+use state::Injection;
+use state::State;
+use state::Vector;
 use run::RunAnswer;
-use sine::SineCosineAnswer;
 
 #[derive(Clone, Copy)]
 pub enum Answer {
-    Root(RootAnswer),
-    SineCosine(SineCosineAnswer),
-    Hour(HourAnswer),
-    Date(DateAnswer),
-    Day(DayAnswer),
-    Fixed(FixedAnswer),
-    Launched(SphereAnswer),
-    Conic(ConicAnswer),
-    Position(PositionAnswer),
-    Acceleration(AccelerationAnswer),
-    Injected(InjectionAnswer),
-    Moved(MoveAnswer),
+    Root(Result<f64, Refusal>),
+    SineCosine(Result<SineCosine, Refusal>),
+    Hour(Result<u64, Refusal>),
+    Date(Result<Calendar, Refusal>),
+    Day(Result<u64, Refusal>),
+    Fixed(Result<EarthFixed, Refusal>),
+    Launched(Result<Injection, Refusal>),
+    Conic(Result<CentredConic, Refusal>),
+    Position(Result<Motion, Refusal>),
+    Acceleration(Result<Vector, Refusal>),
+    Injected(Result<State, Refusal>),
+    Moved(Result<State, Refusal>),
     Run(RunAnswer),
     Flown(RunAnswer),
     Unreadable,

@@ -1,5 +1,6 @@
 -- Document 01, "strip": the text that it prints, from the bytes that it reads. (02, R-7) strip144 has the same definition.
-use Rattle.std.specs.Prelude.{ℕ, zero, suc, ◌-◌, ◌/◌, List, [], ◌∷◌, ◌++◌, drop}
+use Rattle.base.specs.declared.Refusal.{Refusal}
+use Rattle.std.specs.Prelude.{ℕ, zero, suc, ◌-◌, ◌/◌, List, [], ◌∷◌, ◌++◌, drop, Result, Ok, Err}
 use Rattle.base.specs.Choice.{if◌then◌otherwise◌, ◌=?◌}
 use Rattle.state.specs.declared.State.{State}
 use Rattle.run.specs.Step.{Moved, On, Off, step}
@@ -10,8 +11,6 @@ use Rattle.listing_write.specs.Lines.{header_line, state_line, outcome_line, lon
 use Rattle.strip_order.specs.Order.{order_length, read_order}
 use Rattle.strip_order.specs.declared.Form.{Form}
 use Rattle.strip_order.specs.declared.Order.{Order}
-use Rattle.strip_order.specs.declared.OrderAnswer.{OrderAnswer}
-use Rattle.strip_order.specs.declared.OrderAnswer.TheVariants as answer
 
 -- the states that up to n steps f reach after s, in order: a refused step ends them
 abbrev pub and_then : (State → List State) → Moved → List State
@@ -45,9 +44,9 @@ order_text book o =
     then header_line o.h ++ run_text (step book o.setting o.h) o.target (steps_to s o.h o.target) s
     otherwise lone_refusal k
 
-abbrev pub answer_text : List ℕ → OrderAnswer → List ℕ
-answer_text book (answer.Is o) = order_text book o
-answer_text book (answer.Refused k) = lone_refusal k
+abbrev pub answer_text : List ℕ → Result Order Refusal → List ℕ
+answer_text book (Ok o) = order_text book o
+answer_text book (Err k) = lone_refusal k
 
 -- an order, "then the book, to the end"
 unfoldable pub strip_text : Form → List ℕ → List ℕ

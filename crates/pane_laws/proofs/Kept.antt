@@ -2,11 +2,11 @@
 use mathlib.Core.List.{List, [], ◌∷◌, ◌++◌}
 use mathlib.Core.Path.{◌≡◌}
 use Prim.Native.Nat.{ℕ}
+use Rattle.std.specs.Prelude.{Ok}
 use Rattle.state.specs.declared.State.{State}
 use Rattle.state.specs.declared.Setting.{Setting}
 use Rattle.run.specs.Run.{run_answer}
 use Rattle.centre.specs.Move.{move_answer}
-use Rattle.centre.specs.declared.MoveAnswer.TheVariants.{Moved}
 use Rattle.centre_laws.specs.Legs.{Move, MovesStand, none}
 use Rattle.centre_laws.proofs.Legs.{at_its_moment, stands_there, one_more_stands}
 use Rattle.book_laws.proofs.Walks.{moves_fuller}
@@ -25,7 +25,7 @@ module _ (setting : Setting) (h : ℕ) (injection : State) where
     pub order : InOrder pane
 
   moved_on : (b : List ℕ) (made : List Move) (hand : List State) (pane : Pane) (s next : State) (centre : ℕ) → Sound b made hand pane → InHand s hand
-      → move_answer b setting s centre ≡ Moved next
+      → move_answer b setting s centre ≡ Ok next
       → MovesStand b setting h injection (made ++ (record { at = s.moment; centre = centre } ∷ [])) next
   moved_on b made hand pane s next centre before i e =
       let r = in_hand b setting h before.start s hand before.hands i in

@@ -7,6 +7,7 @@ use Prim.Native.Nat.{ℕ, zero, suc, ◌+◌, ◌-◌, ◌*◌, ◌≤◌, ◌<�
 use native.Mathlib.Nat.{zero-mul, suc-mul, add-zero, add-mul, add-suc}
 use native.Mathlib.Decide.{dec_le}
 use native.Mathlib.Omega.{arith}
+use Rattle.base.specs.declared.Refusal.{Refusal}
 use Rattle.base.specs.Choice.{if◌then◌otherwise◌}
 use Rattle.state.specs.State.{centre_allowed}
 use Rattle.state.specs.declared.State.{State}
@@ -128,7 +129,7 @@ module _ (b : List ℕ) (setting : Setting) (h : ℕ) where
   after_one : (start : State) (pane : Pane) (a s : State) → PaneReached start pane → Reached start a → Reached start s → PaneReached start (after pane (taken_after a s))
   after_one start pane a s all older newer = go (follows a s)
     where
-      go : (ok : Bool) → PaneReached start (after pane (if ok then Taken (Two a s) otherwise Refused 18))
+      go : (ok : Bool) → PaneReached start (after pane (if ok then Taken (Two a s) otherwise Refused Refusal.NotNext))
       go true = (older, newer)
       go false = all
 

@@ -1,12 +1,11 @@
 -- The actions of a night desk, in any order and any number: with the states that it has in hand, the book in use, and the pane.
-use Rattle.std.specs.Prelude.{true, List, [], ◌∷◌, ◌++◌, ◌⊎◌, ◌≡◌, ℕ}
+use Rattle.std.specs.Prelude.{true, List, [], ◌∷◌, ◌++◌, ◌⊎◌, ◌≡◌, ℕ, Ok}
 use Rattle.state.specs.declared.State.{State}
 use Rattle.state.specs.declared.Setting.{Setting}
 use Rattle.book.specs.Passes.{passes}
 use Rattle.gravity.specs.declared.Guesses.{Guesses}
 use Rattle.run.specs.Run.{run_answer}
 use Rattle.centre.specs.Move.{move_answer}
-use Rattle.centre.specs.declared.MoveAnswer.TheVariants.{Moved}
 use Rattle.centre_laws.specs.Legs.{Move}
 use Rattle.book_laws.specs.Fuller.{HoldsAll}
 use Rattle.pane_live.specs.Pane.{take, feed, clear, after}
@@ -42,5 +41,5 @@ pub data Desk (setting : Setting) (h : ℕ) (injection : State) : List ℕ → L
       → HoldsAll b c → passes c ≡ true → Desk setting h injection c made hand pane
   -- it moves a state in hand to another centre; it then drops every other state in hand and clears the pane. A refused move changes nothing.
   moves : (b : List ℕ) (made : List Move) (hand : List State) (pane : Pane) (s next : State) (centre : ℕ)
-      → Desk setting h injection b made hand pane → InHand s hand → move_answer b setting s centre ≡ Moved next
+      → Desk setting h injection b made hand pane → InHand s hand → move_answer b setting s centre ≡ Ok next
       → Desk setting h injection b (made ++ (record { at = s.moment; centre = centre } ∷ [])) (next ∷ []) clear

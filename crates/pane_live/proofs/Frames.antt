@@ -1,4 +1,5 @@
 -- What a frame shows. Assumes nothing.
+use Rattle.base.specs.declared.Refusal.{Refusal}
 use Rattle.std.proofs.Common.{◌≡◌, ℕ, ◌-◌, ◌<◌, ◌≤◌, Bool, true, false, sym, refl, ap, ◌∙◌, arith, ltb-false, le-ltb, lt-ltb, eq-eqb, ne_eqb}
 use Rattle.base.specs.Choice.{if◌then◌otherwise◌, ◌<?◌}
 use Rattle.state.specs.State.{position, finite_vector}
@@ -14,7 +15,7 @@ use Rattle.pane_live.specs.declared.FrameAnswer.TheVariants as frame
 shown_once : (p q : Vector) → shown p ≡ frame.Current q → p ≡ q
 shown_once p q = go (finite_vector p)
   where
-    go : (fin : Bool) → (if fin then frame.Current p otherwise frame.Refused 7) ≡ frame.Current q → p ≡ q
+    go : (fin : Bool) → (if fin then frame.Current p otherwise frame.Refused Refusal.NotFinite) ≡ frame.Current q → p ≡ q
     go true e = cc
     go false e = let z : ◌≡◌ {A = ℕ} 0 1 = cc in absurd (omega arith)
 

@@ -1,4 +1,5 @@
 -- The states in the pane. Assumes nothing.
+use Rattle.base.specs.declared.Refusal.{Refusal}
 use Rattle.std.proofs.Common.{◌≡◌, ℕ, ◌<◌, ◌≤◌, Bool, true, false, ◌&&◌, List, [], ◌∷◌, sym, refl, ap, ◌∙◌, arith, ltb-true, le-ltb, eqb-true}
 use Rattle.base.specs.Choice.{if◌then◌otherwise◌, ◌<?◌, ◌=?◌}
 use Rattle.state.specs.declared.State.{State}
@@ -17,7 +18,7 @@ use Rattle.pane_live.specs.declared.TakeAnswer.TheVariants.{Taken, Unchanged, Re
 after_one : (pane : Pane) (a s : State) → InOrder pane → InOrder (after pane (taken_after a s))
 after_one pane a s order = go (follows a s) refl
   where
-    go : (ok : Bool) → follows a s ≡ ok → InOrder (after pane (if ok then Taken (Two a s) otherwise Refused 18))
+    go : (ok : Bool) → follows a s ≡ ok → InOrder (after pane (if ok then Taken (Two a s) otherwise Refused Refusal.NotNext))
     go true e =
         record {
           later = ltb-true a.moment s.moment (right (s.centre =? a.centre) (a.moment <? s.moment) e);
@@ -55,13 +56,13 @@ unfolding take
 cleared_takes s = refl
 
 -- a state that is not later is not taken: 18, and the pane is unchanged
-not_later : (newer s : State) → s.moment ≤ newer.moment → taken_after newer s ≡ Refused 18
+not_later : (newer s : State) → s.moment ≤ newer.moment → taken_after newer s ≡ Refused Refusal.NotNext
 not_later newer s old = rw (le-ltb newer.moment s.moment old) (go (s.centre =? newer.centre))
   where
-    go : (same : Bool) → (if same && false then Taken (Two newer s) otherwise Refused 18) ≡ Refused 18
+    go : (same : Bool) → (if same && false then Taken (Two newer s) otherwise Refused Refusal.NotNext) ≡ Refused Refusal.NotNext
     go true = refl
     go false = refl
 
-pub none_later : (a b s : State) → s.moment ≤ b.moment → take (Two a b) s ≡ Refused 18
+pub none_later : (a b s : State) → s.moment ≤ b.moment → take (Two a b) s ≡ Refused Refusal.NotNext
 unfolding take
 none_later a b s old = not_later b s old

@@ -1,4 +1,5 @@
 -- Document 02, R-14: the live pane. "It keeps the last two reached states and answers each frame with current, late or empty."
+use Rattle.base.specs.declared.Refusal.{Refusal}
 use Rattle.std.specs.Prelude.{ℕ, ◌-◌, Bool, ◌&&◌, Float}
 use Rattle.base.specs.Choice.{if◌then◌otherwise◌, ◌<?◌, ◌=?◌}
 use Rattle.base.specs.Floats.{◌⊕◌, ◌⊖◌, ◌⊗◌, ◌⊘◌, whole}
@@ -23,7 +24,7 @@ follows newer s = (s.centre =? newer.centre) && (newer.moment <? s.moment)
 
 -- "Refusals: such a state is 18"
 abbrev pub taken_after : State → State → TakeAnswer
-taken_after newer s = if follows newer s then Taken (Two newer s) otherwise Refused 18
+taken_after newer s = if follows newer s then Taken (Two newer s) otherwise Refused Refusal.NotNext
 
 unfoldable pub take : Pane → State → TakeAnswer
 take Blank s = Taken (One s)
@@ -85,7 +86,7 @@ figure a b t =
 
 -- "a figure not finite is 7"
 abbrev pub shown : Vector → FrameAnswer
-shown p = if finite_vector p then frame.Current p otherwise frame.Refused 7
+shown p = if finite_vector p then frame.Current p otherwise frame.Refused Refusal.NotFinite
 
 -- "Late: the moment is past the newer state; the pane gives how late, and no position"; "Empty: .. the moment is before the older"; "Current:
 -- the frame's moment lies between them, ends included"

@@ -7,6 +7,7 @@ pub mod inner;
 ghost use Rattle.std.specs.Prelude.{◌≡◌, ◌≤◌};
 ghost use Rattle.pane_live.specs.Pane.{follows, taken_after, take, feed_by, feed, after, clear, between, figure, shown, frame_between, frame_at};
 
+use base::Refusal;
 use inner::{along_cubic, to_float};
 use run::{Outcome, RunAnswer};
 use state::{State, Vector, position_of};
@@ -51,7 +52,7 @@ fn taken_after(newer: State, s: State) -> TakeAnswer
         let both = Pane::Two(newer, s);
         return TakeAnswer::Taken(both);
     }
-    TakeAnswer::Refused(18)
+    TakeAnswer::Refused(Refusal::NotNext)
 }
 
 // A new state, if its centre agrees and its moment is later.
@@ -135,7 +136,7 @@ fn show(p: Vector) -> FrameAnswer
     if state::vector_is_finite(p) {
         return FrameAnswer::Current(p);
     }
-    FrameAnswer::Refused(7)
+    FrameAnswer::Refused(Refusal::NotFinite)
 }
 
 fn frame_between(a: State, b: State, t: u64) -> FrameAnswer

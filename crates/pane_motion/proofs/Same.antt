@@ -5,6 +5,7 @@ use mathlib.Core.Path.{◌≡◌, refl, sym, ap, subst, ◌∙◌}
 use Prim.Native.Nat.{ℕ, ◌-◌, ◌<◌}
 use native.Mathlib.Omega.{arith}
 use borrow.Author.Tests.{eq-eqb, ne_eqb}
+use Rattle.base.specs.declared.Refusal.{Refusal}
 use Rattle.base.specs.Choice.{if◌then◌otherwise◌}
 use Rattle.state.specs.State.{position, velocity, finite_vector}
 use Rattle.state.specs.declared.State.{State}
@@ -26,7 +27,7 @@ use Rattle.pane_motion.specs.declared.FrameMotion.TheVariants.{Current, Late, Em
 current_of : (f : FrameAnswer) (v : Vector) (m : Motion) → with_velocity f v ≡ Current m → f ≡ frame.Current m.position
 current_of (frame.Current p) v m e = by (finite_vector v) e
   where
-    by : (fin : Bool) → (if fin then Current (moving p v) otherwise Refused 7) ≡ Current m → frame.Current p ≡ frame.Current m.position
+    by : (fin : Bool) → (if fin then Current (moving p v) otherwise Refused Refusal.NotFinite) ≡ Current m → frame.Current p ≡ frame.Current m.position
     by true e = let same : moving p v ≡ m = cc in ap (λ (x : Motion). frame.Current x.position) same
     by false e = let z : ◌≡◌ {A = ℕ} 0 1 = cc in absurd (omega arith)
 current_of (frame.Late ms) v m e = let z : ◌≡◌ {A = ℕ} 0 1 = cc in absurd (omega arith)
@@ -34,10 +35,10 @@ current_of frame.Empty v m e = let z : ◌≡◌ {A = ℕ} 0 1 = cc in absurd (o
 current_of (frame.Refused k) v m e = let z : ◌≡◌ {A = ℕ} 0 1 = cc in absurd (omega arith)
 
 -- an answer that no current frame gives
-not_current : (p v : Vector) (answer : FrameMotion) → ((m : Motion) → Current m ≡ answer → ⊥) → (Refused 7 ≡ answer → ⊥) → with_velocity (frame.Current p) v ≡ answer → ⊥
+not_current : (p v : Vector) (answer : FrameMotion) → ((m : Motion) → Current m ≡ answer → ⊥) → (Refused Refusal.NotFinite ≡ answer → ⊥) → with_velocity (frame.Current p) v ≡ answer → ⊥
 not_current p v answer no-motion no_refusal = by (finite_vector v)
   where
-    by : (fin : Bool) → (if fin then Current (moving p v) otherwise Refused 7) ≡ answer → ⊥
+    by : (fin : Bool) → (if fin then Current (moving p v) otherwise Refused Refusal.NotFinite) ≡ answer → ⊥
     by true e = no-motion (moving p v) e
     by false e = no_refusal e
 
@@ -67,7 +68,7 @@ record Alone (f : FrameAnswer) (v : Vector) (k : ℕ) : Type 0 where
 refused_of : (f : FrameAnswer) (v : Vector) (k : ℕ) → with_velocity f v ≡ Refused k → (f ≡ frame.Refused k) ⊎ Alone f v k
 refused_of (frame.Current p) v k e = by (finite_vector v) refl e
   where
-    by : (fin : Bool) → finite_vector v ≡ fin → (if fin then Current (moving p v) otherwise Refused 7) ≡ Refused k → (frame.Current p ≡ frame.Refused k) ⊎ Alone (frame.Current p) v k
+    by : (fin : Bool) → finite_vector v ≡ fin → (if fin then Current (moving p v) otherwise Refused Refusal.NotFinite) ≡ Refused k → (frame.Current p ≡ frame.Refused k) ⊎ Alone (frame.Current p) v k
     by true f e = let z : ◌≡◌ {A = ℕ} 0 1 = cc in absurd (omega arith)
     by false f e = inr (record { seven = cc; place = p; shows = refl; unfit = f })
 refused_of (frame.Late ms) v k e = let z : ◌≡◌ {A = ℕ} 0 1 = cc in absurd (omega arith)
@@ -99,7 +100,7 @@ module _ (a b : State) (t : ℕ) where
   unfolding motion_at
   of_frame_lem f e = ap (λ (g : FrameAnswer). with_velocity g (frame_velocity a b t)) e
 
-  unfit_refused : NoVelocity (Two a b) t → motion_at (Two a b) t ≡ Refused 7
+  unfit_refused : NoVelocity (Two a b) t → motion_at (Two a b) t ≡ Refused Refusal.NotFinite
   unfit_refused n =
       let held = n.held in
       let first : n.older ≡ a = cc in
@@ -108,7 +109,7 @@ module _ (a b : State) (t : ℕ) where
       subst (λ (x : State). finite_vector (frame_velocity a x t) ≡ false) second
       (subst (λ (x : State). finite_vector (frame_velocity x n.newer t) ≡ false) first n.not_finite) in
       of_frame_lem (frame.Current n.position) n.shown
-      ∙ ap (λ (fin : Bool). if fin then Current (moving n.position (frame_velocity a b t)) otherwise Refused 7) unfit
+      ∙ ap (λ (fin : Bool). if fin then Current (moving n.position (frame_velocity a b t)) otherwise Refused Refusal.NotFinite) unfit
 
   two_same : SameFrame (Two a b) t
   unfolding motion_at
@@ -150,7 +151,7 @@ same_frame (Two a b) t = two_same a b t
 velocity_with : (f : FrameAnswer) (v : Vector) (m : Motion) → with_velocity f v ≡ Current m → m.velocity ≡ v
 velocity_with (frame.Current p) v m e = by (finite_vector v) e
   where
-    by : (fin : Bool) → (if fin then Current (moving p v) otherwise Refused 7) ≡ Current m → m.velocity ≡ v
+    by : (fin : Bool) → (if fin then Current (moving p v) otherwise Refused Refusal.NotFinite) ≡ Current m → m.velocity ≡ v
     by true e = let same : m ≡ moving p v = cc in ap (λ (x : Motion). x.velocity) same
     by false e = let z : ◌≡◌ {A = ℕ} 0 1 = cc in absurd (omega arith)
 velocity_with (frame.Late ms) v m e = let z : ◌≡◌ {A = ℕ} 0 1 = cc in absurd (omega arith)

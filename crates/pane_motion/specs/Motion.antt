@@ -1,5 +1,6 @@
 -- Document 02, R-14, with a velocity: a frame shows the position on "the cubic through both positions and velocities", and the derivative
 -- of the cubic there (docs/DECISIONS.md, "what velocity has a frame").
+use Rattle.base.specs.declared.Refusal.{Refusal}
 use Rattle.std.specs.Prelude.{ℕ, ◌-◌, Float}
 use Rattle.base.specs.Choice.{if◌then◌otherwise◌, ◌=?◌}
 use Rattle.base.specs.Floats.{◌⊕◌, ◌⊖◌, ◌⊗◌, ◌⊘◌, whole}
@@ -45,7 +46,7 @@ moving p v = record { position = p; velocity = v }
 
 -- "Any of the six numbers that is not finite is 7": the frame has checked the first three
 abbrev pub shown_motion : Vector → Vector → FrameMotion
-shown_motion p v = if finite_vector v then Current (moving p v) otherwise Refused 7
+shown_motion p v = if finite_vector v then Current (moving p v) otherwise Refused Refusal.NotFinite
 
 -- the frame, with the velocity v if it is current
 abbrev pub with_velocity : FrameAnswer → Vector → FrameMotion

@@ -7,6 +7,7 @@ ghost use Rattle.state.specs.State.{position, velocity};
 ghost use Rattle.pane_live.specs.Pane.{between, figure, shown};
 ghost use Rattle.pane_motion.specs.Motion.{rate, rate_between, frame_velocity, moving, with_velocity, motion_at};
 
+use base::Refusal;
 use pane_live::Pane;
 use pane_live::inner::{along_cubic, to_float};
 use state::{State, Vector, position_of, velocity_of};
@@ -89,7 +90,7 @@ fn show(m: Motion) -> FrameMotion
             return FrameMotion::Current(m);
         }
     }
-    FrameMotion::Refused(7)
+    FrameMotion::Refused(Refusal::NotFinite)
 }
 
 fn motion_between(a: State, b: State, t: u64) -> FrameMotion

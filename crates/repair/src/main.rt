@@ -9,7 +9,7 @@
 
 ghost use Rattle.std.specs.Prelude.{◌≤◌, length};
 
-use repair_book::{Changed, MOST_ENTRIES, RepairAnswer, Report};
+use repair_book::{Changed, MOST_ENTRIES, Report};
 use std::io;
 use std::rt::Env;
 use text_write::Field;
@@ -140,10 +140,10 @@ fn print_repaired(rt: &(impl Print + Eprint), input: &[u8], output: &mut [u8]) {
     let mut fates = [0u16; MOST_ENTRIES];
     let answer = repair_book::repair(input, output, &mut fates);
     match answer {
-        RepairAnswer::Written(report) => {
+        Ok(report) => {
             print_written(rt, output, report, &fates);
         }
-        RepairAnswer::Refused(refusal) => {
+        Err(refusal) => {
             tell(rt, "REFUSED ");
             tell_numbered(rt, refusal as usize, "\n");
         }

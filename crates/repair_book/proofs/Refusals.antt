@@ -6,9 +6,9 @@ use mathlib.Core.Path.{◌≡◌, refl, ◌∙◌}
 use native.Mathlib.Omega.{arith}
 use lib.ListN.{length}
 use borrow.Author.Tests.{ltb-false, eq-eqb, ne_eqb}
+use Rattle.std.specs.Prelude.{Err}
 use Rattle.base.specs.Choice.{if◌then◌otherwise◌, ◌<?◌}
 use Rattle.repair_book.specs.Repaired.{repair_refusal, outcome_of, mended, repair_answer, output_after, fates_after, repair_outcome}
-use Rattle.repair_book.specs.declared.RepairAnswer.TheVariants.{Refused}
 
 by_tests : (x y z : Bool) → ◌≡◌ {A = ℕ} (if x || y then 16 otherwise if z then 1 otherwise 0) 0 → (x ≡ false) × (y ≡ false) × (z ≡ false)
 by_tests true y z h = absurd (omega arith)
@@ -26,6 +26,6 @@ module _ (b out fates : List ℕ) where
   unfolding repair_answer output_after fates_after
   none_refused h = rw (eq-eqb (repair_refusal (length b) (length out)) 0 h)
 
-  pub refused_by_lem : (refusal : ℕ) → refusal ≡ repair_refusal (length b) (length out) → (refusal ≡ 0 → ⊥) → outcome_of (Refused refusal) out fates ≡ repair_outcome b out fates
+  pub refused_by_lem : (refusal : ℕ) → refusal ≡ repair_refusal (length b) (length out) → (refusal ≡ 0 → ⊥) → outcome_of (Err refusal) out fates ≡ repair_outcome b out fates
   unfolding repair_answer output_after fates_after
   refused_by_lem refusal h n = rw (ne_eqb (repair_refusal (length b) (length out)) 0 (λ z. n (h ∙ z)), h)

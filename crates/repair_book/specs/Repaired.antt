@@ -1,6 +1,8 @@
 -- Document 02, R-10, "Save what can be saved of a damaged book": the answer, and the output and the fates afterwards. They depend on the
 -- bytes of the input and the length of the output.
-use Rattle.std.specs.Prelude.{ℕ, min, ◌||◌, List, [], length}
+use Rattle.base.specs.declared.Refusal.{Refusal}
+use Rattle.repair_book.specs.declared.Report.{Report}
+use Rattle.std.specs.Prelude.{ℕ, min, ◌||◌, List, [], length, Result, Ok, Err}
 use Rattle.base.specs.Choice.{if◌then◌otherwise◌, ◌<?◌, ◌=?◌}
 use Rattle.book.specs.Passes.{longest_book}
 use Rattle.repair_sort.specs.Reasons.{looked_at, reasons}
@@ -8,8 +10,6 @@ use Rattle.repair_sort.specs.Ordered.{ordered}
 use Rattle.repair_write.specs.Anew.{book_anew, with_text}
 use Rattle.repair_choose.specs.Forward.{Sofar, forward}
 use Rattle.repair_book.specs.Report.{report_of}
-use Rattle.repair_book.specs.declared.RepairAnswer.{RepairAnswer}
-use Rattle.repair_book.specs.declared.RepairAnswer.TheVariants.{Written, Refused}
 
 -- "Refusals: input or output of fewer than 8 bytes is 16, then input above the limit is 1"; 0 if there is none
 abbrev pub repair_refusal : ℕ → ℕ → ℕ
@@ -30,9 +30,9 @@ abbrev pub kept_of : List ℕ → ℕ → List ℕ
 kept_of b room = (repaired b room []).kept
 
 -- the answer, by the length of the output; then the output and the fates afterwards. A refusal leaves both unchanged.
-unfoldable pub repair_answer : List ℕ → ℕ → RepairAnswer
+unfoldable pub repair_answer : List ℕ → ℕ → Result Report Refusal
 repair_answer b output =
-    if repair_refusal (length b) output =? 0 then Written (report_of b (kept_of b (room_of output))) otherwise Refused (repair_refusal (length b) output)
+    if repair_refusal (length b) output =? 0 then Ok (report_of b (kept_of b (room_of output))) otherwise Err (repair_refusal (length b) output)
 
 unfoldable pub output_after : List ℕ → List ℕ → List ℕ
 output_after b out =
@@ -44,11 +44,11 @@ fates_after b output fates =
 
 -- the result of a call for its caller: its answer, and the output and the fates afterwards
 pub record Outcome : Type 0 where
-  pub answer : RepairAnswer
+  pub answer : Result Report Refusal
   pub output : List ℕ
   pub fates : List ℕ
 
-abbrev pub outcome_of : RepairAnswer → List ℕ → List ℕ → Outcome
+abbrev pub outcome_of : Result Report Refusal → List ℕ → List ℕ → Outcome
 outcome_of answer output fates = record { answer = answer; output = output; fates = fates }
 
 abbrev pub repair_outcome : List ℕ → List ℕ → List ℕ → Outcome
@@ -58,4 +58,4 @@ repair_outcome b out fates = outcome_of (repair_answer b (length out)) (output_a
 abbrev pub mended : List ℕ → List ℕ → List ℕ → Outcome
 mended b out fates =
     let kept = kept_of b (room_of (length out)) in
-    outcome_of (Written (report_of b kept)) (with_text out 0 (book_anew b kept)) (repaired b (room_of (length out)) fates).fates
+    outcome_of (Ok (report_of b kept)) (with_text out 0 (book_anew b kept)) (repaired b (room_of (length out)) fates).fates

@@ -7,8 +7,8 @@ mod marks;
 ghost use Rattle.std.specs.Prelude.{◌≡◌, ◌≤◌, length};
 ghost use Rattle.repair_choose.specs.Sized.{held, Sized};
 ghost use Rattle.repair_book.specs.Repaired.{repair_refusal, room_of, repaired, outcome_of, mended, repair_outcome};
-ghost use Rattle.repair_book.specs.declared.RepairAnswer.TheVariants.{Written};
 
+use base::Refusal;
 use book::LONGEST_BOOK;
 use marks::report;
 use repair_choose::Kept;
@@ -46,12 +46,6 @@ pub struct Report {
     // Bytes of the book written.
     pub written: usize,
     pub changed: Changed,
-}
-
-#[derive(Clone, Copy)]
-pub enum RepairAnswer {
-    Written(Report),
-    Refused(u64),
 }
 
 fn refusal_of(input: usize, output: usize) -> u64
@@ -117,12 +111,12 @@ fn mend(input: &[u8], output: &mut [u8], fates: &mut [u16]) -> Report
     mend_by(input, output, fates, &mut order, &mut kept)
 }
 
-pub fn repair(input: &[u8], output: &mut [u8], fates: &mut [u16; MOST_ENTRIES]) -> RepairAnswer
+pub fn repair(input: &[u8], output: &mut [u8], fates: &mut [u16; MOST_ENTRIES]) -> Result<Report, Refusal>
     ensures { outcome_of result output.new fates.new ≡ repair_outcome input.now output.old fates.old }
 {
     let refusal = refusal_of(input.len(), output.len());
     if refusal == 0 {
-        return RepairAnswer::Written(mend(input, output, fates));
+        return Ok(mend(input, output, fates));
     }
-    RepairAnswer::Refused(refusal)
+    Err(refusal)
 }

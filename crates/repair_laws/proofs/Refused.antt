@@ -4,20 +4,20 @@ use mathlib.Core.List.{List}
 use mathlib.Core.Path.{◌≡◌, refl}
 use Prim.Native.Nat.{ℕ}
 use lib.ListN.{length}
+use Rattle.base.specs.declared.Refusal.{Refusal}
+use Rattle.std.specs.Prelude.{Result, Ok, Err}
 use Rattle.base.specs.Choice.{if◌then◌otherwise◌, ◌<?◌, ◌=?◌}
 use Rattle.repair_book.specs.Repaired.{room_of, kept_of, repair_answer}
 use Rattle.repair_book.specs.Report.{report_of}
 use Rattle.repair_book.specs.declared.Report.{Report}
-use Rattle.repair_book.specs.declared.RepairAnswer.{RepairAnswer}
-use Rattle.repair_book.specs.declared.RepairAnswer.TheVariants.{Written, Refused}
 
 -- an answer whose refusal, if it is one, meets the test
-abbrev pub refused_by : (ℕ → Bool) → RepairAnswer → Bool
-refused_by ok (Written r) = true
-refused_by ok (Refused k) = ok k
+abbrev pub refused_by : (ℕ → Bool) → Result Report Refusal → Bool
+refused_by ok (Ok r) = true
+refused_by ok (Err k) = ok k
 
 by_tests : (ok : ℕ → Bool) → ok 1 ≡ true → ok 16 ≡ true → (x y : Bool) (r : Report)
-    → refused_by ok (if (if x then 16 otherwise if y then 1 otherwise 0) =? 0 then Written r otherwise Refused (if x then 16 otherwise if y then 1 otherwise 0)) ≡ true
+    → refused_by ok (if (if x then 16 otherwise if y then 1 otherwise 0) =? 0 then Ok r otherwise Err (if x then 16 otherwise if y then 1 otherwise 0)) ≡ true
 by_tests ok one sixteen true y r = sixteen
 by_tests ok one sixteen false true r = one
 by_tests ok one sixteen false false r = refl

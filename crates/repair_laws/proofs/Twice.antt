@@ -6,6 +6,7 @@ use mathlib.Core.Path.{◌≡◌, ap, ◌∙◌}
 use native.Mathlib.Omega.{arith}
 use lib.ListN.{length, drop, get_or}
 use borrow.Author.Tests.{eq-eqb, le-ltb}
+use Rattle.std.specs.Prelude.{Ok}
 use Rattle.book.specs.Contents.{entry_count}
 use Rattle.book.specs.Passes.{passes}
 use Rattle.book.proofs.Passing.{Passing, passing, contents_inside}
@@ -14,7 +15,6 @@ use Rattle.repair_book.specs.Report.{report_of}
 use Rattle.repair_book.specs.declared.Report.{Report}
 use Rattle.repair_book.specs.Repaired.{repair_refusal, room_of, kept_of, repair_answer, output_after, fates_after}
 use Rattle.repair_book.proofs.Refusals.{refused_none}
-use Rattle.repair_book.specs.declared.RepairAnswer.TheVariants.{Written}
 use Rattle.book_holds.specs.Holds.{Copied}
 use Rattle.repair_laws.specs.Laws.{Bytes}
 use Rattle.repair_laws.proofs.Written.{kept_chained, written_passes, written_copied, book_length_lem}
@@ -58,14 +58,14 @@ no_change b =
 -- "A book that passes comes out byte for byte where the output is at least as long, with a report of no change"
 pub record Unchanged (b : List ℕ) (out fates : List ℕ) : Type 0 where
   pub bytes : output_after b out ≡ b ++ drop (length b) out
-  pub report : repair_answer b (length out) ≡ Written (no_change b)
+  pub report : repair_answer b (length out) ≡ Ok (no_change b)
   pub numbers : (k : ℕ) → k < entry_count b → get_or (fates_after b (length out) fates) k 0 ≡ k
 
 no_refusal : (input output : ℕ) → 8 ≤ input → input ≤ 61_440 → 8 ≤ output → repair_refusal input output ≡ 0
 no_refusal input output h l o = simp (le-ltb input 8 h, le-ltb output 8 o, le-ltb 61_440 input l)
 
 module _ (b out fates : List ℕ) (none : repair_refusal (length b) (length out) ≡ 0) (p : Passing b) (enough : length b ≤ room_of (length out)) where
-  no_change_lem : repair_answer b (length out) ≡ Written (no_change b)
+  no_change_lem : repair_answer b (length out) ≡ Ok (no_change b)
   unfolding repair_answer report_of
   no_change_lem =
       rw (

@@ -9,8 +9,9 @@ use lib.IntN.{ℤ}
 use lib.Ieee.{Float, nan, inf, fin, Format, binary64, up, down, odd, add, mul, lt, of_bits, low}
 use lib.Ieee.Scale.{finite}
 use borrow.Author.Tests.{le-ltb}
+use Rattle.base.specs.declared.Refusal.{Refusal}
+use Rattle.std.specs.Prelude.{Ok, Err}
 use Rattle.base.proofs.Clear.{clear, odd_clear, round_clear}
-use Rattle.root.specs.declared.RootAnswer.TheVariants.{Value, Refused}
 use Rattle.root.specs.Root.{root_of, negative, root_answer}
 use Rattle.root.specs.Computed.{nearest_root, root_size, root_of_units, positive_root}
 use Rattle.root_split.proofs.Tests.{number_below}
@@ -91,18 +92,18 @@ or_true : (b : Bool) → (b || true) ≡ true
 or_true true = refl
 or_true false = refl
 
-pub refused_negative : (x : Float) → negative x ≡ true → root_answer x ≡ Refused 11
+pub refused_negative : (x : Float) → negative x ≡ true → root_answer x ≡ Err Refusal.Root
 unfolding root_answer
 refused_negative x p = rw p
 
-pub refused_infinite : (x : Float) → finite x ≡ false → root_answer x ≡ Refused 11
+pub refused_infinite : (x : Float) → finite x ≡ false → root_answer x ≡ Err Refusal.Root
 unfolding root_answer
 refused_infinite x p = rw (p, or_true)
 
-pub not_refused : (x : Float) → finite x ≡ true → negative x ≡ false → root_answer x ≡ Value (root_of x)
+pub not_refused : (x : Float) → finite x ≡ true → negative x ≡ false → root_answer x ≡ Ok (root_of x)
 unfolding root_answer
 not_refused x p q = rw (p, q)
 
 -- a finite sum of squares is never refused
-pub squares_not_refused : (f : Format) (x y z : Float) → let n = add f (add f (mul f x x) (mul f y y)) (mul f z z) in finite n ≡ true → root_answer n ≡ Value (root_of n)
+pub squares_not_refused : (f : Format) (x y z : Float) → let n = add f (add f (mul f x x) (mul f y y)) (mul f z z) in finite n ≡ true → root_answer n ≡ Ok (root_of n)
 squares_not_refused f x y z p = not_refused (add f (add f (mul f x x) (mul f y y)) (mul f z z)) p (squares_not_negative f x y z)

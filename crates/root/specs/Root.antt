@@ -1,6 +1,7 @@
 -- Document 01, "Root, sine and cosine": "IEEE 754 squareRoot of a finite non-negative float, subnormals included; each zero gives itself", stated "over whole numbers, by comparing squares".
 -- `HasValue x false a c` says that x is finite, has no minus sign and is a / c.
-use Rattle.std.specs.Prelude.{Bool, true, false, not, ◌||◌, ◌≡◌, ℕ, zero, suc, ◌*◌, ◌^◌, ◌≤◌, ◌<◌, T, pos, Float}
+use Rattle.base.specs.declared.Refusal.{Refusal}
+use Rattle.std.specs.Prelude.{Bool, true, false, not, ◌||◌, ◌≡◌, ℕ, zero, suc, ◌*◌, ◌^◌, ◌≤◌, ◌<◌, T, pos, Float, Result, Ok, Err}
 use Rattle.std.specs.Float.{nan, inf, fin, binary64}
 use Rattle.std.specs.Float.Ieee.{low, lt, of_bits, fits}
 use Rattle.std.specs.Float.Ieee.Scale.{finite}
@@ -12,8 +13,6 @@ unfoldable use Rattle.root.specs.Computed.{positive_root}
 use Rattle.root.specs.declared.ThreeRoots.{ThreeRoots}
 use Rattle.root.specs.declared.FiveRoots.{FiveRoots}
 use Rattle.root.specs.declared.SixRoots.{SixRoots}
-use Rattle.root.specs.declared.RootAnswer.{RootAnswer}
-use Rattle.root.specs.declared.RootAnswer.TheVariants.{Value, Refused}
 
 -- y is the square root of x, which is finite and above zero. x is n·4^k / 4^l, so the exact root is √n·2^k / 2^l. √n has the 53 binary
 -- digits that a float keeps, and y is q·2^k / 2^l for the whole number q nearest √n. (No root is so small that a float keeps fewer digits:
@@ -62,5 +61,5 @@ abbrev pub negative : Float → Bool
 negative x = lt x (of_bits binary64 0)
 
 -- refusal 11: "root of a negative or non-finite float"
-unfoldable pub root_answer : Float → RootAnswer
-root_answer x = if negative x || not (finite x) then Refused 11 otherwise Value (root_of x)
+unfoldable pub root_answer : Float → Result Float Refusal
+root_answer x = if negative x || not (finite x) then Err Refusal.Root otherwise Ok (root_of x)

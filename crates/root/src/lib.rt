@@ -8,11 +8,7 @@ mod parts;
 ghost use Rattle.std.specs.Prelude.{◌≡◌};
 ghost use Rattle.root.specs.Root.{root_answer};
 
-#[derive(Clone, Copy)]
-pub enum RootAnswer {
-    Value(f64),
-    Refused(u64),
-}
+use base::Refusal;
 
 #[derive(Clone, Copy)]
 pub struct ThreeRoots {
@@ -35,14 +31,14 @@ pub struct SixRoots {
 }
 
 // The root of a finite float that is not negative, or refusal 11.
-pub fn root(x: f64) -> RootAnswer
+pub fn root(x: f64) -> Result<f64, Refusal>
     ensures { result ≡ root_answer x }
 {
     if base::is_finite(x) {
         if x < 0.0 {
-            return RootAnswer::Refused(11);
+            return Err(Refusal::Root);
         }
-        return RootAnswer::Value(inner::square_root(x));
+        return Ok(inner::square_root(x));
     }
-    RootAnswer::Refused(11)
+    Err(Refusal::Root)
 }

@@ -6,12 +6,12 @@ use Prim.Native.Nat.{ℕ, zero, suc, ◌+◌, ◌-◌, ◌*◌, ◌/◌, ◌≤�
 use native.Mathlib.Nat.{mul-mod_left}
 use native.Mathlib.Omega.{arith}
 use borrow.Author.Tests.{lt-ltb, le-leb, ltb-true, ne_eqb}
+use Rattle.std.specs.Prelude.{Ok}
 use Rattle.base.specs.Limits.{end_of_time}
 use Rattle.state.specs.State.{position, acceleration, finite_state, centre_allowed}
 use Rattle.state.specs.declared.State.{State}
 use Rattle.state.specs.declared.Setting.{Setting}
 use Rattle.gravity.specs.Acceleration.{acceleration_at}
-use Rattle.gravity.specs.declared.AccelerationAnswer.TheVariants.{Is}
 use Rattle.gravity.specs.Sight.{sights}
 use Rattle.gravity.specs.declared.Guesses.{Guesses}
 use Rattle.gravity_stored.specs.Injection.{stored_refusal}
@@ -45,7 +45,7 @@ still_within t h left target e =
 -- centre is one
 pub record Left (b : List ℕ) (setting : Setting) (s : State) : Type 0 where
   pub finite : finite_state s ≡ true
-  pub rule : acceleration_at b setting s.centre s.moment (position s) ≡ Is (acceleration s)
+  pub rule : acceleration_at b setting s.centre s.moment (position s) ≡ Ok (acceleration s)
   pub clear : centre_allowed setting s.centre ≡ true → (sights b setting s.centre s.moment).refusal ≡ 0
 
 module _ (b : List ℕ) (setting : Setting) (h target : ℕ) where

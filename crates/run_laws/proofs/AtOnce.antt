@@ -4,6 +4,9 @@ use mathlib.Core.List.{List}
 use mathlib.Core.Path.{◌≡◌, refl, sym, ap, ◌∙◌}
 use Prim.Native.Nat.{ℕ, zero, suc}
 use native.Mathlib.Omega.{arith}
+use Rattle.base.specs.declared.Refusal.{Refusal}
+use Rattle.state.specs.declared.Vector.{Vector}
+use Rattle.std.specs.Prelude.{Result, Err}
 use Rattle.base.specs.Choice.{◌=?◌}
 use Rattle.base.specs.Limits.{is_moment}
 use Rattle.state.specs.State.{position, finite_state, setting_allowed, centre_allowed}
@@ -11,8 +14,6 @@ use Rattle.state.specs.declared.State.{State}
 use Rattle.state.specs.declared.Setting.{Setting}
 use Rattle.book.specs.Passes.{passes}
 use Rattle.gravity.specs.Acceleration.{acceleration_at}
-use Rattle.gravity.specs.declared.AccelerationAnswer.{AccelerationAnswer}
-use Rattle.gravity.specs.declared.AccelerationAnswer.TheVariants as rule
 use Rattle.gravity.specs.declared.Guesses.{Guesses}
 use Rattle.base.specs.Checks.{refused_by}
 use Rattle.base.proofs.Checks.{refuses}
@@ -27,15 +28,15 @@ use Rattle.run_laws.proofs.Answers.{refused_is}
 -- a state that passes the checks before it (1, 4, 14, 3 and 7), at which the rule has no acceleration but the number k
 module _ (b : List ℕ) (setting : Setting) (s : State) (h k : ℕ) (book : passes b ≡ true) (set : setting_allowed setting ≡ true)
     (centred : centre_allowed setting s.centre ≡ true) (begins : is_moment s.moment ≡ true) (finite : finite_state s ≡ true)
-    (none : acceleration_at b setting s.centre s.moment (position s) ≡ rule.Refused k) where
+    (none : acceleration_at b setting s.centre s.moment (position s) ≡ Err k) where
   -- k is 6 or 7, so not 0
   some : k ≡ 0 → ⊥
-  some nought = go (ap (λ (x : AccelerationAnswer). refused_by (λ (n : ℕ). not (n =? 0)) (as_answer x)) (sym none))
+  some nought = go (ap (λ (x : Result Vector Refusal). refused_by (λ (n : ℕ). not (n =? 0)) (as_answer x)) (sym none))
     where
       ok : refused_by (λ (n : ℕ). not (n =? 0)) (as_answer (acceleration_at b setting s.centre s.moment (position s))) ≡ true
       ok = rule_refused (λ (n : ℕ). not (n =? 0)) refl refl b setting s.centre s.moment (position s)
 
-      go : refused_by (λ (n : ℕ). not (n =? 0)) (as_answer (rule.Refused k)) ≡ refused_by (λ (n : ℕ). not (n =? 0)) (as_answer (acceleration_at b setting s.centre s.moment (position s))) → ⊥
+      go : refused_by (λ (n : ℕ). not (n =? 0)) (as_answer (Err k)) ≡ refused_by (λ (n : ℕ). not (n =? 0)) (as_answer (acceleration_at b setting s.centre s.moment (position s))) → ⊥
       go same =
           let clash : ◌≡◌ {A = Bool} false true = sym (ap (λ (n : ℕ). not (n =? 0)) nought) ∙ same ∙ ok in
           let z : ◌≡◌ {A = ℕ} 0 1 = cc in

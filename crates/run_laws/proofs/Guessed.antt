@@ -6,12 +6,11 @@ use Prim.Native.Nat.{ℕ, zero, suc, ◌≤◌}
 use native.Mathlib.Omega.{arith}
 use lib.Ieee.{Float}
 use borrow.Author.Tests.{ne_eqb, eq-eqb}
+use Rattle.std.specs.Prelude.{Option, Some, None}
 use Rattle.state.specs.State.{used, looked_up}
 use Rattle.state.specs.declared.State.{State}
 use Rattle.state.specs.declared.Setting.{Setting}
 use Rattle.book.specs.Lookup.{lookup}
-use Rattle.book_search.specs.declared.Lookup.{Lookup}
-use Rattle.book_search.specs.declared.Lookup.TheVariants.{Entry, Nothing}
 use Rattle.gravity.specs.Sight.{found_of, found_in, refusal_in, sights}
 use Rattle.gravity.specs.declared.Guesses.{Guesses}
 use Rattle.gravity.proofs.Under.{all_clear}
@@ -29,9 +28,9 @@ unfolding found_of
 one b number m lit t given clear =
     record { covering = λ u. by u (lookup b number t) refl; other = λ u. rw u }
   where
-    by : looked_up m lit ≡ true → (l : Lookup) → lookup b number t ≡ l → lookup b number t ≡ Entry (guess_at b t number m lit given)
-    by u (Entry i) e = rw (u, e)
-    by u Nothing e = let six : ◌≡◌ {A = ℕ} 6 0 = rw (u, e) at clear in absurd (omega arith)
+    by : looked_up m lit ≡ true → (l : Option ℕ) → lookup b number t ≡ l → lookup b number t ≡ Some (guess_at b t number m lit given)
+    by u (Some i) e = rw (u, e)
+    by u None e = let six : ◌≡◌ {A = ℕ} 6 0 = rw (u, e) at clear in absurd (omega arith)
 
 all : (b : List ℕ) (s : Setting) (c t : ℕ) (given : Guesses) → (sights b s c t).refusal ≡ 0 → AllGuessed b s t given (guesses_at b s t given)
 unfolding sights found_in refusal_in guesses_at

@@ -5,6 +5,8 @@ use mathlib.Core.Logic.{◌⊎◌, inl, inr}
 use mathlib.Core.Path.{◌≡◌, refl, sym, ap, ◌∙◌}
 use Prim.Native.Nat.{ℕ, zero, suc, ◌+◌, ◌/◌}
 use borrow.Author.Tests.{eqb-true}
+use Rattle.base.specs.declared.Refusal.{Refusal}
+use Rattle.std.specs.Prelude.{Result, Ok, Err}
 use Rattle.base.specs.Choice.{if◌then◌otherwise◌, ◌=?◌}
 use Rattle.base.specs.Limits.{is_moment}
 use Rattle.base.proofs.Cases.{by_if}
@@ -14,8 +16,6 @@ use Rattle.state.specs.declared.State.{State}
 use Rattle.state.specs.declared.Injection.{Injection}
 use Rattle.state.specs.declared.Setting.{Setting}
 use Rattle.gravity.specs.Acceleration.{acceleration_at}
-use Rattle.gravity.specs.declared.AccelerationAnswer.{AccelerationAnswer}
-use Rattle.gravity.specs.declared.AccelerationAnswer.TheVariants.{Is, Refused}
 use Rattle.gravity.specs.declared.Guesses.{Guesses}
 use Rattle.base.specs.Checks.{refused_by}
 use Rattle.base.proofs.Bools.{or_right}
@@ -41,15 +41,15 @@ outcome_by ok outcome.Going = true
 outcome_by ok (outcome.Refused k) = ok k
 
 module _ (ok : ℕ → Bool) (six : ok 6 ≡ true) (seven : ok 7 ≡ true) where
-  then_off : (a : AccelerationAnswer) (next : Vector → Moved) → refused_by ok (as_answer a) ≡ true → ((v : Vector) → off_by ok (next v) ≡ true) → off_by ok (and_then a next) ≡ true
-  then_off (Is v) next first rest = rest v
-  then_off (Refused k) next first rest = first
+  then_off : (a : Result Vector Refusal) (next : Vector → Moved) → refused_by ok (as_answer a) ≡ true → ((v : Vector) → off_by ok (next v) ≡ true) → off_by ok (and_then a next) ≡ true
+  then_off (Ok v) next first rest = rest v
+  then_off (Err k) next first rest = first
 
-  kept_off : (i : Injection) (a : AccelerationAnswer) → refused_by ok (as_answer a) ≡ true → off_by ok (moved_by (kept_by i a)) ≡ true
-  kept_off i (Is a) e = refl
-  kept_off i (Refused k) e = e
+  kept_off : (i : Injection) (a : Result Vector Refusal) → refused_by ok (as_answer a) ≡ true → off_by ok (moved_by (kept_by i a)) ≡ true
+  kept_off i (Ok a) e = refl
+  kept_off i (Err k) e = e
 
-  module _ (acc : ℕ → Vector → AccelerationAnswer) (each : (t : ℕ) (P : Vector) → refused_by ok (as_answer (acc t P)) ≡ true) (h : ℕ) (s : State) where
+  module _ (acc : ℕ → Vector → Result Vector Refusal) (each : (t : ℕ) (P : Vector) → refused_by ok (as_answer (acc t P)) ≡ true) (h : ℕ) (s : State) where
     arrive_off : (t c : ℕ) (p v : Vector) → off_by ok (arrive (keeping acc) t c p v) ≡ true
     arrive_off t c p v = by_if (off_by ok) (finite_vector p && finite_vector v) (kept_off (injection_at t c p v) (acc t p) (each t p)) seven
 
@@ -91,9 +91,9 @@ module _ (ok : ℕ → Bool) (six : ok 6 ≡ true) (seven : ok 7 ≡ true) where
 
   module _ (one : ok 1 ≡ true) (four : ok 4 ≡ true) (fourteen : ok 14 ≡ true) (three : ok 3 ≡ true) (fifteen : ok 15 ≡ true) (two : ok 2 ≡ true)
       (five : ok 5 ≡ true) where
-    stored_by_off : (s : State) (a : AccelerationAnswer) → refused_by ok (as_answer a) ≡ true → ((stored_refusal_by s a =? 0) || ok (stored_refusal_by s a)) ≡ true
-    stored_by_off s (Is a) e = let p : ℕ → Bool = λ k. (k =? 0) || ok k in by_if p (same_vector a (acceleration s)) refl fifteen
-    stored_by_off s (Refused k) e = or_right (k =? 0) (ok k) e
+    stored_by_off : (s : State) (a : Result Vector Refusal) → refused_by ok (as_answer a) ≡ true → ((stored_refusal_by s a =? 0) || ok (stored_refusal_by s a)) ≡ true
+    stored_by_off s (Ok a) e = let p : ℕ → Bool = λ k. (k =? 0) || ok k in by_if p (same_vector a (acceleration s)) refl fifteen
+    stored_by_off s (Err k) e = or_right (k =? 0) (ok k) e
 
     stored_off : (b : List ℕ) (setting : Setting) (s : State) → ((stored_refusal b setting s =? 0) || ok (stored_refusal b setting s)) ≡ true
     unfolding stored_refusal

@@ -1,15 +1,14 @@
 -- Document 01, "The step and the run": "If steps were done, each used body's returned guess is the entry covering the returned moment;
 -- all other guesses come back as given."
-use Rattle.std.specs.Prelude.{Bool, true, false, List, ◌≡◌, ℕ, Float}
+use Rattle.std.specs.Prelude.{Bool, true, false, List, ◌≡◌, ℕ, Float, Some}
 use Rattle.state.specs.State.{used, looked_up}
 use Rattle.state.specs.declared.Setting.{Setting}
 use Rattle.book.specs.Lookup.{lookup}
-use Rattle.book_search.specs.declared.Lookup.TheVariants.{Entry}
 use Rattle.gravity.specs.declared.Guesses.{Guesses}
 
 -- one body, by its number, its coefficient m and whether it is lit: document 02, R-7, with K above 0 the Sun counts as used
 pub record Guess (b : List ℕ) (t number : ℕ) (m : Float) (lit : Bool) (given returned : ℕ) : Type 0 where
-  pub covering : looked_up m lit ≡ true → lookup b number t ≡ Entry returned
+  pub covering : looked_up m lit ≡ true → lookup b number t ≡ Some returned
   pub other : looked_up m lit ≡ false → returned ≡ given
 
 pub record AllGuessed (b : List ℕ) (s : Setting) (t : ℕ) (given returned : Guesses) : Type 0 where

@@ -9,6 +9,7 @@ use lib.Ieee.{Float, fits, binary64}
 use lib.Ieee.Scale.{finite}
 use lib.Ieee.Fits.{add-fits}
 use lib.Ieee.Bits.{of_bits-fits}
+use Rattle.std.specs.Prelude.{Result, Ok, Err, Option, Some, None}
 use Rattle.base.specs.Choice.{if◌then◌otherwise◌, ◌=?◌}
 use Rattle.base.specs.Limits.{is_moment, is_dut}
 use Rattle.hour.specs.Hour.{is_rule}
@@ -20,18 +21,12 @@ use Rattle.book.specs.Passes.{passes}
 use Rattle.book.specs.Series.{series, place}
 use Rattle.book.specs.Lookup.{lookup}
 use Rattle.book.specs.Position.{body_at, place_or6, finite_place, finite_velocity}
-use Rattle.book_search.specs.declared.Lookup.{Lookup}
-use Rattle.book_search.specs.declared.Lookup.TheVariants.{Entry, Nothing}
 use Rattle.book_series.specs.declared.Place.{Place}
 use Rattle.book.specs.declared.Motion.{Motion}
-use Rattle.book.specs.declared.PositionAnswer.{PositionAnswer}
-use Rattle.book.specs.declared.PositionAnswer.TheVariants as position
 use Rattle.gravity.specs.Pull.{minus, sound}
 use Rattle.gravity.specs.Acceleration.{all_sound, Body, Sky, Bodies, Refusal, Listed, standing, nowhere, at_rest, stands, seen, sky_of, sky, others}
 use Rattle.gravity.specs.Acceleration.{place_of, rule, view_from, seen_then, acceleration_at, acceleration_answer}
 use Rattle.gravity.proofs.SoFar.{from_centre}
-use Rattle.gravity.specs.declared.AccelerationAnswer.{AccelerationAnswer}
-use Rattle.gravity.specs.declared.AccelerationAnswer.TheVariants.{Refused}
 use Rattle.base.specs.Checks.{or_later}
 use Rattle.state_checks.proofs.Numbers.{check_by_check}
 use Rattle.run_target.specs.Target.{target_refusal}
@@ -58,31 +53,31 @@ place_fits b i t = (series_fits _ _, series_fits _ _, series_fits _ _)
 itself : (p : Place) → Fits p → minus (standing p) nowhere ≡ standing p
 itself p f = λ i. record { x = less_zero p.x f.0 i; y = less_zero p.y f.1 i; z = less_zero p.z f.2 i }
 
-abbrev FitsAt : PositionAnswer → Type 0
-FitsAt (position.At M) = Fits M.place
-FitsAt (position.Refused k) = Unit {0}
+abbrev FitsAt : Result Motion Refusal → Type 0
+FitsAt (Ok M) = Fits M.place
+FitsAt (Err k) = Unit {0}
 
 answer_fits : (b : List ℕ) (number t : ℕ) → FitsAt (body_at b number t)
 unfolding body_at
 answer_fits b number t = by (lookup b number t)
   where
-    by : (l : Lookup) → FitsAt (place_or6 b t l)
-    by Nothing = tt
-    by (Entry i) = go (finite_place (place b i t)) (finite_velocity (Rattle.book.specs.Series.velocity b i t))
+    by : (l : Option ℕ) → FitsAt (place_or6 b t l)
+    by None = tt
+    by (Some i) = go (finite_place (place b i t)) (finite_velocity (Rattle.book.specs.Series.velocity b i t))
       where
         go : (a c : Bool)
-            → FitsAt (if a then (if c then position.At (record { place = place b i t; velocity = Rattle.book.specs.Series.velocity b i t }) otherwise position.Refused 7) otherwise position.Refused 7)
+            → FitsAt (if a then (if c then Ok (record { place = place b i t; velocity = Rattle.book.specs.Series.velocity b i t }) otherwise Err Refusal.NotFinite) otherwise Err Refusal.NotFinite)
         go true true = place_fits b i t
         go true false = tt
         go false c = tt
 
 -- ---- seen from the Earth every body has its old position
 
-one_more : (body : Listed) (p : PositionAnswer) (later : Sky) → (body.number =? 1) ≡ false → used body.m ≡ true → FitsAt p
+one_more : (body : Listed) (p : Result Motion Refusal) (later : Sky) → (body.number =? 1) ≡ false → used body.m ≡ true → FitsAt p
     → from_centre 1 nowhere later ≡ later → from_centre 1 nowhere (seen body p later) ≡ seen body p later
-one_more body (position.Refused k) later far u f e = refl
-one_more body (position.At M) (Refusal k) far u f e = refl
-one_more body (position.At M) (Bodies bs) far u f e =
+one_more body (Err k) later far u f e = refl
+one_more body (Ok M) (Refusal k) far u f e = refl
+one_more body (Ok M) (Bodies bs) far u f e =
     let rest : others 1 nowhere bs ≡ bs = cc in
     rw (far, u)
     (λ i. Bodies (record { number = body.number; m = body.m; R = itself M.place f i } ∷ rest i))
@@ -112,7 +107,7 @@ by_all b t [] far = refl
 by_all b t (body ∷ rest) far = by_list_lem b t body rest far.0 far.1 (by_all b t rest far.2)
 
 -- the Earth itself is left out
-left_out : (body : Listed) (M : Motion) (later : Sky) → (body.number =? 1) ≡ true → from_centre 1 nowhere (seen body (position.At M) later) ≡ from_centre 1 nowhere later
+left_out : (body : Listed) (M : Motion) (later : Sky) → (body.number =? 1) ≡ true → from_centre 1 nowhere (seen body (Ok M) later) ≡ from_centre 1 nowhere later
 left_out body M (Bodies bs) near = rw near
 left_out body M (Refusal k) near = refl
 
@@ -139,7 +134,7 @@ module _ (s : Setting) (flat : used s.j ≡ false) (dark : used s.k ≡ false) w
   no_terms c C sun P (Bodies bodies) = rw (flat, dark, and-true (sound P && all_sound P (others c C bodies)))
   no_terms c C sun P (Refusal k) = refl
 
-  from_centre_lem : (f : List Body → AccelerationAnswer) (c : ℕ) (C : Vector) (bodies : Sky) → seen_then (λ bodies. f (others c C bodies)) bodies ≡ seen_then f (from_centre c C bodies)
+  from_centre_lem : (f : List Body → Result Vector Refusal) (c : ℕ) (C : Vector) (bodies : Sky) → seen_then (λ bodies. f (others c C bodies)) bodies ≡ seen_then f (from_centre c C bodies)
   from_centre_lem f c C (Bodies bodies) = refl
   from_centre_lem f c C (Refusal k) = refl
 
@@ -189,10 +184,10 @@ pub answer_as_before : (b : List ℕ) (s : Setting) (t : ℕ) (P : Vector) → u
     → acceleration_answer b s 1 t P ≡ answer_before b s t P
 unfolding acceleration_answer answer_before
 answer_as_before b s t P flat dark =
-    check_by_check Refused (acceleration_at b s 1 t P) b s (centre_allowed s 1) (is_moment t) (finite_vector P)
-    ∙ ap (λ (x : AccelerationAnswer). if not (passes b) then Refused 1 otherwise x)
-    (no_fourteen s (Refused 4) (Refused 14) _
-    ∙ ap (λ (x : AccelerationAnswer). if not (setting_allowed s) then Refused 4 otherwise if not (is_moment t) then Refused 3 otherwise if not (finite_vector P) then Refused 7 otherwise x)
+    check_by_check Err (acceleration_at b s 1 t P) b s (centre_allowed s 1) (is_moment t) (finite_vector P)
+    ∙ ap (λ (x : Result Vector Refusal). if not (passes b) then Err Refusal.Book otherwise x)
+    (no_fourteen s (Err Refusal.Setting) (Err Refusal.Centre) _
+    ∙ ap (λ (x : Result Vector Refusal). if not (setting_allowed s) then Err Refusal.Setting otherwise if not (is_moment t) then Err Refusal.Moment otherwise if not (finite_vector P) then Err Refusal.NotFinite otherwise x)
     (about_the_earth s flat dark b t P))
 
 -- two moments that give the same number, checked together or one after the other

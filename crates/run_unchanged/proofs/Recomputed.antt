@@ -4,33 +4,33 @@ use mathlib.Core.Bool.{Bool, true, false, ◌&&◌}
 use mathlib.Core.List.{List}
 use mathlib.Core.Path.{◌≡◌, refl, sym, ap, ◌∙◌}
 use Prim.Native.Nat.{ℕ, ◌+◌, ◌/◌}
+use Rattle.base.specs.declared.Refusal.{Refusal}
+use Rattle.std.specs.Prelude.{Result, Ok, Err}
 use Rattle.base.specs.Choice.{if◌then◌otherwise◌}
 use Rattle.state.specs.State.{position, velocity, acceleration, injection_at, finite_vector, used}
 use Rattle.state.specs.declared.Vector.{Vector}
 use Rattle.state.specs.declared.State.{State}
 use Rattle.state.specs.declared.Setting.{Setting}
 use Rattle.gravity.specs.Acceleration.{acceleration_at}
-use Rattle.gravity.specs.declared.AccelerationAnswer.{AccelerationAnswer}
-use Rattle.gravity.specs.declared.AccelerationAnswer.TheVariants.{Is, Refused}
 use Rattle.run.specs.Step.{Moved, Off, and_then, along, weighed, half, sixth, step_h, arrive, keeping, step}
 use Rattle.run.specs.Stages.{velocity2, velocity3, velocity4, lastly, stage2, stage3, stage4}
 use Rattle.run_unchanged.specs.Acceleration.{acceleration_before}
 use Rattle.run_unchanged.specs.Step.{stage1, unkept, step_before, kept_after}
 use Rattle.run_unchanged.proofs.AboutTheEarth.{about_the_earth}
 
-module _ (acc : ℕ → Vector → AccelerationAnswer) where
+module _ (acc : ℕ → Vector → Result Vector Refusal) where
   abbrev kept : Moved → Moved
   kept = kept_after acc
 
   -- what is added at the end may be added after every stage
-  after : (q : AccelerationAnswer) (next next' : Vector → Moved) → ((a : Vector) → next a ≡ kept (next' a)) → and_then q next ≡ kept (and_then q next')
-  after (Is a) next next' e = e a
-  after (Refused k) next next' e = refl
+  after : (q : Result Vector Refusal) (next next' : Vector → Moved) → ((a : Vector) → next a ≡ kept (next' a)) → and_then q next ≡ kept (and_then q next')
+  after (Ok a) next next' e = e a
+  after (Err k) next next' e = refl
 
   end : (t c : ℕ) (p v : Vector) → arrive (keeping acc) t c p v ≡ kept (arrive (unkept acc) t c p v)
   end t c p v = go (finite_vector p && finite_vector v)
     where
-      go : (ok : Bool) → (if ok then keeping acc (injection_at t c p v) otherwise Off 7) ≡ kept (if ok then unkept acc (injection_at t c p v) otherwise Off 7)
+      go : (ok : Bool) → (if ok then keeping acc (injection_at t c p v) otherwise Off Refusal.NotFinite) ≡ kept (if ok then unkept acc (injection_at t c p v) otherwise Off Refusal.NotFinite)
       go true = refl
       go false = refl
 
@@ -60,18 +60,18 @@ module _ (acc : ℕ → Vector → AccelerationAnswer) where
 
 module _ (b : List ℕ) (setting : Setting) (h : ℕ) (s : State) where
   -- from a state whose stored acceleration is the rule's
-  pub recomputed : acceleration_at b setting s.centre s.moment (position s) ≡ Is (acceleration s)
+  pub recomputed : acceleration_at b setting s.centre s.moment (position s) ≡ Ok (acceleration s)
       → step b setting h s ≡ kept_after (acceleration_at b setting s.centre) (step_before (acceleration_at b setting s.centre) h s)
   unfolding step
   recomputed rule =
       let acc = acceleration_at b setting s.centre in
-      sym (ap (λ (q : AccelerationAnswer). and_then q (stage2 acc (keeping acc) h s)) rule) ∙ first acc h s
+      sym (ap (λ (q : Result Vector Refusal). and_then q (stage2 acc (keeping acc) h s)) rule) ∙ first acc h s
 
   -- and about the Earth, with J and K zero, the step of document 01
   pub step_as_before : s.centre ≡ 1 → used setting.j ≡ false → used setting.k ≡ false
-      → acceleration_at b setting s.centre s.moment (position s) ≡ Is (acceleration s)
+      → acceleration_at b setting s.centre s.moment (position s) ≡ Ok (acceleration s)
       → step b setting h s ≡ kept_after (acceleration_before b setting) (step_before (acceleration_before b setting) h s)
   step_as_before earth flat dark rule =
       recomputed rule
       ∙ ap (λ (c : ℕ). kept_after (acceleration_at b setting c) (step_before (acceleration_at b setting c) h s)) earth
-      ∙ ap (λ (acc : ℕ → Vector → AccelerationAnswer). kept_after acc (step_before acc h s)) (λ i t P. about_the_earth setting flat dark b t P i)
+      ∙ ap (λ (acc : ℕ → Vector → Result Vector Refusal). kept_after acc (step_before acc h s)) (λ i t P. about_the_earth setting flat dark b t P i)

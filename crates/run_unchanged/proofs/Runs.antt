@@ -5,13 +5,13 @@ use mathlib.Core.Path.{◌≡◌, refl, sym, ap, ◌∙◌}
 use Prim.Native.Nat.{ℕ, zero, suc, ◌+◌}
 use native.Mathlib.Decide.{ℕ_discrete}
 use lib.Dec.{eqb-suc-zero}
+use Rattle.base.specs.declared.Refusal.{Refusal}
+use Rattle.std.specs.Prelude.{Result, Ok, Err}
 use Rattle.state.specs.State.{position, acceleration, carrying, bare, used}
 use Rattle.state.specs.declared.Vector.{Vector}
 use Rattle.state.specs.declared.State.{State}
 use Rattle.state.specs.declared.Setting.{Setting}
 use Rattle.gravity.specs.Acceleration.{acceleration_at}
-use Rattle.gravity.specs.declared.AccelerationAnswer.{AccelerationAnswer}
-use Rattle.gravity.specs.declared.AccelerationAnswer.TheVariants as rule
 use Rattle.gravity.specs.declared.Guesses.{Guesses}
 use Rattle.gravity_stored.specs.Injection.{kept_by}
 use Rattle.gravity_stored.proofs.Stored.{carries_rule, stored_passes}
@@ -31,7 +31,7 @@ use Rattle.run_unchanged.proofs.AboutTheEarth.{about_the_earth, start_as_before}
 use Rattle.run_unchanged.proofs.Recomputed.{step_as_before}
 
 module _ (b : List ℕ) (setting : Setting) (flat : used setting.j ≡ false) (dark : used setting.k ≡ false) (h : ℕ) where
-  abbrev acc : ℕ → Vector → AccelerationAnswer
+  abbrev acc : ℕ → Vector → Result Vector Refusal
   acc = acceleration_before b setting
 
   -- the step now and before
@@ -44,17 +44,17 @@ module _ (b : List ℕ) (setting : Setting) (flat : used setting.j ≡ false) (d
   -- a state about the Earth with the rule's acceleration
   pub record Carries (s : State) : Type 0 where
     pub earth : s.centre ≡ 1
-    pub rule : acceleration_at b setting s.centre s.moment (position s) ≡ rule.Is (acceleration s)
+    pub rule : acceleration_at b setting s.centre s.moment (position s) ≡ Ok (acceleration s)
 
   -- by the old rule
-  rule_before_lem : (s : State) → Carries s → acc s.moment (position s) ≡ rule.Is (acceleration s)
+  rule_before_lem : (s : State) → Carries s → acc s.moment (position s) ≡ Ok (acceleration s)
   rule_before_lem s c =
       sym (about_the_earth setting flat dark b s.moment (position s))
       ∙ ap (λ (n : ℕ). acceleration_at b setting n s.moment (position s)) (sym c.earth)
       ∙ c.rule
 
   -- the state with its own acceleration
-  carries : (s : State) (a : Vector) → s.centre ≡ 1 → acc s.moment (position s) ≡ rule.Is a → Carries (carrying (bare s) a)
+  carries : (s : State) (a : Vector) → s.centre ≡ 1 → acc s.moment (position s) ≡ Ok a → Carries (carrying (bare s) a)
   carries s a earth e =
       record {
         earth = earth;
@@ -69,8 +69,8 @@ module _ (b : List ℕ) (setting : Setting) (flat : used setting.j ≡ false) (d
   unread s a = refl
 
   -- a state without an acceleration has no step before
-  no_step : (s : State) (k : ℕ) → acc s.moment (position s) ≡ rule.Refused k → old s ≡ Off k
-  no_step s k e = ap (λ (q : AccelerationAnswer). and_then q (stage2 acc (unkept acc) h s)) e
+  no_step : (s : State) (k : ℕ) → acc s.moment (position s) ≡ Err k → old s ≡ Off k
+  no_step s k e = ap (λ (q : Result Vector Refusal). and_then q (stage2 acc (unkept acc) h s)) e
 
   step_is : (s : State) → Carries s → now s ≡ kept_after acc (old s)
   step_is s c = step_as_before b setting h s c.earth flat dark c.rule
@@ -81,15 +81,15 @@ module _ (b : List ℕ) (setting : Setting) (flat : used setting.j ≡ false) (d
   -- has none
   pub walk_as_before : (n : ℕ) (s : State) → Carries s → walk now n s ≡ kept_after acc (walk old n s)
   unfolding walk
-  walk_as_before zero s c = sym (ap (λ (q : AccelerationAnswer). moved_by (kept_by (bare s) q)) (rule_before_lem s c))
+  walk_as_before zero s c = sym (ap (λ (q : Result Vector Refusal). moved_by (kept_by (bare s) q)) (rule_before_lem s c))
   walk_as_before (suc n) s c = go (walk old n s) refl (walk_as_before n s c)
     where
-      by : (x : State) (q : AccelerationAnswer) → acc x.moment (position x) ≡ q → walk now n s ≡ moved_by (kept_by (bare x) q)
+      by : (x : State) (q : Result Vector Refusal) → acc x.moment (position x) ≡ q → walk now n s ≡ moved_by (kept_by (bare x) q)
           → onward now (moved_by (kept_by (bare x) q)) ≡ kept_after acc (old x)
-      by x (rule.Is a) e w =
+      by x (Ok a) e w =
           let centre : x.centre ≡ 1 = centre_stays b setting h 0 n s (carrying (bare x) a) w ∙ c.earth in
           step_is (carrying (bare x) a) (carries x a centre e) ∙ ap (kept_after acc) (unread x a)
-      by x (rule.Refused k) e w = sym (ap (kept_after acc) (no_step x k e))
+      by x (Err k) e w = sym (ap (kept_after acc) (no_step x k e))
 
       go : (m : Moved) → walk old n s ≡ m → walk now n s ≡ kept_after acc (walk old n s) → onward now (walk now n s) ≡ kept_after acc (onward old (walk old n s))
       go (On x) e w =
@@ -101,7 +101,7 @@ module _ (b : List ℕ) (setting : Setting) (flat : used setting.j ≡ false) (d
   -- ---- the run
 
   -- a run before, from a state without an acceleration, stays there
-  stuck : (target budget : ℕ) (x : State) (k : ℕ) → acc x.moment (position x) ≡ rule.Refused k
+  stuck : (target budget : ℕ) (x : State) (k : ℕ) → acc x.moment (position x) ≡ Err k
       → ((run_to old target budget x).steps ≡ 0) × ((run_to old target budget x).state ≡ x)
   stuck target budget x k e = go (ℕ_discrete x.moment target) budget
     where
@@ -124,16 +124,16 @@ module _ (b : List ℕ) (setting : Setting) (flat : used setting.j ≡ false) (d
       go (no short) = rw (run_going now target s short, run_going old target (carrying (bare s) v) short) (same refl refl refl)
   run_from_lem target (suc budget) s v c = go (ℕ_discrete s.moment target) (old s) refl (run_from_lem target budget)
     where
-      stepped : (s.moment ≡ target → ⊥) → (next : State) → old s ≡ On next → (q : AccelerationAnswer) → acc next.moment (position next) ≡ q
+      stepped : (s.moment ≡ target → ⊥) → (next : State) → old s ≡ On next → (q : Result Vector Refusal) → acc next.moment (position next) ≡ q
           → ((s : State) (v : Vector) → Carries s → AsBefore b setting (run_to now target budget s) (run_to old target budget (carrying (bare s) v)))
           → AsBefore b setting (run_to now target (suc budget) s) (counted (run_to old target budget next))
-      stepped short next on (rule.Is a) e later =
+      stepped short next on (Ok a) e later =
           let y = carrying (bare next) a in
-          let goes : now s ≡ On y = step_is s c ∙ ap (kept_after acc) on ∙ ap (λ (q : AccelerationAnswer). moved_by (kept_by (bare next) q)) e in
+          let goes : now s ≡ On y = step_is s c ∙ ap (kept_after acc) on ∙ ap (λ (q : Result Vector Refusal). moved_by (kept_by (bare next) q)) e in
           rw (run_on now target s short budget y goes)
           (counts _ _ (later y (acceleration next) (carries next a ((done b setting h s y goes).centre ∙ c.earth) e)))
-      stepped short next on (rule.Refused k) e later =
-          let ends : now s ≡ Off k = step_is s c ∙ ap (kept_after acc) on ∙ ap (λ (q : AccelerationAnswer). moved_by (kept_by (bare next) q)) e in
+      stepped short next on (Err k) e later =
+          let ends : now s ≡ Off k = step_is s c ∙ ap (kept_after acc) on ∙ ap (λ (q : Result Vector Refusal). moved_by (kept_by (bare next) q)) e in
           let there = stuck target budget next k e in
           rw (run_refused now target s short budget k ends)
           (without k refl (ap (λ (n : ℕ). n + 1) there.0) (ap (λ (x : State). acc x.moment (position x)) there.1 ∙ e))

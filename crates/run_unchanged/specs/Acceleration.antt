@@ -1,6 +1,7 @@
 -- The acceleration before document 02's R-7: about any centre, without the last terms. Also document 01's acceleration and start checks
 -- before R-6: about the Earth, over the bodies from 2 on.
-use Rattle.std.specs.Prelude.{false, not, ◌&&◌, List, [], ◌∷◌, ℕ, Float}
+use Rattle.base.specs.declared.Refusal.{Refusal}
+use Rattle.std.specs.Prelude.{false, not, ◌&&◌, List, [], ◌∷◌, ℕ, Float, Result, Err}
 use Rattle.base.specs.Choice.{if◌then◌otherwise◌}
 use Rattle.base.specs.Limits.{is_moment}
 use Rattle.state.specs.State.{finite_vector, finite_state, setting_allowed, coefficient_of}
@@ -10,16 +11,14 @@ use Rattle.state.specs.declared.Setting.{Setting}
 use Rattle.book.specs.Passes.{passes}
 use Rattle.gravity.specs.Pull.{negated, g, sound}
 use Rattle.gravity.specs.Acceleration.{Body, Listed, sky, sky_of, stands, place_of, others, less, all_sound, settled, seen_then}
-use Rattle.gravity.specs.declared.AccelerationAnswer.{AccelerationAnswer}
-use Rattle.gravity.specs.declared.AccelerationAnswer.TheVariants.{Refused}
 use Rattle.run_checks.specs.Start.{step_allowed, within_steps}
 
 -- "start with -g(P, Earth)", whose coefficient is m; "For each used body ..: subtract ..", and no terms after them
-abbrev pub rule_before : Float → Vector → List Body → AccelerationAnswer
+abbrev pub rule_before : Float → Vector → List Body → Result Vector Refusal
 rule_before m P bodies = settled (sound P && all_sound P bodies) (less P (negated (g P m)) bodies)
 
 -- R-6: "the centre's own pull, then every other used body .. at its position less the centre's"
-unfoldable pub without_terms : List ℕ → Setting → ℕ → ℕ → Vector → AccelerationAnswer
+unfoldable pub without_terms : List ℕ → Setting → ℕ → ℕ → Vector → Result Vector Refusal
 without_terms b s centre t P =
     let C = place_of (stands b centre t) in
     seen_then (λ bodies. rule_before (coefficient_of s centre) P (others centre C bodies)) (sky b s t)
@@ -35,16 +34,16 @@ bodies_before s =
     ∷ []
 
 -- "Acceleration at position P: start with -g(P, Earth)"; "For each used body from 2 on in rising number, at R: subtract .."
-unfoldable pub acceleration_before : List ℕ → Setting → ℕ → Vector → AccelerationAnswer
+unfoldable pub acceleration_before : List ℕ → Setting → ℕ → Vector → Result Vector Refusal
 acceleration_before b s t P = seen_then (rule_before s.earth P) (sky_of b t (bodies_before s))
 
 -- "Acceleration: 1, 4, 3, 7 (position), then its own rule"
-unfoldable pub answer_before : List ℕ → Setting → ℕ → Vector → AccelerationAnswer
+unfoldable pub answer_before : List ℕ → Setting → ℕ → Vector → Result Vector Refusal
 answer_before b s t P =
-    if not (passes b) then Refused 1 otherwise
-    if not (setting_allowed s) then Refused 4 otherwise
-    if not (is_moment t) then Refused 3 otherwise
-    if not (finite_vector P) then Refused 7 otherwise
+    if not (passes b) then Err Refusal.Book otherwise
+    if not (setting_allowed s) then Err Refusal.Setting otherwise
+    if not (is_moment t) then Err Refusal.Moment otherwise
+    if not (finite_vector P) then Err Refusal.NotFinite otherwise
     acceleration_before b s t P
 
 -- "Run call order: 1, 4, 3 (state, then target), 7 (state), 2, 5": before R-8 the stored acceleration was not checked

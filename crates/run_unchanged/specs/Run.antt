@@ -1,11 +1,10 @@
 -- Document 01's run before document 02's R-6, R-7 and R-8, without its guesses: about the Earth, from the moment, the position and the
 -- velocity only.
-use Rattle.std.specs.Prelude.{List, ◌≡◌, ℕ, ◌+◌}
+use Rattle.std.specs.Prelude.{List, ◌≡◌, ℕ, ◌+◌, Err}
 use Rattle.base.specs.Choice.{if◌then◌otherwise◌, ◌=?◌}
 use Rattle.state.specs.State.{position, bare}
 use Rattle.state.specs.declared.State.{State}
 use Rattle.state.specs.declared.Setting.{Setting}
-use Rattle.gravity.specs.declared.AccelerationAnswer.TheVariants as rule
 use Rattle.run.specs.Run.{Reached, ended, run_to}
 use Rattle.run.specs.declared.Outcome.TheVariants.{Refused}
 use Rattle.run.specs.declared.RunAnswer.{RunAnswer}
@@ -26,4 +25,4 @@ reached_by r = record { outcome = r.outcome; steps = r.steps; state = r.state }
 pub data AsBefore (b : List ℕ) (setting : Setting) (r q : Reached) : Type 0 where
   same : r.outcome ≡ q.outcome → r.steps ≡ q.steps → bare r.state ≡ bare q.state → AsBefore b setting r q
   without : (k : ℕ) → r.outcome ≡ Refused k → q.steps ≡ r.steps + 1
-      → acceleration_before b setting q.state.moment (position q.state) ≡ rule.Refused k → AsBefore b setting r q
+      → acceleration_before b setting q.state.moment (position q.state) ≡ Err k → AsBefore b setting r q

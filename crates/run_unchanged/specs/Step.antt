@@ -1,15 +1,15 @@
 -- Document 01's step before document 02's R-8: its first slope is computed, and nothing is stored with the new state.
-use Rattle.std.specs.Prelude.{ℕ}
+use Rattle.base.specs.declared.Refusal.{Refusal}
+use Rattle.std.specs.Prelude.{ℕ, Result}
 use Rattle.state.specs.State.{position, carrying, bare}
 use Rattle.state.specs.declared.Vector.{Vector}
 use Rattle.state.specs.declared.State.{State}
 use Rattle.state.specs.declared.Injection.{Injection}
 use Rattle.gravity.specs.Acceleration.{nowhere}
-use Rattle.gravity.specs.declared.AccelerationAnswer.{AccelerationAnswer}
 use Rattle.run.specs.Step.{Moved, On, Off, and_then, keeping}
 use Rattle.run.specs.Stages.{stage2}
 
-module _ (acc : ℕ → Vector → AccelerationAnswer) where
+module _ (acc : ℕ → Vector → Result Vector Refusal) where
   -- "The four stages, in order, stand at t, t + h/2, t + h/2 and t + h"
   abbrev pub stage1 : (Injection → Moved) → ℕ → State → Moved
   stage1 ends h s = and_then (acc s.moment (position s)) (stage2 acc ends h s)

@@ -11,13 +11,13 @@ use lib.Pow.{pow_pos}
 use lib.Ieee.{Float, nan, inf, fin, down, div, of_int, round}
 use lib.Ieee.Scale.{finite}
 use lib.Ieee.Exact.{HasValue}
+use Rattle.base.specs.declared.Refusal.{Refusal}
+use Rattle.std.specs.Prelude.{Result, Ok, Err}
 use Rattle.base.specs.Limits.{circle}
 use Rattle.base.specs.Choice.{if◌then◌otherwise◌, ◌<?◌}
 use Rattle.base.specs.Floats.{◌⊗◌, ◌⊘◌, whole}
 use Rattle.base.proofs.Bounds.{Within, Held, power_held, within_finite, round_within, neg_within, mul_within, add_within, div_within}
 use Rattle.sine.specs.declared.SineCosine.{SineCosine}
-use Rattle.sine.specs.declared.SineCosineAnswer.{SineCosineAnswer}
-use Rattle.sine.specs.declared.SineCosineAnswer.TheVariants.{Both, Refused}
 use Rattle.sine.specs.Sine.{octant, within, c, angle, horner, sine_coefficients, cosine_coefficients, column, S, C, sine_cosine, sine_cosine_answer}
 use Rattle.sine.proofs.Octants.{within_le}
 
@@ -134,16 +134,16 @@ sine_cosine_within parts =
     column_within q (S (angle x)) (C (angle x)) (S_within (angle x) b) (C_within (angle x) b)
 
 -- what an accepted answer holds is finite
-abbrev pub FiniteAnswer : SineCosineAnswer → Type 0
-FiniteAnswer (Both r) = (finite r.sine ≡ true) × (finite r.cosine ≡ true)
-FiniteAnswer (Refused k) = Unit {0}
+abbrev pub FiniteAnswer : Result SineCosine Refusal → Type 0
+FiniteAnswer (Ok r) = (finite r.sine ≡ true) × (finite r.cosine ≡ true)
+FiniteAnswer (Err k) = Unit {0}
 
 -- no accepted answer holds a NaN or an infinity, for every angle
 pub accepted_finite : (parts : ℕ) → FiniteAnswer (sine_cosine_answer parts)
 unfolding sine_cosine_answer
 accepted_finite parts = go (parts <? circle)
   where
-    go : (b : Bool) → FiniteAnswer (if b then Both (sine_cosine parts) otherwise Refused 12)
+    go : (b : Bool) → FiniteAnswer (if b then Ok (sine_cosine parts) otherwise Err Refusal.Angle)
     go true =
         let w = sine_cosine_within parts in
         (within_finite 2 1 (sine_cosine parts).sine w.sine, within_finite 2 1 (sine_cosine parts).cosine w.cosine)

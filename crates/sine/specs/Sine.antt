@@ -1,13 +1,12 @@
 -- Document 01, "Root, sine and cosine": sine and cosine of an angle in parts, 3,600,000,000,000 to the circle.
-use Rattle.std.specs.Prelude.{List, [], ◌∷◌, ℕ, zero, suc, ◌-◌, ◌*◌, ◌/◌, ◌%◌, get_or, pos, negsuc, Float}
+use Rattle.base.specs.declared.Refusal.{Refusal}
+use Rattle.std.specs.Prelude.{List, [], ◌∷◌, ℕ, zero, suc, ◌-◌, ◌*◌, ◌/◌, ◌%◌, get_or, pos, negsuc, Float, Result, Ok, Err}
 use Rattle.std.specs.Float.{binary64}
 use Rattle.std.specs.Float.Ieee.{neg, of_int}
 use Rattle.base.specs.Limits.{circle}
 use Rattle.base.specs.Floats.{◌⊕◌, ◌⊗◌, ◌⊘◌, whole, decimal}
 use Rattle.base.specs.Choice.{if◌then◌otherwise◌, ◌<?◌, ◌=?◌}
 use Rattle.sine.specs.declared.SineCosine.{SineCosine}
-use Rattle.sine.specs.declared.SineCosineAnswer.{SineCosineAnswer}
-use Rattle.sine.specs.declared.SineCosineAnswer.TheVariants.{Both, Refused}
 
 abbrev pub octant : ℕ
 octant = 450_000_000_000
@@ -88,5 +87,5 @@ sine_cosine parts =
     column q (S a) (C a)
 
 -- "parts below one circle", 12 otherwise
-unfoldable pub sine_cosine_answer : ℕ → SineCosineAnswer
-sine_cosine_answer parts = if parts <? circle then Both (sine_cosine parts) otherwise Refused 12
+unfoldable pub sine_cosine_answer : ℕ → Result SineCosine Refusal
+sine_cosine_answer parts = if parts <? circle then Ok (sine_cosine parts) otherwise Err Refusal.Angle

@@ -7,6 +7,7 @@ pub mod inner;
 ghost use Rattle.std.specs.Prelude.{◌≡◌};
 ghost use Rattle.sine.specs.Sine.{sine_cosine_answer};
 
+use base::Refusal;
 use base::CIRCLE;
 
 #[derive(Clone, Copy)]
@@ -15,17 +16,11 @@ pub struct SineCosine {
     pub cosine: f64,
 }
 
-#[derive(Clone, Copy)]
-pub enum SineCosineAnswer {
-    Both(SineCosine),
-    Refused(u64),
-}
-
-pub fn sine_cosine(parts: u64) -> SineCosineAnswer
+pub fn sine_cosine(parts: u64) -> Result<SineCosine, Refusal>
     ensures { result ≡ sine_cosine_answer parts }
 {
     if parts < CIRCLE {
-        return SineCosineAnswer::Both(inner::of_parts(parts));
+        return Ok(inner::of_parts(parts));
     }
-    SineCosineAnswer::Refused(12)
+    Err(Refusal::Angle)
 }

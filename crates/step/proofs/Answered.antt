@@ -3,6 +3,8 @@ use mathlib.Core.Bool.{true, ◌&&◌}
 use mathlib.Core.List.{List}
 use mathlib.Core.Path.{◌≡◌, sym, ap, ◌∙◌}
 use Prim.Native.Nat.{ℕ, ◌+◌}
+use Rattle.base.specs.declared.Refusal.{Refusal}
+use Rattle.std.specs.Prelude.{Result, Ok, Err}
 use Rattle.base.specs.Choice.{if◌then◌otherwise◌}
 use Rattle.state.specs.State.{position, velocity, centre_allowed, finite_vector, injection_at}
 use Rattle.state.specs.declared.Vector.{Vector}
@@ -10,8 +12,6 @@ use Rattle.state.specs.declared.State.{State}
 use Rattle.state.specs.declared.Setting.{Setting}
 use Rattle.gravity.specs.Acceleration.{acceleration_at}
 use Rattle.gravity.specs.Sight.{sights, acceleration_by}
-use Rattle.gravity.specs.declared.AccelerationAnswer.{AccelerationAnswer}
-use Rattle.gravity.specs.declared.AccelerationAnswer.TheVariants.{Is, Refused}
 use Rattle.gravity.specs.declared.Sights.{Sights}
 use Rattle.gravity.specs.declared.Guesses.{Guesses}
 use Rattle.gravity_stored.specs.Injection.{kept_by}
@@ -24,7 +24,7 @@ use Rattle.step_end.specs.declared.Stepped.{Stepped}
 use Rattle.step_end.specs.declared.Stepped.TheVariants as stepped
 
 -- p is the stage's position P, bodies the bodies at its moment, r what the acceleration under them answered
-pub answered : (b : List ℕ) (s : Setting) (c : ℕ) → centre_allowed s c ≡ true → (t : ℕ) (P p : Vector) (bodies : Sights) (r x : AccelerationAnswer)
+pub answered : (b : List ℕ) (s : Setting) (c : ℕ) → centre_allowed s c ≡ true → (t : ℕ) (P p : Vector) (bodies : Sights) (r x : Result Vector Refusal)
     → p ≡ P → bodies ≡ sights b s c t → r ≡ acceleration_by bodies s p → r ≡ x → acceleration_at b s c t P ≡ x
 answered b s c ok t P p bodies r x place seen by is =
     sym (under_is b s t P c ok)
@@ -33,20 +33,20 @@ answered b s c ok t P p bodies r x place seen by is =
     ∙ sym by
     ∙ is
 
-pub goes_on : (q : AccelerationAnswer) (a : Vector) (next : Vector → Moved) (entries : Guesses) (r : Stepped)
-    → q ≡ Is a → r ≡ kept entries (next a) → r ≡ kept entries (and_then q next)
-goes_on q a next entries r e h = h ∙ sym (ap (λ (x : AccelerationAnswer). kept entries (and_then x next)) e)
+pub goes_on : (q : Result Vector Refusal) (a : Vector) (next : Vector → Moved) (entries : Guesses) (r : Stepped)
+    → q ≡ Ok a → r ≡ kept entries (next a) → r ≡ kept entries (and_then q next)
+goes_on q a next entries r e h = h ∙ sym (ap (λ (x : Result Vector Refusal). kept entries (and_then x next)) e)
 
-pub leaves : (q : AccelerationAnswer) (k : ℕ) (next : Vector → Moved) (entries : Guesses)
-    → q ≡ Refused k → stepped.Off k ≡ kept entries (and_then q next)
-leaves q k next entries e = sym (ap (λ (x : AccelerationAnswer). kept entries (and_then x next)) e)
+pub leaves : (q : Result Vector Refusal) (k : ℕ) (next : Vector → Moved) (entries : Guesses)
+    → q ≡ Err k → stepped.Off k ≡ kept entries (and_then q next)
+leaves q k next entries e = sym (ap (λ (x : Result Vector Refusal). kept entries (and_then x next)) e)
 
 -- the new state's acceleration under the bodies known at its moment is document 02's
 ended : (b : List ℕ) (s : Setting) (c : ℕ) → centre_allowed s c ≡ true → (t : ℕ) (bodies : Sights) → bodies ≡ sights b s c t
     → (p v : Vector) → kept bodies.entries (arrive (keeping_under bodies s) t c p v) ≡ kept (sights b s c t).entries (arrive (keeping (acceleration_at b s c)) t c p v)
 ended b s c ok t bodies seen p v =
     ap (λ (k : Sights). kept k.entries (arrive (keeping_under k s) t c p v)) seen
-    ∙ ap (λ (q : AccelerationAnswer). kept (sights b s c t).entries (if finite_vector p && finite_vector v then moved_by (kept_by (injection_at t c p v) q) otherwise Off 7))
+    ∙ ap (λ (q : Result Vector Refusal). kept (sights b s c t).entries (if finite_vector p && finite_vector v then moved_by (kept_by (injection_at t c p v) q) otherwise Off Refusal.NotFinite))
     (under_is b s t p c ok)
 
 pub ended_lastly : (b : List ℕ) (setting : Setting) (s : State) → centre_allowed setting s.centre ≡ true → (h : ℕ) (bodies : Sights)

@@ -5,6 +5,8 @@ use mathlib.Core.List.{List}
 use mathlib.Core.Path.{◌≡◌, refl, sym, ap, ◌∙◌}
 use Prim.Native.Nat.{ℕ, ◌+◌, ◌/◌}
 use native.Mathlib.Omega.{arith}
+use Rattle.base.specs.declared.Refusal.{Refusal}
+use Rattle.std.specs.Prelude.{Result, Ok, Err}
 use Rattle.base.specs.Choice.{if◌then◌otherwise◌}
 use Rattle.state.specs.State.{position, velocity, acceleration, injection_at, carrying, finite_vector, finite_state, centre_allowed}
 use Rattle.state.specs.declared.Vector.{Vector}
@@ -13,8 +15,6 @@ use Rattle.state.specs.declared.Injection.{Injection}
 use Rattle.state.specs.declared.Setting.{Setting}
 use Rattle.gravity.specs.Acceleration.{acceleration_at}
 use Rattle.gravity.specs.Sight.{sights}
-use Rattle.gravity.specs.declared.AccelerationAnswer.{AccelerationAnswer}
-use Rattle.gravity.specs.declared.AccelerationAnswer.TheVariants.{Is, Refused}
 use Rattle.gravity.proofs.Under.{under_is, is_clear}
 use Rattle.gravity_stored.specs.Injection.{kept_by}
 use Rattle.step.specs.Step.{Moved, On, Off, and_then, arrive, along, weighed, step_h, half, sixth, moved_by, keeping, step}
@@ -24,33 +24,33 @@ pub record Done (b : List ℕ) (setting : Setting) (h : ℕ) (s next : State) : 
   pub moment : next.moment ≡ s.moment + h
   pub centre : next.centre ≡ s.centre
   pub finite : finite_state next ≡ true
-  pub rule : acceleration_at b setting next.centre next.moment (position next) ≡ Is (acceleration next)
+  pub rule : acceleration_at b setting next.centre next.moment (position next) ≡ Ok (acceleration next)
   pub clear : centre_allowed setting s.centre ≡ true → (sights b setting s.centre (s.moment + h)).refusal ≡ 0
 
 -- a stage that led to a state had an acceleration
-pub record Through (q : AccelerationAnswer) (rest : Vector → Moved) (next : State) : Type 0 where
+pub record Through (q : Result Vector Refusal) (rest : Vector → Moved) (next : State) : Type 0 where
   pub a : Vector
-  pub is : q ≡ Is a
+  pub is : q ≡ Ok a
   pub on : rest a ≡ On next
 
-through : (q : AccelerationAnswer) (rest : Vector → Moved) (next : State) → and_then q rest ≡ On next → Through q rest next
-through (Is a) rest next e = record { a = a; is = refl; on = e }
-through (Refused k) rest next e = let z : ◌≡◌ {A = ℕ} 0 1 = cc in absurd (omega arith)
+through : (q : Result Vector Refusal) (rest : Vector → Moved) (next : State) → and_then q rest ≡ On next → Through q rest next
+through (Ok a) rest next e = record { a = a; is = refl; on = e }
+through (Err k) rest next e = let z : ◌≡◌ {A = ℕ} 0 1 = cc in absurd (omega arith)
 
 -- an end that led to a state had finite components
 arrived : (ends : Injection → Moved) (t c : ℕ) (p v : Vector) (next : State) → arrive ends t c p v ≡ On next
     → ((finite_vector p && finite_vector v) ≡ true) × (ends (injection_at t c p v) ≡ On next)
 arrived ends t c p v next = go (finite_vector p && finite_vector v) refl
   where
-    go : (ok : Bool) → (finite_vector p && finite_vector v) ≡ ok → (if ok then ends (injection_at t c p v) otherwise Off 7) ≡ On next
+    go : (ok : Bool) → (finite_vector p && finite_vector v) ≡ ok → (if ok then ends (injection_at t c p v) otherwise Off Refusal.NotFinite) ≡ On next
         → ((finite_vector p && finite_vector v) ≡ true) × (ends (injection_at t c p v) ≡ On next)
     go true f e = (f, e)
     go false f e = let z : ◌≡◌ {A = ℕ} 0 1 = cc in absurd (omega arith)
 
 -- and the rule gave it an acceleration, which it carries
-keeps : (q : AccelerationAnswer) (i : Injection) (next : State) → moved_by (kept_by i q) ≡ On next → (a : Vector) × (q ≡ Is a) × (next ≡ carrying i a)
-keeps (Is a) i next e = (a, refl, cc)
-keeps (Refused k) i next e = let z : ◌≡◌ {A = ℕ} 0 1 = cc in absurd (omega arith)
+keeps : (q : Result Vector Refusal) (i : Injection) (next : State) → moved_by (kept_by i q) ≡ On next → (a : Vector) × (q ≡ Ok a) × (next ≡ carrying i a)
+keeps (Ok a) i next e = (a, refl, cc)
+keeps (Err k) i next e = let z : ◌≡◌ {A = ℕ} 0 1 = cc in absurd (omega arith)
 
 pub done : (b : List ℕ) (setting : Setting) (h : ℕ) (s next : State) → step b setting h s ≡ On next → Done b setting h s next
 unfolding step
@@ -75,6 +75,6 @@ done b setting h s next e =
       rule =
           ap (λ (x : State). acceleration_at b setting x.centre x.moment (position x)) there.2
           ∙ there.1
-          ∙ ap (λ (x : State). Is (acceleration x)) (sym there.2);
+          ∙ ap (λ (x : State). Ok (acceleration x)) (sym there.2);
       clear = λ ok. is_clear (sights b setting s.centre (s.moment + h)) setting P4 four.a (under_is b setting (s.moment + h) P4 s.centre ok ∙ four.is);
     }

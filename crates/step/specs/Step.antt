@@ -1,26 +1,25 @@
 -- Document 01, "The step and the run", and document 02, R-8: one step of the classical fourth-order Runge-Kutta rule. It starts from a
 -- state with its stored acceleration, and the new state has its own.
-use Rattle.std.specs.Prelude.{List, ℕ, ◌+◌, ◌/◌}
+use Rattle.base.specs.declared.Refusal.{Refusal}
+use Rattle.std.specs.Prelude.{List, ℕ, ◌+◌, ◌/◌, Result, Ok, Err}
 use Rattle.state.specs.State.{position, velocity, acceleration, starting_position}
 use Rattle.state.specs.declared.Vector.{Vector}
 use Rattle.state.specs.declared.State.{State}
 use Rattle.state.specs.declared.Injection.{Injection}
 use Rattle.state.specs.declared.Setting.{Setting}
 use Rattle.gravity.specs.Acceleration.{acceleration_at}
-use Rattle.gravity.specs.declared.AccelerationAnswer.{AccelerationAnswer}
-use Rattle.gravity.specs.declared.AccelerationAnswer.TheVariants.{Is, Refused}
 use Rattle.gravity_stored.specs.Injection.{kept_by}
 pub use Rattle.step_sums.specs.Slopes.{weigh}
 unfoldable pub use Rattle.step_sums.specs.Slopes.{step_h, along, weighed, half, sixth}
 pub use Rattle.step_end.specs.Arrival.{Moved, On, Off, arrive, moved_by}
 
 -- an acceleration continues the step, a refusal ends it with its number
-abbrev pub and_then : AccelerationAnswer → (Vector → Moved) → Moved
-and_then (Is a) next = next a
-and_then (Refused k) next = Off k
+abbrev pub and_then : Result Vector Refusal → (Vector → Moved) → Moved
+and_then (Ok a) next = next a
+and_then (Err k) next = Off k
 
 -- R-8: step "must keep it equal to the rule at that state"
-abbrev pub keeping : (ℕ → Vector → AccelerationAnswer) → Injection → Moved
+abbrev pub keeping : (ℕ → Vector → Result Vector Refusal) → Injection → Moved
 keeping acc i = moved_by (kept_by i (acc i.moment (starting_position i)))
 
 -- "The four stages, in order, stand at t, t + h/2, t + h/2 and t + h". The slope of a stage is its velocity and its acceleration: k1 is v

@@ -12,7 +12,7 @@ ghost use Rattle.step.specs.Stages.{stage2, stage3, stage4};
 ghost use Rattle.step.specs.Entries.{entries_after, MayStep};
 
 use gravity::inner::{acceleration_by, acceleration_under, seen_at};
-use gravity::{AccelerationAnswer, Guesses, Sights};
+use gravity::{Guesses, Sights};
 use state::{Setting, State, Vector};
 use step_end::Stepped;
 use step_end::inner::finish;
@@ -39,8 +39,8 @@ fn fourth_stage(
     let roots = seen.roots;
     let answer = acceleration_by(bodies, setting, p4, roots);
     match answer {
-        AccelerationAnswer::Is(a4) => finish(setting, s, h, bodies, a2, a3, a4),
-        AccelerationAnswer::Refused(k) => Stepped::Off(k),
+        Ok(a4) => finish(setting, s, h, bodies, a2, a3, a4),
+        Err(k) => Stepped::Off(k),
     }
 }
 
@@ -64,8 +64,8 @@ fn third_stage(
     let p3 = toward(state::position_of(s), half, v2);
     let answer = acceleration_under(bodies, setting, p3);
     match answer {
-        AccelerationAnswer::Is(a3) => fourth_stage(book, setting, s, h, g, calm, a2, a3),
-        AccelerationAnswer::Refused(k) => Stepped::Off(k),
+        Ok(a3) => fourth_stage(book, setting, s, h, g, calm, a2, a3),
+        Err(k) => Stepped::Off(k),
     }
 }
 
@@ -90,8 +90,8 @@ fn second_stage(book: &[u8], setting: Setting, s: State, h: u32, g: Guesses, cal
     let roots = seen.roots;
     let answer = acceleration_by(bodies, setting, p2, roots);
     match answer {
-        AccelerationAnswer::Is(a2) => third_stage(book, setting, s, h, g, calm, bodies, a2),
-        AccelerationAnswer::Refused(k) => Stepped::Off(k),
+        Ok(a2) => third_stage(book, setting, s, h, g, calm, bodies, a2),
+        Err(k) => Stepped::Off(k),
     }
 }
 

@@ -1,12 +1,11 @@
 -- Document 01, "The step and the run", and document 02, R-8: the end of a step, from the slopes of its four stages.
-use Rattle.std.specs.Prelude.{◌&&◌, ℕ, ◌+◌}
+use Rattle.base.specs.declared.Refusal.{Refusal}
+use Rattle.std.specs.Prelude.{◌&&◌, ℕ, ◌+◌, Result, Ok, Err}
 use Rattle.base.specs.Choice.{if◌then◌otherwise◌}
 use Rattle.state.specs.State.{position, velocity, injection_at, finite_vector}
 use Rattle.state.specs.declared.Vector.{Vector}
 use Rattle.state.specs.declared.State.{State}
 use Rattle.state.specs.declared.Injection.{Injection}
-use Rattle.gravity_stored.specs.declared.InjectionAnswer.{InjectionAnswer}
-use Rattle.gravity_stored.specs.declared.InjectionAnswer.TheVariants as injection
 use Rattle.step_sums.specs.Slopes.{step_h, along, weighed, half, sixth}
 
 -- the result of a step: the new state, or the number of its refusal
@@ -16,7 +15,7 @@ pub data Moved : Type 0 where
 
 -- "A new component that is not finite gives 7"; `ends` computes the result from the new position and velocity
 abbrev pub arrive : (Injection → Moved) → ℕ → ℕ → Vector → Vector → Moved
-arrive ends t centre p v = if finite_vector p && finite_vector v then ends (injection_at t centre p v) otherwise Off 7
+arrive ends t centre p v = if finite_vector p && finite_vector v then ends (injection_at t centre p v) otherwise Off Refusal.NotFinite
 
 -- The velocity of a stage, from the acceleration of the stage before it. The slope of a position is the stage's velocity, that of a
 -- velocity the stage's acceleration.
@@ -37,6 +36,6 @@ lastly ends h s a1 a2 a3 a4 =
     (along (velocity s) (sixth h) (weighed a1 a2 a3 a4))
 
 -- R-8: step "must keep it equal to the rule at that state", "and a step whose new state has none is refused at that step"
-abbrev pub moved_by : InjectionAnswer → Moved
-moved_by (injection.Injected s) = On s
-moved_by (injection.Refused k) = Off k
+abbrev pub moved_by : Result State Refusal → Moved
+moved_by (Ok s) = On s
+moved_by (Err k) = Off k

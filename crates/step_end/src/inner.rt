@@ -7,19 +7,19 @@ ghost use Rattle.state.specs.State.{acceleration};
 ghost use Rattle.step_end.specs.Arrival.{moved_by, arrive, lastly};
 ghost use Rattle.step_end.specs.Kept.{kept, keeping_under};
 
+use base::Refusal;
 use crate::Stepped;
 use gravity::{Guesses, Sights};
-use gravity_stored::InjectionAnswer;
 use gravity_stored::inner::kept_under;
 use state::{Injection, Setting, State, Vector};
 use step_sums::{half_of, seconds, sixth_of, toward, weigh_all};
 
-fn stepped_by(answer: InjectionAnswer, entries: Guesses) -> Stepped
+fn stepped_by(answer: Result<State, Refusal>, entries: Guesses) -> Stepped
     ensures { result ≡ kept entries (moved_by answer) }
 {
     match answer {
-        InjectionAnswer::Injected(next) => Stepped::On(next, entries),
-        InjectionAnswer::Refused(k) => Stepped::Off(k),
+        Ok(next) => Stepped::On(next, entries),
+        Err(k) => Stepped::Off(k),
     }
 }
 
@@ -50,7 +50,7 @@ fn arrived(
             return stepped_by(answer, bodies.entries);
         }
     }
-    Stepped::Off(7)
+    Stepped::Off(Refusal::NotFinite)
 }
 
 // The weighted sum of the slopes of the four stages.

@@ -20,7 +20,7 @@ use listing_write::lines::{put_header, put_lone_refusal, put_outcome, put_state}
 use run::Outcome;
 use state::{Setting, State};
 use std::rt::Env;
-use strip_order::{Form, Order, OrderAnswer};
+use strip_order::{Form, Order};
 use telling::{tell_unread, tell_unwritten, tell_use};
 
 // The longest order, the longest book, and one byte more: enough to detect a book that is too long.
@@ -112,11 +112,11 @@ fn print_order(rt: &(impl Print + Eprint), form: Form, book: &[u8], order: Order
 fn print_strip(rt: &(impl Print + Eprint), form: Form, input: &[u8]) {
     let answer = strip_order::read_order(form, input);
     match answer {
-        OrderAnswer::Is(order) => {
+        Ok(order) => {
             let from = strip_order::order_length(form);
             print_order(rt, form, &input[from..], order);
         }
-        OrderAnswer::Refused(refusal) => {
+        Err(refusal) => {
             print_lone_refusal(rt, form, refusal);
         }
     }

@@ -7,19 +7,20 @@ use native.Mathlib.Omega.{arith}
 use borrow.Author.Tests.{ltb-false}
 use lib.Dec.{ltb}
 use lib.ListN.{length}
+use Rattle.base.specs.declared.Refusal.{Refusal}
+use Rattle.std.specs.Prelude.{Ok, Err}
 use Rattle.base.specs.Choice.{if◌then◌otherwise◌}
 use Rattle.strip_order.specs.Order.{order_length, order_of, read_order}
 use Rattle.strip_order.specs.declared.Form.{Form}
 use Rattle.strip_order.specs.declared.Form.TheVariants.{Plain, Whole}
 use Rattle.strip_order.specs.declared.Order.{Order}
-use Rattle.strip_order.specs.declared.OrderAnswer.TheVariants as answer
 
 -- it is all there
-pub order_there : (form : Form) (b : List ℕ) (o : Order) → read_order form b ≡ answer.Is o → order_length form ≤ length b
+pub order_there : (form : Form) (b : List ℕ) (o : Order) → read_order form b ≡ Ok o → order_length form ≤ length b
 unfolding read_order
 order_there form b o = go (ltb (length b) (order_length form)) refl
   where
-    go : (t : Bool) → ltb (length b) (order_length form) ≡ t → (if t then answer.Refused 1 otherwise answer.Is (order_of form b)) ≡ answer.Is o → order_length form ≤ length b
+    go : (t : Bool) → ltb (length b) (order_length form) ≡ t → (if t then Err Refusal.Book otherwise Ok (order_of form b)) ≡ Ok o → order_length form ≤ length b
     go true q e = let z : ◌≡◌ {A = ℕ} 0 1 = cc in absurd (omega arith)
     go false q e = ltb-false (length b) (order_length form) q
 

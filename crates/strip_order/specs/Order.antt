@@ -1,7 +1,8 @@
 -- Document 01, "strip": "an order of 120 bytes (six coefficients, moment u64, position, velocity, h u32, DUT u32, target u64,
 -- little-endian)". A NaN's pattern is a NaN, which the checks then refuse. Document 02, R-7: "A second program takes a 144-byte order
 -- with J, A, K after the old 120 bytes", and the old one is "read as J and K zero".
-use Rattle.std.specs.Prelude.{ℕ, List, length}
+use Rattle.base.specs.declared.Refusal.{Refusal}
+use Rattle.std.specs.Prelude.{ℕ, List, length, Result, Ok, Err}
 use Rattle.base.specs.Choice.{if◌then◌otherwise◌, ◌<?◌}
 use Rattle.base.specs.Floats.{zero64}
 use Rattle.state.specs.declared.Injection.{Injection}
@@ -11,8 +12,6 @@ use Rattle.strip_order.specs.declared.Form.{Form}
 use Rattle.strip_order.specs.declared.Form.TheVariants.{Plain, Whole}
 use Rattle.strip_order.specs.declared.Terms.{Terms}
 use Rattle.strip_order.specs.declared.Order.{Order}
-use Rattle.strip_order.specs.declared.OrderAnswer.{OrderAnswer}
-use Rattle.strip_order.specs.declared.OrderAnswer.TheVariants.{Is, Refused}
 
 abbrev pub order_length : Form → ℕ
 order_length Plain = 120
@@ -59,5 +58,5 @@ order_of form b =
     record { setting = setting_of b (terms_of form b); injection = injection_of b; h = u32_at b 104; target = u64_at b 112 }
 
 -- "Input below 120 bytes .. is 1", and below 144 if that is the length of the order
-unfoldable pub read_order : Form → List ℕ → OrderAnswer
-read_order form b = if length b <? order_length form then Refused 1 otherwise Is (order_of form b)
+unfoldable pub read_order : Form → List ℕ → Result Order Refusal
+read_order form b = if length b <? order_length form then Err Refusal.Book otherwise Ok (order_of form b)

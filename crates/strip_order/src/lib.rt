@@ -8,6 +8,7 @@ mod bytes;
 ghost use Rattle.std.specs.Prelude.{◌≡◌, ◌≤◌, length};
 ghost use Rattle.strip_order.specs.Order.{order_length, terms_of, setting_of, injection_of, order_of, read_order};
 
+use base::Refusal;
 use base_bytes::inner::{u32_at, u64_at};
 use bytes::float_at;
 use state::{Injection, Setting};
@@ -33,12 +34,6 @@ pub struct Order {
     pub injection: Injection,
     pub h: u32,
     pub target: u64,
-}
-
-#[derive(Clone, Copy)]
-pub enum OrderAnswer {
-    Is(Order),
-    Refused(u64),
 }
 
 // No order is longer.
@@ -121,11 +116,11 @@ fn order_of(form: Form, order: &[u8]) -> Order
 }
 
 // The order at the start of the input.
-pub fn read_order(form: Form, input: &[u8]) -> OrderAnswer
+pub fn read_order(form: Form, input: &[u8]) -> Result<Order, Refusal>
     ensures { result ≡ read_order form input.now }
 {
     if input.len() < order_length(form) {
-        return OrderAnswer::Refused(1);
+        return Err(Refusal::Book);
     }
-    OrderAnswer::Is(order_of(form, input))
+    Ok(order_of(form, input))
 }

@@ -4,6 +4,7 @@ use mathlib.Core.List.{List, [], ◌∷◌, ◌++◌, append_assoc}
 use mathlib.Core.Path.{◌≡◌, sym, subst, ◌∙◌}
 use native.Mathlib.Omega.{arith}
 use lib.ListN.{length, length-append}
+use Rattle.std.specs.Prelude.{Ok, Err}
 use Rattle.text_write.specs.Numerals.{digits}
 use Rattle.text_write.specs.Written.{Wrote}
 use Rattle.text_write.proofs.Writing.{both}
@@ -12,7 +13,6 @@ use Rattle.calendar.specs.declared.Calendar.{Calendar}
 use Rattle.calendar.specs.Gregorian.{date_of}
 use Rattle.base.specs.Limits.{day_length, end_of_time, last_day}
 use borrow.Author.Tests.{le-leb}
-use Rattle.calendar.specs.declared.DateAnswer.TheVariants.{Date, Refused}
 use Rattle.calendar.specs.Answers.{date_answer}
 use Rattle.text_time.specs.Stamp.{date_text, time_text, stamp_text}
 
@@ -44,19 +44,19 @@ time_length t =
     (omega arith))
 
 -- a moment in range has a date
-in_range : (moment : ℕ) → moment < end_of_time → date_answer (moment / day_length) ≡ Date (date_of (moment / day_length))
+in_range : (moment : ℕ) → moment < end_of_time → date_answer (moment / day_length) ≡ Ok (date_of (moment / day_length))
 in_range moment h = rw (le-leb (moment / day_length) last_day (omega arith))
 
-same_date : (d e : Calendar) → Date d ≡ Date e → e ≡ d
+same_date : (d e : Calendar) → Ok d ≡ Ok e → e ≡ d
 same_date d e p = cc
 
-pub has_date : (moment : ℕ) (date : Calendar) → moment < end_of_time → Date date ≡ date_answer (moment / day_length) → date_of (moment / day_length) ≡ date
+pub has_date : (moment : ℕ) (date : Calendar) → moment < end_of_time → Ok date ≡ date_answer (moment / day_length) → date_of (moment / day_length) ≡ date
 has_date moment date h e = same_date date (date_of (moment / day_length)) (e ∙ in_range moment h)
 
-clash : (n : ℕ) (d : Calendar) → Refused n ≡ Date d → ⊥
+clash : (n : ℕ) (d : Calendar) → Err n ≡ Ok d → ⊥
 clash n d p = let z : ◌≡◌ {A = ℕ} 0 1 = cc in absurd (omega arith)
 
-pub no_refusal : (moment n : ℕ) → moment < end_of_time → Refused n ≡ date_answer (moment / day_length) → ⊥
+pub no_refusal : (moment n : ℕ) → moment < end_of_time → Err n ≡ date_answer (moment / day_length) → ⊥
 no_refusal moment n h e = clash n (date_of (moment / day_length)) (e ∙ in_range moment h)
 
 pub stamp_length : (moment : ℕ) → length (stamp_text moment) ≡ 23

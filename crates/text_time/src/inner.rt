@@ -7,7 +7,7 @@ ghost use Rattle.text_write.specs.Numerals.{digits};
 ghost use Rattle.text_write.specs.Written.{Wrote};
 ghost use Rattle.text_time.specs.Stamp.{date_text, time_text, stamp_text};
 
-use calendar::{Calendar, DateAnswer};
+use calendar::Calendar;
 use text_decimal::inner::{put_three, put_two};
 
 // A sign, and two digits.
@@ -48,11 +48,11 @@ pub fn put_stamp(out: &mut [u8], at: usize, moment: u64) -> usize
 {
     let answer = Calendar::from_day(moment / base::DAY_LENGTH);
     match answer {
-        DateAnswer::Date(date) => {
+        Ok(date) => {
             let time = put_date(out, at, date);
             out[time] = b'T';
             put_time(out, time + 1, moment % base::DAY_LENGTH)
         }
-        DateAnswer::Refused(_) => at,
+        Err(_) => at,
     }
 }

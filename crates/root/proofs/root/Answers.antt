@@ -1,6 +1,6 @@
 -- `root::root` meets its contract. Assumes nothing.
 use mathlib.Core.Path.{sym, ap, ◌∙◌}
-use Rattle.root.specs.declared.RootAnswer.TheVariants.{Value}
+use Rattle.std.specs.Prelude.{Ok}
 use Rattle.root.proofs.Signs.{not_refused, refused_negative, refused_infinite}
 use Rattle.root.proofs.root.Goals as goal
 
@@ -8,7 +8,7 @@ pub returns-then-x : goal.returns-then-x
 returns-then-x c = sym (refused_negative c.args.x c.if-x.true)
 
 pub returns-then-is_finite : goal.returns-then-is_finite
-returns-then-is_finite c = ap Value c.square_root.ensures
+returns-then-is_finite c = ap Ok c.square_root.ensures
     ∙ sym (not_refused c.args.x (sym c.is_finite.ensures ∙ c.if-is_finite.true) c.if-x.false)
 
 pub returns : goal.returns
