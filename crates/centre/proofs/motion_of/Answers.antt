@@ -14,11 +14,11 @@ unfolding motion_of
 returns-in_default c = rw (ne_eqb _ _ c.if-number-eq1.false, sym c.lookup_guessed.ensures ∙ c.in_default.is)
 
 pub place_at-place-requires : goal.place_at-place-requires
-place_at-place-requires c = record { book_value = c.requires; bound = covered _ _ _ _ (sym c.lookup_guessed.ensures ∙ c.in-Entry.is) }
+place_at-place-requires c = record { book_value = c.requires; bound = covered _ _ _ _ (sym c.lookup_guessed.ensures ∙ c.in-Some.is) }
 
 pub velocity_at-velocity-requires : goal.velocity_at-velocity-requires
-velocity_at-velocity-requires c = record { book_value = c.requires; bound = covered _ _ _ _ (sym c.lookup_guessed.ensures ∙ c.in-Entry.is) }
+velocity_at-velocity-requires c = record { book_value = c.requires; bound = covered _ _ _ _ (sym c.lookup_guessed.ensures ∙ c.in-Some.is) }
 
 pub returns : goal.returns
 unfolding motion_of
-returns c = rw (ne_eqb _ _ c.if-number-eq1.false, sym c.lookup_guessed.ensures ∙ c.in-Entry.is, c.velocity_at-velocity.ensures, c.place_at-place.ensures)
+returns c = rw (ne_eqb _ _ c.if-number-eq1.false, sym c.lookup_guessed.ensures ∙ c.in-Some.is, c.velocity_at-velocity.ensures, c.place_at-place.ensures)

@@ -3,10 +3,10 @@ use mathlib.Core.Path.{sym, ◌∙◌}
 use Rattle.launch.specs.Sphere.{sphere_answer}
 use Rattle.launch.proofs.from_sphere.Goals as goal
 
-pub returns-in-Parts : goal.returns-in-Parts
+pub returns-in-Ok : goal.returns-in-Ok
 unfolding sphere_answer
-returns-in-Parts c = rw (sym c.sidereal.ensures ∙ c.in-Parts.is) c.injection.ensures
+returns-in-Ok c = rw (sym c.sidereal.ensures ∙ c.in-Ok.is) c.injection.ensures
 
-pub returns-in-Refused : goal.returns-in-Refused
+pub returns-in-Err : goal.returns-in-Err
 unfolding sphere_answer
-returns-in-Refused c = rw (sym c.sidereal.ensures ∙ c.in-Refused.is)
+returns-in-Err c = rw (sym c.sidereal.ensures ∙ c.in-Err.is)

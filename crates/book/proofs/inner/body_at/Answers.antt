@@ -8,27 +8,27 @@ pub returns-in_default : goal.returns-in_default
 returns-in_default c = sym (no_cover _ _ _ (sym c.lookup_guessed.ensures ∙ c.in_default.is))
 
 pub place_at-place-requires : goal.place_at-place-requires
-place_at-place-requires c = record { book_value = c.requires; bound = covered _ _ _ _ (sym c.lookup_guessed.ensures ∙ c.in-Entry.is) }
+place_at-place-requires c = record { book_value = c.requires; bound = covered _ _ _ _ (sym c.lookup_guessed.ensures ∙ c.in-Some.is) }
 
 pub velocity_at-velocity-requires : goal.velocity_at-velocity-requires
-velocity_at-velocity-requires c = record { book_value = c.requires; bound = covered _ _ _ _ (sym c.lookup_guessed.ensures ∙ c.in-Entry.is) }
+velocity_at-velocity-requires c = record { book_value = c.requires; bound = covered _ _ _ _ (sym c.lookup_guessed.ensures ∙ c.in-Some.is) }
 
 pub returns-then-velocity_finite : goal.returns-then-velocity_finite
 returns-then-velocity_finite c = rw (c.place_at-place.ensures, c.velocity_at-velocity.ensures)
     (sym
     (at_place _ _ _ _
-    (sym c.lookup_guessed.ensures ∙ c.in-Entry.is)
+    (sym c.lookup_guessed.ensures ∙ c.in-Some.is)
     (rw (← c.place_at-place.ensures) (sym c.place_finite.ensures ∙ c.if-place_finite.true))
     (rw (← c.velocity_at-velocity.ensures) (sym c.velocity_finite.ensures ∙ c.if-velocity_finite.true))))
 
 pub returns-then-place_finite : goal.returns-then-place_finite
 returns-then-place_finite c = sym
     (too_fast _ _ _ _
-    (sym c.lookup_guessed.ensures ∙ c.in-Entry.is)
+    (sym c.lookup_guessed.ensures ∙ c.in-Some.is)
     (rw (← c.place_at-place.ensures) (sym c.place_finite.ensures ∙ c.if-place_finite.true))
     (rw (← c.velocity_at-velocity.ensures) (sym c.velocity_finite.ensures ∙ c.if-velocity_finite.false)))
 
 pub returns : goal.returns
 returns c = sym
-    (not_finite _ _ _ _ (sym c.lookup_guessed.ensures ∙ c.in-Entry.is)
+    (not_finite _ _ _ _ (sym c.lookup_guessed.ensures ∙ c.in-Some.is)
     (rw (← c.place_at-place.ensures) (sym c.place_finite.ensures ∙ c.if-place_finite.false)))

@@ -10,16 +10,16 @@ unfolding found_of
 returns-in_default c = rw (sym c.is_looked_up.ensures ∙ c.if-is_looked_up.true, sym c.lookup_guessed.ensures ∙ c.in_default.is, c.blank_sight.ensures)
 
 pub place_at-place-requires : goal.place_at-place-requires
-place_at-place-requires c = record { book_value = c.requires.pass; bound = covered _ _ _ _ (sym c.lookup_guessed.ensures ∙ c.in-Entry.is) }
+place_at-place-requires c = record { book_value = c.requires.pass; bound = covered _ _ _ _ (sym c.lookup_guessed.ensures ∙ c.in-Some.is) }
 
 pub slow_at-slow-requires : goal.slow_at-slow-requires
-slow_at-slow-requires c = record { ready = c.requires; bound = covered _ _ _ _ (sym c.lookup_guessed.ensures ∙ c.in-Entry.is) }
+slow_at-slow-requires c = record { ready = c.requires; bound = covered _ _ _ _ (sym c.lookup_guessed.ensures ∙ c.in-Some.is) }
 
 pub returns-then-is_looked_up : goal.returns-then-is_looked_up
 returns-then-is_looked_up c = rw c.found_at.ensures
     (by_entry _ _ _ _ _ _ _ _
     (sym c.is_looked_up.ensures ∙ c.if-is_looked_up.true)
-    (sym c.lookup_guessed.ensures ∙ c.in-Entry.is)
+    (sym c.lookup_guessed.ensures ∙ c.in-Some.is)
     c.place_at-place.ensures
     c.slow_at-slow.ensures)
 

@@ -10,8 +10,8 @@ put_figures-requires c = search rules
 pub put_refused-requires : goal.put_refused-requires
 put_refused-requires c = search rules
 
-pub returns-in-Figures : goal.returns-in-Figures
-returns-in-Figures c = rw c.in-Figures.is c.put_figures.ensures
+pub returns-in-Ok : goal.returns-in-Ok
+returns-in-Ok c = rw c.in-Ok.is c.put_figures.ensures
 
-pub returns-in-Refused : goal.returns-in-Refused
-returns-in-Refused c = rw c.in-Refused.is (widened c.put_refused.ensures (omega arith) (omega arith))
+pub returns-in-Err : goal.returns-in-Err
+returns-in-Err c = rw c.in-Err.is (widened c.put_refused.ensures (omega arith) (omega arith))

@@ -10,8 +10,8 @@ put_state-requires c = search rules
 pub put_refused-requires : goal.put_refused-requires
 put_refused-requires c = search rules
 
-pub returns-in-Moved : goal.returns-in-Moved
-returns-in-Moved c = rw c.in-Moved.is (widened c.put_state.ensures (omega arith) (omega arith))
+pub returns-in-Ok : goal.returns-in-Ok
+returns-in-Ok c = rw c.in-Ok.is (widened c.put_state.ensures (omega arith) (omega arith))
 
-pub returns-in-Refused : goal.returns-in-Refused
-returns-in-Refused c = rw c.in-Refused.is (widened c.put_refused.ensures (omega arith) (omega arith))
+pub returns-in-Err : goal.returns-in-Err
+returns-in-Err c = rw c.in-Err.is (widened c.put_refused.ensures (omega arith) (omega arith))

@@ -46,19 +46,19 @@ loop-at-preserved c = let l = c.loop-at in
     let x = c.args in (
       c.put_state-at.auto.out ∙ l.invariant.0,
       goes_on x.book.now x.setting x.h x.from x.out.now l.out l.now l.entries l.left l.done l.at l.invariant.1
-          c.if-left-eq0.false _ _ _ _ (sym c.in-On.is ∙ c.step_under-stepped.ensures)
+          c.if-left-eq0.false _ _ _ _ (sym c.in-Ok.is ∙ c.step_under-stepped.ensures)
           c.put_state-at.ensures c.loop-at-test.true c.put_state-at.auto.out,
     )
 
-pub portion_of-requires-in-Off : goal.portion_of-requires-in-Off
-portion_of-requires-in-Off c = tt
+pub portion_of-requires-in-Err : goal.portion_of-requires-in-Err
+portion_of-requires-in-Err c = tt
 
-pub returns-in-Off : goal.returns-in-Off
-returns-in-Off c = let x = c.args in
+pub returns-in-Err : goal.returns-in-Err
+returns-in-Err c = let x = c.args in
     let l = c.loop-at in
-    rw c.portion_of-in-Off.ensures
+    rw c.portion_of-in-Err.ensures
     (refuses x.book.now x.setting x.h x.from x.out.now l.out l.now l.entries l.left l.done l.at l.invariant.1
-    c.if-left-eq0.false _ (sym c.in-Off.is ∙ c.step_under-stepped.ensures))
+    c.if-left-eq0.false _ (sym c.in-Err.is ∙ c.step_under-stepped.ensures))
 
 pub portion_of-requires-2 : goal.portion_of-requires-2
 portion_of-requires-2 c = tt

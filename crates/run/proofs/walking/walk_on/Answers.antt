@@ -59,17 +59,17 @@ loop-n-preserved c = let x = c.args in
     rw c.guesses_from-guesses.ensures
     (walk_goes_on b x.setting x.start x.h x.target x.budget x.given l.now l.guesses l.n l.invariant _ _
     c.loop-n-test.true c.if-now-target.false (sym
-    c.in-On.is ∙ c.step_under-stepped.ensures))
+    c.in-Ok.is ∙ c.step_under-stepped.ensures))
 
-pub handed_back-requires-in-Off : goal.handed_back-requires-in-Off
-handed_back-requires-in-Off c = tt
+pub handed_back-requires-in-Err : goal.handed_back-requires-in-Err
+handed_back-requires-in-Err c = tt
 
-pub returns-in-Off : goal.returns-in-Off
-returns-in-Off c = let x = c.args in
+pub returns-in-Err : goal.returns-in-Err
+returns-in-Err c = let x = c.args in
     let b = x.book.now in
     let l = c.loop-n in
-    let off = handed_off _ _ _ (sym c.in-Off.is ∙ c.step_under-stepped.ensures) in
-    c.handed_back-in-Off.ensures
+    let off = handed_off _ _ _ (sym c.in-Err.is ∙ c.step_under-stepped.ensures) in
+    c.handed_back-in-Err.ensures
     ∙ walk_ends b x.setting x.start x.h x.target x.budget x.given l.now l.guesses l.n l.invariant (Refused _)
     (ap (λ (k : ℕ). run_to (step b x.setting x.h) x.target k l.now) (one_more l.n x.budget c.loop-n-test.true)
     ∙ run_refused (step b x.setting x.h) x.target l.now c.if-now-target.false (x.budget - (l.n + 1)) _ off)
