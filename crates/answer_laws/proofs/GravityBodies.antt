@@ -1,6 +1,6 @@
 -- Any two results that the promise of a function of gravity_bodies allows are equal. Assumes nothing.
 use mathlib.Core.Path.{refl}
-use Rattle.gravity_bodies.specs.Looked.{besides, blank, place_in, refusal_in}
+use Rattle.gravity_bodies.specs.Looked.{besides, blank, place_in, all_found}
 use Rattle.base.proofs.OneAnswer.{OneAnswer, one_answer}
 use Rattle.gravity_bodies.specs.contracts.beside as beside
 use Rattle.gravity_bodies.specs.contracts.blank_sight as blank_sight
@@ -21,4 +21,4 @@ centre_place_answers_once =
 
 pub refusal_of_answers_once : OneAnswer refusal_of.ended (λ M 𝓤 𝓛. refusal_of.clauses 𝓛)
 refusal_of_answers_once =
-    one_answer (λ κs inputs. refusal_in inputs.0) (λ M 𝓤 𝓛 mem run κs inputs g r after. refl)
+    one_answer (λ κs inputs. all_found inputs.0) (λ M 𝓤 𝓛 mem run κs inputs g r after. refl)

@@ -11,16 +11,14 @@ Checked = Result (Unit {0}) Refusal
 abbrev pub require : Bool → Refusal → Checked
 require ok refusal = if ok then Ok tt otherwise Err refusal
 
--- checks before an answer: their refusal, or if they hold the answer
-infixr 10 ◌before◌
-abbrev pub ◌before◌ : {A : Type 0} → Checked → Result A Refusal → Result A Refusal
-Ok held before answer = answer
-Err refusal before answer = Err refusal
-
--- the same for an answer that is no `Result`: what it is if the checks hold, and what it is for their refusal
+-- checks before an answer: the answer if they hold, else what it is for their refusal
 abbrev pub checked : {A : Type 0} → Checked → A → (Refusal → A) → A
 checked (Ok held) answer refused = answer
 checked (Err refusal) answer refused = refused refusal
+
+infixr 10 ◌before◌
+abbrev pub ◌before◌ : {A : Type 0} → Checked → Result A Refusal → Result A Refusal
+checks before answer = checked checks answer Err
 
 -- if an answer is a refusal, whether it meets a test
 abbrev pub refused_by : {A : Type 0} → (Refusal → Bool) → Result A Refusal → Bool

@@ -68,7 +68,7 @@ module _ (b c : List ℕ) where
   first_missing_lem i m = told_back (Missing i) m.pass (ap answer_of (missing_at b c i m.inside m.not_held_lem m.held_before))
 
   -- ---- Refused: only with 1, and if and only if one of the books does not pass
-  pub refused_by_1 : (k : ℕ) → holds_answer b c ≡ Refused k → (k ≡ 1) × ((passes b && passes c) ≡ false)
+  pub refused_by_1 : (k : Refusal) → holds_answer b c ≡ Refused k → (k ≡ Refusal.Book) × ((passes b && passes c) ≡ false)
   unfolding holds_answer
   refused_by_1 k h = by (passes b && passes c) refl h
     where
@@ -76,7 +76,7 @@ module _ (b c : List ℕ) where
       no_number None h = let z : ◌≡◌ {A = ℕ} 0 1 = cc in omega arith
       no_number (Some i) h = let z : ◌≡◌ {A = ℕ} 0 1 = cc in omega arith
 
-      by : (x : Bool) → (passes b && passes c) ≡ x → (if x then answer_of (first_missing b c) otherwise Refused Refusal.Book) ≡ Refused k → (k ≡ 1) × ((passes b && passes c) ≡ false)
+      by : (x : Bool) → (passes b && passes c) ≡ x → (if x then answer_of (first_missing b c) otherwise Refused Refusal.Book) ≡ Refused k → (k ≡ Refusal.Book) × ((passes b && passes c) ≡ false)
       by true e h = absurd (no_number (first_missing b c) h)
       by false e h = (let same : 1 ≡ k = cc in sym same, e)
 

@@ -15,19 +15,19 @@ use Rattle.state.specs.declared.Vector.{Vector}
 use Rattle.state.specs.declared.State.{State}
 use Rattle.state.specs.declared.Injection.{Injection}
 use Rattle.state.specs.declared.Setting.{Setting}
-use Rattle.state_checks.specs.Common.{common_refusal}
+use Rattle.state_checks.specs.Common.{common_checks}
 use Rattle.state_checks.proofs.Passed as common
 use Rattle.book.specs.Passes.{passes}
 use Rattle.book.specs.Lookup.{lookup}
 use Rattle.book_series.specs.Series.{Content, place_in, velocity_in}
 use Rattle.book_series.specs.Series.{place as entry_IsPlace, velocity as entry-velocity}
 use Rattle.gravity.specs.Acceleration.{at_rest, acceleration_at, acceleration_answer}
-use Rattle.gravity_stored.specs.Injection.{rule_at, kept_by, kept, injection_refusal, injection_answer, stored_refusal_by, stored_refusal}
+use Rattle.gravity_stored.specs.Injection.{rule_at, kept_by, kept, injection_checks, injection_answer, stored_check_by, stored_check}
 use Rattle.gravity_stored.proofs.Checked.{injectable}
-use Rattle.centre.specs.Move.{motion_by, motion_of, shifted, kept_or7, move_by, move_of, move_refusal, move_answer}
+use Rattle.centre.specs.Move.{motion_by, motion_of, shifted, kept_or7, move_by, move_of, move_checks, move_answer}
 use Rattle.centre.specs.Move as centre
 use Rattle.centre.proofs.Moves.{may_move}
-use Rattle.run.specs.Step.{Moved, Off, and_then, along, weighed, half, sixth, step_h, arrive, moved_by, keeping, step}
+use Rattle.run.specs.Step.{Moved, and_then, along, weighed, half, sixth, step_h, arrive, keeping, step}
 use Rattle.run.specs.Stages.{velocity2, velocity3, velocity4, lastly, stage2, stage3, stage4}
 use Rattle.book_laws.specs.Fuller.{HoldsAll, Unless}
 use Rattle.book_laws.proofs.Carried.{carried, checked, passed}
@@ -36,8 +36,8 @@ use Rattle.book_laws.proofs.Rule.{rule_fuller}
 
 -- the common checks read only `passes` of a book
 pub same_common : (b c : List ℕ) → passes b ≡ true → passes c ≡ true → (s : Setting) (centred timed finite : Bool)
-    → common_refusal b s centred timed finite ≡ common_refusal c s centred timed finite
-unfolding common_refusal
+    → common_checks b s centred timed finite ≡ common_checks c s centred timed finite
+unfolding common_checks
 same_common b c first second s centred timed finite = rw (first, second)
 
 module _ (b c : List ℕ) (holds : HoldsAll b c) (first : passes b ≡ true) (second : passes c ≡ true) where
@@ -47,7 +47,7 @@ module _ (b c : List ℕ) (holds : HoldsAll b c) (first : passes b ≡ true) (se
       → Unless (Err Refusal.Cover) (acceleration_answer b s centre t P) (acceleration_answer c s centre t P)
   unfolding acceleration_answer
   acceleration_fuller s centre t P =
-      let k = common_refusal c s (centre_allowed s centre) (is_moment t) (finite_vector P) in
+      let k = common_checks c s (centre_allowed s centre) (is_moment t) (finite_vector P) in
       rw (same_common b c first second s (centre_allowed s centre) (is_moment t) (finite_vector P))
       (passed (k =? 0) (Err k) (Err Refusal.Cover) _ _
       (λ none. rule_fuller b c holds second s centre t P (common.passed c s _ _ _ (eqb-true k 0 none)).centre))
@@ -61,22 +61,22 @@ module _ (b c : List ℕ) (holds : HoldsAll b c) (first : passes b ≡ true) (se
       carried (kept_by i) (Err Refusal.Cover) (rule_at b setting i) (rule_at c setting i) (Err Refusal.Cover) refl
       (rule_fuller b c holds second setting i.centre i.moment (starting_position i) ok)
 
-  same_checks : (setting : Setting) (i : Injection) → injection_refusal b setting i ≡ injection_refusal c setting i
-  unfolding injection_refusal
+  same_checks : (setting : Setting) (i : Injection) → injection_checks b setting i ≡ injection_checks c setting i
+  unfolding injection_checks
   same_checks setting i = same_common b c first second setting _ _ _
 
   pub injection_fuller : (setting : Setting) (i : Injection) → Unless (Err Refusal.Cover) (injection_answer b setting i) (injection_answer c setting i)
   unfolding injection_answer
   injection_fuller setting i =
       rw (same_checks setting i)
-      (passed (injection_refusal c setting i =? 0) (Err (injection_refusal c setting i)) (Err Refusal.Cover) _ _
+      (passed (injection_checks c setting i =? 0) (Err (injection_checks c setting i)) (Err Refusal.Cover) _ _
       (λ none. kept_fuller setting i (injectable c setting i (eqb-true _ 0 none)).1))
 
   -- the acceleration stored with a state, checked under both books
-  pub stored_fuller : (setting : Setting) (s : State) → centre_allowed setting s.centre ≡ true → Unless 6 (stored_refusal b setting s) (stored_refusal c setting s)
-  unfolding stored_refusal
+  pub stored_fuller : (setting : Setting) (s : State) → centre_allowed setting s.centre ≡ true → Unless 6 (stored_check b setting s) (stored_check c setting s)
+  unfolding stored_check
   stored_fuller setting s ok =
-      carried (stored_refusal_by s) (Err Refusal.Cover) (rule_at b setting (bare s)) (rule_at c setting (bare s)) 6 refl
+      carried (stored_check_by s) (Err Refusal.Cover) (rule_at b setting (bare s)) (rule_at c setting (bare s)) 6 refl
       (rule_fuller b c holds second setting s.centre s.moment (position s) ok)
 
   -- ---- moves
@@ -122,66 +122,66 @@ module _ (b c : List ℕ) (holds : HoldsAll b c) (first : passes b ≡ true) (se
         checked (s.centre =? to) (Ok s) (Err Refusal.Cover) _ _
         (λ other. by_seen _ _ _ _ (motion_fuller s.centre s.moment) (motion_fuller to s.moment))
 
-  same_move_checks : (setting : Setting) (s : State) (to : ℕ) → move_refusal b setting s to ≡ move_refusal c setting s to
-  unfolding move_refusal
+  same_move_checks : (setting : Setting) (s : State) (to : ℕ) → move_checks b setting s to ≡ move_checks c setting s to
+  unfolding move_checks
   same_move_checks setting s to = same_common b c first second setting _ _ _
 
   pub move_fuller : (setting : Setting) (s : State) (to : ℕ) → Unless (Err Refusal.Cover) (move_answer b setting s to) (move_answer c setting s to)
   unfolding move_answer
   move_fuller setting s to =
       rw (same_move_checks setting s to)
-      (passed (move_refusal c setting s to =? 0) (Err (move_refusal c setting s to)) (Err Refusal.Cover) _ _
+      (passed (move_checks c setting s to =? 0) (Err (move_checks c setting s to)) (Err Refusal.Cover) _ _
       (λ none. of_fuller setting s to (may_move c setting s to (eqb-true _ 0 none)).1))
 
 -- ---- one step, over two accelerations
 
 module _ (acc acc' : ℕ → Vector → Result Vector Refusal) (each : (t : ℕ) (P : Vector) → Unless (Err Refusal.Cover) (acc t P) (acc' t P)) where
-  then_fuller : (q q' : Result Vector Refusal) (next next' : Vector → Moved) → Unless (Err Refusal.Cover) q q' → ((a : Vector) → Unless (Off Refusal.Cover) (next a) (next' a))
-      → Unless (Off Refusal.Cover) (and_then q next) (and_then q' next')
+  then_fuller : (q q' : Result Vector Refusal) (next next' : Vector → Moved) → Unless (Err Refusal.Cover) q q' → ((a : Vector) → Unless (Err Refusal.Cover) (next a) (next' a))
+      → Unless (Err Refusal.Cover) (and_then q next) (and_then q' next')
   then_fuller q q' next next' (inl e) rest = inl (ap (λ (x : Result Vector Refusal). and_then x next) e)
-  then_fuller q q' next next' (inr e) rest = subst (λ (x : Result Vector Refusal). Unless (Off Refusal.Cover) (and_then q next) (and_then x next')) e (go q)
+  then_fuller q q' next next' (inr e) rest = subst (λ (x : Result Vector Refusal). Unless (Err Refusal.Cover) (and_then q next) (and_then x next')) e (go q)
     where
-      go : (q : Result Vector Refusal) → Unless (Off Refusal.Cover) (and_then q next) (and_then q next')
+      go : (q : Result Vector Refusal) → Unless (Err Refusal.Cover) (and_then q next) (and_then q next')
       go (Ok a) = rest a
       go (Err k) = inr refl
 
-  keeping_fuller : (i : Injection) → Unless (Off Refusal.Cover) (keeping acc i) (keeping acc' i)
+  keeping_fuller : (i : Injection) → Unless (Err Refusal.Cover) (keeping acc i) (keeping acc' i)
   keeping_fuller i =
-      carried (λ (q : Result Vector Refusal). moved_by (kept_by i q)) (Err Refusal.Cover) (acc i.moment (starting_position i)) (acc' i.moment (starting_position i)) (Off Refusal.Cover) refl
+      carried (λ (q : Result Vector Refusal). kept_by i q) (Err Refusal.Cover) (acc i.moment (starting_position i)) (acc' i.moment (starting_position i)) (Err Refusal.Cover) refl
       (each i.moment (starting_position i))
 
   module _ (h : ℕ) (s : State) where
-    arrive_fuller : (t centre : ℕ) (p v : Vector) → Unless (Off Refusal.Cover) (arrive (keeping acc) t centre p v) (arrive (keeping acc') t centre p v)
+    arrive_fuller : (t centre : ℕ) (p v : Vector) → Unless (Err Refusal.Cover) (arrive (keeping acc) t centre p v) (arrive (keeping acc') t centre p v)
     arrive_fuller t centre p v =
-        passed (finite_vector p && finite_vector v) (Off Refusal.NotFinite) (Off Refusal.Cover) (keeping acc (injection_at t centre p v)) (keeping acc' (injection_at t centre p v))
+        passed (finite_vector p && finite_vector v) (Err Refusal.NotFinite) (Err Refusal.Cover) (keeping acc (injection_at t centre p v)) (keeping acc' (injection_at t centre p v))
         (λ fin. keeping_fuller (injection_at t centre p v))
 
-    last_fuller : (a1 a2 a3 a4 : Vector) → Unless (Off Refusal.Cover) (lastly (keeping acc) h s a1 a2 a3 a4) (lastly (keeping acc') h s a1 a2 a3 a4)
+    last_fuller : (a1 a2 a3 a4 : Vector) → Unless (Err Refusal.Cover) (lastly (keeping acc) h s a1 a2 a3 a4) (lastly (keeping acc') h s a1 a2 a3 a4)
     last_fuller a1 a2 a3 a4 =
         arrive_fuller (s.moment + h) s.centre
         (along (position s) (sixth h) (weighed (velocity s) (velocity2 h s a1) (velocity3 h s a2) (velocity4 h s a3)))
         (along (velocity s) (sixth h) (weighed a1 a2 a3 a4))
 
-    fourth : (a1 a2 a3 : Vector) → Unless (Off Refusal.Cover) (stage4 acc (keeping acc) h s a1 a2 a3) (stage4 acc' (keeping acc') h s a1 a2 a3)
+    fourth : (a1 a2 a3 : Vector) → Unless (Err Refusal.Cover) (stage4 acc (keeping acc) h s a1 a2 a3) (stage4 acc' (keeping acc') h s a1 a2 a3)
     fourth a1 a2 a3 =
         let P = along (position s) (step_h h) (velocity3 h s a2) in
         then_fuller (acc (s.moment + h) P) (acc' (s.moment + h) P) (lastly (keeping acc) h s a1 a2 a3) (lastly (keeping acc') h s a1 a2 a3)
         (each (s.moment + h) P) (last_fuller a1 a2 a3)
 
-    third : (a1 a2 : Vector) → Unless (Off Refusal.Cover) (stage3 acc (keeping acc) h s a1 a2) (stage3 acc' (keeping acc') h s a1 a2)
+    third : (a1 a2 : Vector) → Unless (Err Refusal.Cover) (stage3 acc (keeping acc) h s a1 a2) (stage3 acc' (keeping acc') h s a1 a2)
     third a1 a2 =
         let P = along (position s) (half h) (velocity2 h s a1) in
         then_fuller (acc (s.moment + h / 2) P) (acc' (s.moment + h / 2) P) (stage4 acc (keeping acc) h s a1 a2) (stage4 acc' (keeping acc') h s a1 a2)
         (each (s.moment + h / 2) P) (fourth a1 a2)
 
-    second_stage : (a1 : Vector) → Unless (Off Refusal.Cover) (stage2 acc (keeping acc) h s a1) (stage2 acc' (keeping acc') h s a1)
+    second_stage : (a1 : Vector) → Unless (Err Refusal.Cover) (stage2 acc (keeping acc) h s a1) (stage2 acc' (keeping acc') h s a1)
     second_stage a1 =
         let P = along (position s) (half h) (velocity s) in
         then_fuller (acc (s.moment + h / 2) P) (acc' (s.moment + h / 2) P) (stage3 acc (keeping acc) h s a1) (stage3 acc' (keeping acc') h s a1)
         (each (s.moment + h / 2) P) (third a1)
 
 pub step_fuller : (b c : List ℕ) → HoldsAll b c → passes c ≡ true → (setting : Setting) (h : ℕ) (s : State) → centre_allowed setting s.centre ≡ true
-    → Unless (Off Refusal.Cover) (step b setting h s) (step c setting h s)
+    → Unless (Err Refusal.Cover) (step b setting h s) (step c setting h s)
 unfolding step
 step_fuller b c holds pass setting h s ok =
     second_stage (acceleration_at b setting s.centre) (acceleration_at c setting s.centre)

@@ -35,7 +35,7 @@ module _ (b c : List ℕ) (holds : HoldsAll b c) (first : passes b ≡ true) (se
             let z : ◌≡◌ {A = ℕ} 0 1 = cc in absurd (omega arith)
 
     -- "a run refused under the first goes at least as many steps under the second"
-    pub goes_as_far : (k : ℕ) → (run_answer b setting s h target budget given).outcome ≡ Refused k
+    pub goes_as_far : (k : Refusal) → (run_answer b setting s h target budget given).outcome ≡ Refused k
         → (run_answer b setting s h target budget given).steps ≤ (run_answer c setting s h target budget other).steps
     goes_as_far k refused = go (run_fuller b c holds first second setting h target s budget given other)
       where

@@ -10,7 +10,7 @@ use Rattle.std.specs.Prelude.{Ok}
 use Rattle.state.specs.declared.State.{State}
 use Rattle.state.specs.declared.Setting.{Setting}
 use Rattle.book.specs.Passes.{passes}
-use Rattle.run_checks.specs.Start.{start_refusal}
+use Rattle.run_checks.specs.Start.{start_checks}
 use Rattle.run_checks.proofs.Passed.{passed, passes_all}
 use Rattle.run.specs.Step.{step}
 use Rattle.run.specs.Run.{run_to, run_answer}
@@ -26,16 +26,16 @@ use Rattle.book_laws.proofs.Journeys.{run_alongside}
 use Rattle.book_laws.proofs.Walks.{moved_fuller}
 
 module _ (b c : List ℕ) (holds : HoldsAll b c) (first : passes b ≡ true) (second : passes c ≡ true) (setting : Setting) (h : ℕ) where
-  starts : (target : ℕ) (s : State) → start_refusal b setting s h target ≡ 0 → start_refusal c setting s h target ≡ 0
+  starts : (target : ℕ) (s : State) → start_checks b setting s h target ≡ Ok tt → start_checks c setting s h target ≡ Ok tt
   starts target s e = go (start_fuller b c holds first second setting h target s)
     where
-      go : Unless 6 (start_refusal b setting s h target) (start_refusal c setting s h target) → start_refusal c setting s h target ≡ 0
+      go : Unless 6 (start_checks b setting s h target) (start_checks c setting s h target) → start_checks c setting s h target ≡ Ok tt
       go (inl six) = absurd (omega arith)
       go (inr alike) = sym alike ∙ e
 
   -- the checks pass at the state at which a call stopped
-  goes_on : (target : ℕ) (s : State) (call : Call) → start_refusal b setting s h target ≡ 0
-      → start_refusal b setting (run_answer b setting s h target call.budget call.guesses).state h target ≡ 0
+  goes_on : (target : ℕ) (s : State) (call : Call) → start_checks b setting s h target ≡ Ok tt
+      → start_checks b setting (run_answer b setting s h target call.budget call.guesses).state h target ≡ Ok tt
   goes_on target s call e =
       rw (answer_is b setting s h target call.budget call.guesses e)
       (passes_all b setting (run_to (step b setting h) target call.budget s).state h target (checks_stay b setting h target s call.budget (passed b setting s h target e)))
@@ -50,7 +50,7 @@ module _ (b c : List ℕ) (holds : HoldsAll b c) (first : passes b ≡ true) (se
       go (run_alongside b c holds first second setting h target s call other alike.0)
       (after_fuller target (run_answer b setting s h target call.budget call.guesses).state calls others alike.1 (flies calls (goes_on target s call e)))
     where
-      flies : (calls : List Call) → start_refusal b setting (run_answer b setting s h target call.budget call.guesses).state h target ≡ 0
+      flies : (calls : List Call) → start_checks b setting (run_answer b setting s h target call.budget call.guesses).state h target ≡ Ok tt
           → MayFly b setting h (run_answer b setting s h target call.budget call.guesses).state target calls
       flies [] e = tt
       flies (call ∷ calls) e = e

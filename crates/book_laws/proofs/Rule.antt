@@ -5,6 +5,7 @@ use mathlib.Core.Logic.{inl, inr}
 use mathlib.Core.Path.{◌≡◌, refl, sym, ap, ◌∙◌, subst}
 use Prim.Native.Nat.{ℕ}
 use native.Mathlib.Omega.{arith}
+use Rattle.base.specs.declared.Refusal.{Refusal}
 use Rattle.book.specs.declared.Motion.{Motion}
 use Rattle.std.specs.Prelude.{Result, Ok, Err}
 use Rattle.base.proofs.Bools.{or_left, or_right}
@@ -13,7 +14,7 @@ use Rattle.state.specs.State.{used, looked_up, coefficient_of, centre_allowed}
 use Rattle.state.specs.declared.Vector.{Vector}
 use Rattle.state.specs.declared.Setting.{Setting}
 use Rattle.book.specs.Passes.{passes}
-use Rattle.gravity.specs.Acceleration.{Body, Sky, Bodies, Refusal, Listed, at_rest, stands, seen, sky_of, place_of, sky, rule, view_from, seen_then, acceleration_at}
+use Rattle.gravity.specs.Acceleration.{Body, Sky, Listed, at_rest, stands, seen, sky_of, place_of, sky, rule, view_from, seen_then, acceleration_at}
 use Rattle.gravity_bodies.specs.Sky.{bodies_of}
 use Rattle.gravity.proofs.Centres.{One, one, two, three, four, five, six, centre_one}
 use Rattle.book_laws.specs.Fuller.{HoldsAll, Unless}
@@ -28,16 +29,16 @@ lit_alone s centre C sun sun' P bodies same = go (used s.k) refl bodies
     go : (lit : Bool) → used s.k ≡ lit → (bodies : Sky)
         → seen_then (λ all. rule s (view_from s centre C sun all) P) bodies ≡ seen_then (λ all. rule s (view_from s centre C sun' all) P) bodies
     go true e bodies = ap (λ (sun : Vector). seen_then (λ all. rule s (view_from s centre C sun all) P) bodies) (same e)
-    go false e (Bodies bodies) = rw e
-    go false e (Refusal k) = refl
+    go false e (Ok bodies) = rw e
+    go false e (Err k) = refl
 
 -- if the result is a list of bodies, so is the result for the later bodies
-rest_seen : (body : Listed) (p : Result Motion Refusal) (later : Sky) (all : List Body) → seen body p later ≡ Bodies all → (rest : List Body) × (later ≡ Bodies rest)
-rest_seen body (Ok M) (Bodies rest) all e = (rest, refl)
-rest_seen body (Ok M) (Refusal k) all e = let z : ◌≡◌ {A = ℕ} 0 1 = cc in absurd (omega arith)
+rest_seen : (body : Listed) (p : Result Motion Refusal) (later : Sky) (all : List Body) → seen body p later ≡ Ok all → (rest : List Body) × (later ≡ Ok rest)
+rest_seen body (Ok M) (Ok rest) all e = (rest, refl)
+rest_seen body (Ok M) (Err k) all e = let z : ◌≡◌ {A = ℕ} 0 1 = cc in absurd (omega arith)
 rest_seen body (Err k) later all e = let z : ◌≡◌ {A = ℕ} 0 1 = cc in absurd (omega arith)
 
-seen_on : (body : Listed) (p : Result Motion Refusal) (later later' : Sky) → Unless (Refusal 6) later later' → Unless (Refusal 6) (seen body p later) (seen body p later')
+seen_on : (body : Listed) (p : Result Motion Refusal) (later later' : Sky) → Unless (Err Refusal.Cover) later later' → Unless (Err Refusal.Cover) (seen body p later) (seen body p later')
 seen_on body (Ok M) later later' (inl e) = inl (ap (seen body (Ok M)) e)
 seen_on body (Ok M) later later' (inr e) = inr (ap (seen body (Ok M)) e)
 seen_on body (Err k) later later' u = inr refl
@@ -52,23 +53,23 @@ module _ (b c : List ℕ) (holds : HoldsAll b c) (pass : passes c ≡ true) wher
       go true = inr refl
       go false = body_fuller b c holds pass number t
 
-  seen_fuller : (body : Listed) (t : ℕ) (later later' : Sky) → Unless (Refusal 6) later later'
-      → Unless (Refusal 6) (seen body (stands b body.number t) later) (seen body (stands c body.number t) later')
+  seen_fuller : (body : Listed) (t : ℕ) (later later' : Sky) → Unless (Err Refusal.Cover) later later'
+      → Unless (Err Refusal.Cover) (seen body (stands b body.number t) later) (seen body (stands c body.number t) later')
   seen_fuller body t later later' u = go (stands_fuller body.number t)
     where
       go : Unless (Err Refusal.Cover) (stands b body.number t) (stands c body.number t)
-          → Unless (Refusal 6) (seen body (stands b body.number t) later) (seen body (stands c body.number t) later')
+          → Unless (Err Refusal.Cover) (seen body (stands b body.number t) later) (seen body (stands c body.number t) later')
       go (inl e) = inl (ap (λ (p : Result Motion Refusal). seen body p later) e)
       go (inr e) =
-          subst (λ (q : Result Motion Refusal). Unless (Refusal 6) (seen body (stands b body.number t) later) (seen body q later')) e
+          subst (λ (q : Result Motion Refusal). Unless (Err Refusal.Cover) (seen body (stands b body.number t) later) (seen body q later')) e
           (seen_on body (stands b body.number t) later later' u)
 
-  sky_fuller : (t : ℕ) (bodies : List Listed) → Unless (Refusal 6) (sky_of b t bodies) (sky_of c t bodies)
+  sky_fuller : (t : ℕ) (bodies : List Listed) → Unless (Err Refusal.Cover) (sky_of b t bodies) (sky_of c t bodies)
   sky_fuller t [] = inr refl
   sky_fuller t (body ∷ rest) = go (looked_up body.m body.for_light) (sky_fuller t rest)
     where
-      go : (up : Bool) → Unless (Refusal 6) (sky_of b t rest) (sky_of c t rest)
-          → Unless (Refusal 6) (if up then seen body (stands b body.number t) (sky_of b t rest) otherwise sky_of b t rest)
+      go : (up : Bool) → Unless (Err Refusal.Cover) (sky_of b t rest) (sky_of c t rest)
+          → Unless (Err Refusal.Cover) (if up then seen body (stands b body.number t) (sky_of b t rest) otherwise sky_of b t rest)
           (if up then seen body (stands c body.number t) (sky_of c t rest) otherwise sky_of c t rest)
       go true u = seen_fuller body t (sky_of b t rest) (sky_of c t rest) u
       go false u = u
@@ -78,23 +79,23 @@ module _ (b c : List ℕ) (holds : HoldsAll b c) (pass : passes c ≡ true) wher
   Agree t [] = Unit {0}
   Agree t (body ∷ rest) = (looked_up body.m body.for_light ≡ true → stands b body.number t ≡ stands c body.number t) × Agree t rest
 
-  one_agrees : (body : Listed) (t : ℕ) (later : Sky) (all : List Body) → seen body (stands b body.number t) later ≡ Bodies all
+  one_agrees : (body : Listed) (t : ℕ) (later : Sky) (all : List Body) → seen body (stands b body.number t) later ≡ Ok all
       → stands b body.number t ≡ stands c body.number t
   one_agrees body t later all e = go (stands_fuller body.number t)
     where
       go : Unless (Err Refusal.Cover) (stands b body.number t) (stands c body.number t) → stands b body.number t ≡ stands c body.number t
       go (inl r) =
-          let hidden : Refusal 6 ≡ Bodies all = sym (ap (λ (p : Result Motion Refusal). seen body p later) r) ∙ e in
+          let hidden : Err Refusal.Cover ≡ Ok all = sym (ap (λ (p : Result Motion Refusal). seen body p later) r) ∙ e in
           let z : ◌≡◌ {A = ℕ} 0 1 = cc in
           absurd (omega arith)
       go (inr same) = same
 
-  agree : (t : ℕ) (bodies : List Listed) (all : List Body) → sky_of b t bodies ≡ Bodies all → Agree t bodies
+  agree : (t : ℕ) (bodies : List Listed) (all : List Body) → sky_of b t bodies ≡ Ok all → Agree t bodies
   agree t [] all e = tt
   agree t (body ∷ rest) all e = go (looked_up body.m body.for_light) (agree t rest) e
     where
-      go : (up : Bool) → ((all : List Body) → sky_of b t rest ≡ Bodies all → Agree t rest)
-          → (if up then seen body (stands b body.number t) (sky_of b t rest) otherwise sky_of b t rest) ≡ Bodies all
+      go : (up : Bool) → ((all : List Body) → sky_of b t rest ≡ Ok all → Agree t rest)
+          → (if up then seen body (stands b body.number t) (sky_of b t rest) otherwise sky_of b t rest) ≡ Ok all
           → (up ≡ true → stands b body.number t ≡ stands c body.number t) × Agree t rest
       go true later e =
           let left = rest_seen body (stands b body.number t) (sky_of b t rest) all e in
@@ -115,7 +116,7 @@ module _ (b c : List ℕ) (holds : HoldsAll b c) (pass : passes c ≡ true) wher
     by_places C sun bodies =
         seen_then (λ all. rule s (view_from s centre C sun all) P) bodies
 
-    seen_alike : (all : List Body) → sky b s t ≡ Bodies all → sky b s t ≡ sky c s t
+    seen_alike : (all : List Body) → sky b s t ≡ Ok all → sky b s t ≡ sky c s t
         → by_places (place_of (stands b centre t)) (place_of (stands b 3 t)) (sky b s t) ≡ by_places (place_of (stands c centre t)) (place_of (stands c 3 t)) (sky c s t)
     unfolding by_places sky
     seen_alike all is same =
@@ -131,11 +132,11 @@ module _ (b c : List ℕ) (holds : HoldsAll b c) (pass : passes c ≡ true) wher
     unfolding acceleration_at by_places sky
     rule_fuller = go (sky b s t) refl (sky_fuller t (bodies_of s))
       where
-        hidden : (k : ℕ) (d : List ℕ) → sky d s t ≡ Refusal k → by_places (place_of (stands d centre t)) (place_of (stands d 3 t)) (sky d s t) ≡ Err k
+        hidden : (k : Refusal) (d : List ℕ) → sky d s t ≡ Err k → by_places (place_of (stands d centre t)) (place_of (stands d 3 t)) (sky d s t) ≡ Err k
         hidden k d e = ap (by_places (place_of (stands d centre t)) (place_of (stands d 3 t))) e
 
-        go : (bodies : Sky) → sky b s t ≡ bodies → Unless (Refusal 6) (sky b s t) (sky c s t)
+        go : (bodies : Sky) → sky b s t ≡ bodies → Unless (Err Refusal.Cover) (sky b s t) (sky c s t)
             → Unless (Err Refusal.Cover) (by_places (place_of (stands b centre t)) (place_of (stands b 3 t)) (sky b s t)) (by_places (place_of (stands c centre t)) (place_of (stands c 3 t)) (sky c s t))
         go bodies e (inl gap) = inl (hidden 6 b gap)
-        go (Refusal k) e (inr same) = inr (hidden k b e ∙ sym (hidden k c (sym same ∙ e)))
-        go (Bodies all) e (inr same) = inr (seen_alike all e same)
+        go (Err k) e (inr same) = inr (hidden k b e ∙ sym (hidden k c (sym same ∙ e)))
+        go (Ok all) e (inr same) = inr (seen_alike all e same)

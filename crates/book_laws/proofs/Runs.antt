@@ -7,6 +7,7 @@ use Prim.Native.Nat.{ℕ, zero, suc, ◌≤◌}
 use native.Mathlib.Numerals.{add-one}
 use native.Mathlib.Omega.{arith}
 use borrow.Author.Tests.{eqb-true, eqb-false}
+use Rattle.std.specs.Prelude.{Ok, Err}
 use Rattle.base.specs.declared.Refusal.{Refusal}
 use Rattle.base.specs.Choice.{◌=?◌}
 use Rattle.state.specs.State.{centre_allowed}
@@ -14,12 +15,12 @@ use Rattle.state.specs.declared.State.{State}
 use Rattle.state.specs.declared.Setting.{Setting}
 use Rattle.book.specs.Passes.{passes}
 use Rattle.gravity.specs.declared.Guesses.{Guesses}
-use Rattle.gravity_stored.specs.Injection.{stored_refusal}
+use Rattle.gravity_stored.specs.Injection.{stored_check}
 use Rattle.base.specs.Checks.{or_later}
-use Rattle.run_target.specs.Target.{target_refusal}
-use Rattle.run_checks.specs.Start.{inputs_refusal, start_refusal}
+use Rattle.run_target.specs.Target.{target_checks}
+use Rattle.run_checks.specs.Start.{inputs_checks, start_checks}
 use Rattle.run_checks.proofs.Passed.{opened, passed}
-use Rattle.run.specs.Step.{Moved, On, Off, step}
+use Rattle.run.specs.Step.{Moved, step}
 use Rattle.run.specs.Walk.{walk}
 use Rattle.run.specs.Run.{Reached, ended, counted, at_target, run_to, with_guesses, run_answer}
 use Rattle.run.specs.declared.Outcome.TheVariants.{Refused}
@@ -33,17 +34,17 @@ use Rattle.book_laws.proofs.Calls.{same_common, stored_fuller, step_fuller}
 
 -- ---- the run over two steps of which the second is the same, unless the first has a gap
 
-module _ (f g : State → Moved) (Ok : State → Type 0) (each : (s : State) → Ok s → Unless (Off Refusal.Cover) (f s) (g s))
-    (keeps : (s next : State) → Ok s → f s ≡ On next → Ok next) (target : ℕ) where
+module _ (f g : State → Moved) (Ok : State → Type 0) (each : (s : State) → Ok s → Unless (Err Refusal.Cover) (f s) (g s))
+    (keeps : (s next : State) → Ok s → f s ≡ Ok next → Ok next) (target : ℕ) where
   pub record Gap (s : State) (r q : Reached) : Type 0 where
     pub uncovered : r.outcome ≡ Refused Refusal.Cover
     pub further : r.steps ≤ q.steps
-    pub way : walk g r.steps s ≡ On r.state
+    pub way : walk g r.steps s ≡ Ok r.state
 
   stopped : (s : State) (q : Reached) → Gap s (ended (Refused Refusal.Cover) s) q
   stopped s q = record { uncovered = refl; further = omega arith; way = walk_none g s }
 
-  one_more : (s next : State) (r q : Reached) → g s ≡ On next → Gap next r q → Gap s (counted r) (counted q)
+  one_more : (s next : State) (r q : Reached) → g s ≡ Ok next → Gap next r q → Gap s (counted r) (counted q)
   one_more s next r q e later =
       record {
         uncovered = later.uncovered;
@@ -56,12 +57,12 @@ module _ (f g : State → Moved) (Ok : State → Type 0) (each : (s : State) →
   reached_fuller zero s ok = inl refl
   reached_fuller (suc budget) s ok = at (at_target target s) refl (reached_fuller budget)
     where
-      onward : (s.moment ≡ target → ⊥) → Unless (Off Refusal.Cover) (f s) (g s) → (m : Moved) → f s ≡ m
+      onward : (s.moment ≡ target → ⊥) → Unless (Err Refusal.Cover) (f s) (g s) → (m : Moved) → f s ≡ m
           → ((s : State) → Ok s → (run_to f target budget s ≡ run_to g target budget s) ⊎ Gap s (run_to f target budget s) (run_to g target budget s))
           → (run_to f target (suc budget) s ≡ run_to g target (suc budget) s) ⊎ Gap s (run_to f target (suc budget) s) (run_to g target (suc budget) s)
       onward short (inl e) m is later = inr (rw (run_refused f target s short budget 6 e) (stopped s (run_to g target (suc budget) s)))
-      onward short (inr e) (Off k) is later = inl (run_refused f target s short budget k is ∙ sym (run_refused g target s short budget k (sym e ∙ is)))
-      onward short (inr e) (On next) is later =
+      onward short (inr e) (Err k) is later = inl (run_refused f target s short budget k is ∙ sym (run_refused g target s short budget k (sym e ∙ is)))
+      onward short (inr e) (Ok next) is later =
           rw (run_on f target s short budget next is, run_on g target s short budget next (sym e ∙ is)) (go (later next (keeps s next ok is)))
         where
           go : (run_to f target budget next ≡ run_to g target budget next) ⊎ Gap next (run_to f target budget next) (run_to g target budget next)
@@ -81,30 +82,30 @@ module _ (f g : State → Moved) (Ok : State → Type 0) (each : (s : State) →
 -- ---- the run call
 
 module _ (b c : List ℕ) (holds : HoldsAll b c) (first : passes b ≡ true) (second : passes c ≡ true) (setting : Setting) (h target : ℕ) where
-  same_inputs : (s : State) → inputs_refusal b setting s target ≡ inputs_refusal c setting s target
-  unfolding inputs_refusal
+  same_inputs : (s : State) → inputs_checks b setting s target ≡ inputs_checks c setting s target
+  unfolding inputs_checks
   same_inputs s = same_common b c first second setting _ _ _
 
-  pub start_fuller : (s : State) → Unless 6 (start_refusal b setting s h target) (start_refusal c setting s h target)
-  unfolding start_refusal
+  pub start_fuller : (s : State) → Unless 6 (start_checks b setting s h target) (start_checks c setting s h target)
+  unfolding start_checks
   start_fuller s =
-      let way = target_refusal s.moment h target in
-      let inputs = inputs_refusal c setting s target in
+      let way = target_checks s.moment h target in
+      let inputs = inputs_checks c setting s target in
       rw (same_inputs s)
       (carry.passed (inputs =? 0) inputs 6 _ _
-      (λ none. carry.carried (λ (k : ℕ). or_later k way) 6 (stored_refusal b setting s) (stored_refusal c setting s) 6 refl
+      (λ none. carry.carried (λ (k : ℕ). or_later k way) 6 (stored_check b setting s) (stored_check c setting s) 6 refl
       (stored_fuller b c holds first second setting s (opened c setting s target (eqb-true inputs 0 none)).1)))
 
-  step_keeps : (s next : State) → centre_allowed setting s.centre ≡ true → step b setting h s ≡ On next → centre_allowed setting next.centre ≡ true
+  step_keeps : (s next : State) → centre_allowed setting s.centre ≡ true → step b setting h s ≡ Ok next → centre_allowed setting next.centre ≡ true
   step_keeps s next ok e = ap (centre_allowed setting) (done b setting h s next e).centre ∙ ok
 
   -- "every run that arrives with the first arrives with the second, same bits, same count; and a run refused under the first goes at least
   -- as many steps under the second": for all guesses
   pub run_fuller : (s : State) (budget : ℕ) (given other : Guesses)
       → FullerRun b c setting h s (run_answer b setting s h target budget given) (run_answer c setting s h target budget other)
-  run_fuller s budget given other = go (start_refusal b setting s h target) refl (start_fuller s)
+  run_fuller s budget given other = go (start_checks b setting s h target) refl (start_fuller s)
     where
-      started : start_refusal b setting s h target ≡ 0 → start_refusal c setting s h target ≡ 0
+      started : start_checks b setting s h target ≡ Ok tt → start_checks c setting s h target ≡ Ok tt
           → FullerRun b c setting h s (run_answer b setting s h target budget given) (run_answer c setting s h target budget other)
       started e e' =
           rw (answer_is b setting s h target budget given e, answer_is c setting s h target budget other e')
@@ -120,7 +121,7 @@ module _ (b c : List ℕ) (holds : HoldsAll b c) (first : passes b ≡ true) (se
               inl (record { outcome = ap (λ (r : Reached). r.outcome) alike; steps = ap (λ (r : Reached). r.steps) alike; state = ap (λ (r : Reached). r.state) alike })
           by (inr further) = inr (record { uncovered = further.uncovered; further = further.further; way = further.way })
 
-      go : (k : ℕ) → start_refusal b setting s h target ≡ k → Unless 6 (start_refusal b setting s h target) (start_refusal c setting s h target)
+      go : (k : ℕ) → start_checks b setting s h target ≡ k → Unless 6 (start_checks b setting s h target) (start_checks c setting s h target)
           → FullerRun b c setting h s (run_answer b setting s h target budget given) (run_answer c setting s h target budget other)
       go k e (inl at6) =
           inr (rw (refused_is b setting s h target budget given 5 at6) (record { uncovered = refl; further = omega arith; way = walk_none (step c setting h) s }))

@@ -11,7 +11,7 @@ use Rattle.state.specs.State.{centre_allowed}
 use Rattle.state.specs.declared.State.{State}
 use Rattle.state.specs.declared.Setting.{Setting}
 use Rattle.book.specs.Passes.{passes}
-use Rattle.run.specs.Step.{Moved, On, Off, step}
+use Rattle.run.specs.Step.{Moved, step}
 use Rattle.run.specs.Walk.{onward, walk}
 use Rattle.run_laws.proofs.Answers.{centre_stays}
 use Rattle.centre.specs.Move.{move_answer}
@@ -21,15 +21,15 @@ use Rattle.book_laws.specs.Fuller.{HoldsAll, Unless}
 use Rattle.book_laws.proofs.Calls.{step_fuller, move_fuller}
 
 module _ (b c : List ℕ) (holds : HoldsAll b c) (second : passes c ≡ true) (setting : Setting) (h : ℕ) where
-  step_on : (s next : State) → centre_allowed setting s.centre ≡ true → step b setting h s ≡ On next → step c setting h s ≡ On next
+  step_on : (s next : State) → centre_allowed setting s.centre ≡ true → step b setting h s ≡ Ok next → step c setting h s ≡ Ok next
   step_on s next ok e = go (step_fuller b c holds second setting h s ok)
     where
-      go : Unless (Off Refusal.Cover) (step b setting h s) (step c setting h s) → step c setting h s ≡ On next
-      go (inl six) = let clash : Off Refusal.Cover ≡ On next = sym six ∙ e in let z : ◌≡◌ {A = ℕ} 0 1 = cc in absurd (omega arith)
+      go : Unless (Err Refusal.Cover) (step b setting h s) (step c setting h s) → step c setting h s ≡ Ok next
+      go (inl six) = let clash : Err Refusal.Cover ≡ Ok next = sym six ∙ e in let z : ◌≡◌ {A = ℕ} 0 1 = cc in absurd (omega arith)
       go (inr alike) = sym alike ∙ e
 
-  pub walk_fuller : (n : ℕ) (s last : State) → (1 ≤ n → centre_allowed setting s.centre ≡ true) → walk (step b setting h) n s ≡ On last
-      → walk (step c setting h) n s ≡ On last
+  pub walk_fuller : (n : ℕ) (s last : State) → (1 ≤ n → centre_allowed setting s.centre ≡ true) → walk (step b setting h) n s ≡ Ok last
+      → walk (step c setting h) n s ≡ Ok last
   unfolding walk
   walk_fuller zero s last ok e = e
   walk_fuller (suc n) s last ok e = go (walk (step b setting h) n s) refl e (walk_fuller n s)
@@ -37,13 +37,13 @@ module _ (b c : List ℕ) (holds : HoldsAll b c) (second : passes c ≡ true) (s
       allowed : centre_allowed setting s.centre ≡ true
       allowed = ok (omega arith)
 
-      go : (m : Moved) → walk (step b setting h) n s ≡ m → onward (step b setting h) m ≡ On last
-          → ((middle : State) → (1 ≤ n → centre_allowed setting s.centre ≡ true) → walk (step b setting h) n s ≡ On middle → walk (step c setting h) n s ≡ On middle)
-          → onward (step c setting h) (walk (step c setting h) n s) ≡ On last
-      go (On middle) w e before =
+      go : (m : Moved) → walk (step b setting h) n s ≡ m → onward (step b setting h) m ≡ Ok last
+          → ((middle : State) → (1 ≤ n → centre_allowed setting s.centre ≡ true) → walk (step b setting h) n s ≡ Ok middle → walk (step c setting h) n s ≡ Ok middle)
+          → onward (step c setting h) (walk (step c setting h) n s) ≡ Ok last
+      go (Ok middle) w e before =
           ap (onward (step c setting h)) (before middle (λ some. allowed) w)
           ∙ step_on middle last (ap (centre_allowed setting) (centre_stays b setting h 0 n s middle w) ∙ allowed) e
-      go (Off k) w e before = let z : ◌≡◌ {A = ℕ} 0 1 = cc in absurd (omega arith)
+      go (Err k) w e before = let z : ◌≡◌ {A = ℕ} 0 1 = cc in absurd (omega arith)
 
   pub moved_fuller : (s : State) (to : ℕ) (next : State) → move_answer b setting s to ≡ Ok next → move_answer c setting s to ≡ Ok next
   moved_fuller s to next e = go (move_fuller b c holds (move_allowed b setting s to next e).book second setting s to)

@@ -2,10 +2,10 @@
 -- the first arrives with the second, same bits, same count; and a run refused under the first goes at least as many steps under the
 -- second. Guesses may differ."
 use Rattle.base.specs.declared.Refusal.{Refusal}
-use Rattle.std.specs.Prelude.{List, [], ◌∷◌, ◌⊎◌, ◌≡◌, ℕ, ◌≤◌}
+use Rattle.std.specs.Prelude.{List, [], ◌∷◌, ◌⊎◌, ◌≡◌, ℕ, ◌≤◌, Ok}
 use Rattle.state.specs.declared.State.{State}
 use Rattle.state.specs.declared.Setting.{Setting}
-use Rattle.run.specs.Step.{On, step}
+use Rattle.run.specs.Step.{step}
 use Rattle.run.specs.Walk.{walk}
 use Rattle.run.specs.declared.Outcome.TheVariants.{Refused}
 use Rattle.run.specs.declared.RunAnswer.{RunAnswer}
@@ -30,7 +30,7 @@ pub record SameRun (r q : RunAnswer) : Type 0 where
 pub record GoesFurther (b c : List ℕ) (setting : Setting) (h : ℕ) (s : State) (r q : RunAnswer) : Type 0 where
   pub uncovered : r.outcome ≡ Refused Refusal.Cover
   pub further : r.steps ≤ q.steps
-  pub way : walk (step c setting h) r.steps s ≡ On r.state
+  pub way : walk (step c setting h) r.steps s ≡ Ok r.state
 
 abbrev pub FullerRun : List ℕ → List ℕ → Setting → ℕ → State → RunAnswer → RunAnswer → Type 0
 FullerRun b c setting h s r q = SameRun r q ⊎ GoesFurther b c setting h s r q

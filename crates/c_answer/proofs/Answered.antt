@@ -1,6 +1,7 @@
 -- What follows from the returned number. Assumes nothing.
 use mathlib.Core.Path.{◌≡◌, refl}
 use Prim.Native.Nat.{ℕ}
+use Rattle.base.specs.declared.Refusal.{Refusal}
 use Rattle.c_answer.specs.Handed.{Answer, Accepted, Refused, answered}
 
 module _ {A : Type 0} (before : A) where
@@ -9,7 +10,7 @@ module _ {A : Type 0} (before : A) where
   accepted_written values = refl
 
   -- the call returns the number of its refusal
-  pub refused_told : (k : ℕ) → (answered before (Refused k)).returned ≡ k
+  pub refused_told : (k : Refusal) → (answered before (Refused k)).returned ≡ k
   refused_told k = refl
 
   -- if a call does not return 0, the memory is unchanged

@@ -15,7 +15,7 @@ use Rattle.state.specs.State.{finite_vector}
 use Rattle.state.specs.declared.State.{State}
 use Rattle.state.specs.declared.Setting.{Setting}
 use Rattle.state.specs.declared.Vector.{Vector}
-use Rattle.run.specs.Step.{On, Off, step}
+use Rattle.run.specs.Step.{step}
 use Rattle.run.specs.Walk.{walk}
 use Rattle.run.specs.Run.{run_answer}
 use Rattle.run.specs.declared.RunAnswer.{RunAnswer}
@@ -70,7 +70,7 @@ left_reads kept taken.Unchanged = refl
 left_reads kept (taken.Refused k) = refl
 
 -- a frame is refused only with 7
-by_seven : (pane : Pane) (t k : ℕ) → frame_at pane t ≡ frame.Refused k → k ≡ 7
+by_seven : (pane : Pane) (t : ℕ) (k : Refusal) → frame_at pane t ≡ frame.Refused k → k ≡ 7
 unfolding frame_at
 by_seven Blank t k e = let z : ◌≡◌ {A = ℕ} 0 1 = cc in absurd (omega arith)
 by_seven (One a) t k e = let z : ◌≡◌ {A = ℕ} 0 1 = cc in absurd (omega arith)
@@ -83,7 +83,7 @@ by_seven (Two a b) t k e = go (b.moment <? t) (t <? a.moment) (finite_vector (fi
     go false false true e = let z : ◌≡◌ {A = ℕ} 0 1 = cc in absurd (omega arith)
     go false false false e = cc
 
-moving_by_seven : (pane : Pane) (t k : ℕ) → motion_at pane t ≡ motion.Refused k → k ≡ 7
+moving_by_seven : (pane : Pane) (t : ℕ) (k : Refusal) → motion_at pane t ≡ motion.Refused k → k ≡ 7
 moving_by_seven pane t k e = ⊎_elim (by_seven pane t k) (λ alone. alone.0) (((same_frame pane t).refused k).0 e)
 
 in_hand : (s : Held) (hand : List Held) → HeldIn s hand → InHand (state_in s) (map state_in hand)
@@ -203,8 +203,8 @@ module _ (m extras : List Float) (dut rule : ℕ) where
               absurd (omega arith)
 
       -- past the last state, while the step after it cannot be taken under the book in use
-      pub off_air_in_memory : (start last : State) (n k : ℕ) → walk_with_moves b setting h made (state_in injection) ≡ On start
-          → walk (step b setting h) n start ≡ On last → step b setting h last ≡ Off k → last.moment < t
+      pub off_air_in_memory : (start last : State) (n k : ℕ) → walk_with_moves b setting h made (state_in injection) ≡ Ok start
+          → walk (step b setting h) n start ≡ Ok last → step b setting h last ≡ Err k → last.moment < t
           → OffAirIn m extras dut rule b h start last t (frame_in kept t)
       off_air_in_memory start last n k moved walked off past =
           go (frame_at (pane_of kept.numbers kept.places) t)
@@ -238,8 +238,8 @@ module _ (m extras : List Float) (dut rule : ℕ) where
               let seven = moving_by_seven (pane_of kept.numbers kept.places) t k e in
               absurd (omega arith)
 
-      pub off_air_moving_in_memory : (start last : State) (n k : ℕ) → walk_with_moves b setting h made (state_in injection) ≡ On start
-          → walk (step b setting h) n start ≡ On last → step b setting h last ≡ Off k → last.moment < t
+      pub off_air_moving_in_memory : (start last : State) (n k : ℕ) → walk_with_moves b setting h made (state_in injection) ≡ Ok start
+          → walk (step b setting h) n start ≡ Ok last → step b setting h last ≡ Err k → last.moment < t
           → OffAirMovingIn m extras dut rule b h start last t (motion_in kept t)
       off_air_moving_in_memory start last n k moved walked off past =
           go (motion_at (pane_of kept.numbers kept.places) t)
@@ -264,7 +264,7 @@ module _ (m extras : List Float) (dut rule : ℕ) where
       }
 
   -- a move that is refused returns its number, and leaves the memory unchanged
-  pub refused_move_unwritten : (b : List ℕ) (s : Held) (centre : ℕ) (before : List Float) (k : ℕ) → move_answer b setting (state_in s) centre ≡ Err k
+  pub refused_move_unwritten : (b : List ℕ) (s : Held) (centre : ℕ) (before : List Float) (k : Refusal) → move_answer b setting (state_in s) centre ≡ Err k
       → move m extras dut rule b s centre before ≡ handed k before
   refused_move_unwritten b s centre before k e = ap (λ (a : Result State Refusal). answered before (of_move a)) e
 

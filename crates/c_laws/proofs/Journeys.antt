@@ -10,7 +10,7 @@ use Rattle.state.specs.declared.Setting.{Setting}
 use Rattle.gravity.specs.declared.Guesses.{Guesses}
 use Rattle.gravity_stored.specs.Injection.{launched}
 use Rattle.gravity_stored.proofs.Launched.{launched_bare, launched_again}
-use Rattle.run_checks.specs.Start.{start_refusal}
+use Rattle.run_checks.specs.Start.{start_checks}
 use Rattle.run_checks.proofs.Passed.{passed}
 use Rattle.run.specs.Step.{step}
 use Rattle.run.specs.Run.{run_to, run_answer}
@@ -25,9 +25,9 @@ use Rattle.c_laws.specs.Linked.{LinkedCall, as_call, linked_journey, old_journey
 -- a run stays about its centre
 centre_stays_lem : (b : List ℕ) (setting : Setting) (s : State) (h target budget : ℕ) (given : Guesses)
     → (run_answer b setting s h target budget given).state.centre ≡ s.centre
-centre_stays_lem b setting s h target budget given = go (start_refusal b setting s h target) refl
+centre_stays_lem b setting s h target budget given = go (start_checks b setting s h target) refl
   where
-    go : (k : ℕ) → start_refusal b setting s h target ≡ k → (run_answer b setting s h target budget given).state.centre ≡ s.centre
+    go : (k : ℕ) → start_checks b setting s h target ≡ k → (run_answer b setting s h target budget given).state.centre ≡ s.centre
     go zero e =
         rw (answer_is b setting s h target budget given e)
         (let r = run_from b setting h target s budget (passed b setting s h target e) in

@@ -90,14 +90,14 @@ pub sine_cosine_told : (parts : ℕ) → in_table (of_sine_cosine (sine_cosine_a
 unfolding sine_cosine_answer
 sine_cosine_told parts = by_if (λ a. in_table (of_sine_cosine a)) (parts <? circle) refl refl
 
-position_is_told : (a : Result Motion Refusal) → refused_by tabled (book.as_answer a) ≡ true → in_table (of_position a) ≡ true
+position_is_told : (a : Result Motion Refusal) → refused_by tabled a ≡ true → in_table (of_position a) ≡ true
 position_is_told (Ok R) by = refl
 position_is_told (Err k) by = by
 
 pub position_told : (b : List ℕ) (body t : ℕ) → in_table (of_position (position_answer b body t)) ≡ true
 position_told b body t = position_is_told (position_answer b body t) (book.position_refused tabled refl refl refl refl b body t)
 
-acceleration_is_told : (a : Result Vector Refusal) → refused_by tabled (gravity.as_answer a) ≡ true → in_table (of_acceleration a) ≡ true
+acceleration_is_told : (a : Result Vector Refusal) → refused_by tabled a ≡ true → in_table (of_acceleration a) ≡ true
 acceleration_is_told (Ok v) by = refl
 acceleration_is_told (Err k) by = by
 
@@ -105,14 +105,14 @@ pub acceleration_told : (b : List ℕ) (s : Setting) (c t : ℕ) (P : Vector) �
 acceleration_told b s c t P =
     acceleration_is_told (acceleration_answer b s c t P) (gravity.acceleration_refused tabled refl refl refl refl refl refl b s c t P)
 
-move_is_told : (a : Result State Refusal) → refused_by tabled (centre.as_answer a) ≡ true → in_table (of_move a) ≡ true
+move_is_told : (a : Result State Refusal) → refused_by tabled a ≡ true → in_table (of_move a) ≡ true
 move_is_told (Ok s) by = refl
 move_is_told (Err k) by = by
 
 pub move_told : (b : List ℕ) (setting : Setting) (s : State) (c : ℕ) → in_table (of_move (move_answer b setting s c)) ≡ true
 move_told b setting s c = move_is_told (move_answer b setting s c) (centre.move_refused tabled refl refl refl refl refl refl b setting s c)
 
-injection_is_told : (a : Result State Refusal) → refused_by tabled (injection.as_answer a) ≡ true → in_table (of_injection a) ≡ true
+injection_is_told : (a : Result State Refusal) → refused_by tabled a ≡ true → in_table (of_injection a) ≡ true
 injection_is_told (Ok s) by = refl
 injection_is_told (Err k) by = by
 

@@ -1,10 +1,10 @@
 -- A desk over the calls for C and Rust: the desk of pane_laws, with states in hand, flights, moves and the pane as numbers in memory. Each
 -- event is what the exported call promises about its memory.
-use Rattle.std.specs.Prelude.{List, [], ◌∷◌, ◌++◌, map, ◌⊎◌, ◌≡◌, ℕ, ◌-◌, ◌≤◌, ◌<◌, Float}
+use Rattle.std.specs.Prelude.{List, [], ◌∷◌, ◌++◌, map, ◌⊎◌, ◌≡◌, ℕ, ◌-◌, ◌≤◌, ◌<◌, Float, Ok}
 use Rattle.state.specs.declared.State.{State}
 use Rattle.state.specs.declared.Setting.{Setting}
 use Rattle.state.specs.declared.Vector.{Vector}
-use Rattle.run.specs.Step.{On, step}
+use Rattle.run.specs.Step.{step}
 use Rattle.run.specs.Walk.{walk}
 use Rattle.run.specs.Run.{run_answer}
 use Rattle.centre.specs.Move.{move_answer}
@@ -113,7 +113,7 @@ module _ (m extras : List Float) (dut rule : ℕ) where
   -- three NaNs.
   pub data OffAirIn (b : List ℕ) (h : ℕ) (start last : State) (t : ℕ) : FrameMemory → Type 0 where
     empty_in : OffAirIn b h start last t (framed empty nothing 0)
-    late_in : (n : ℕ) (s : State) → walk (step b setting_in h) n start ≡ On s → s.moment ≤ last.moment → s.moment < t
+    late_in : (n : ℕ) (s : State) → walk (step b setting_in h) n start ≡ Ok s → s.moment ≤ last.moment → s.moment < t
         → OffAirIn b h start last t (framed late nothing (t - s.moment))
 
   -- the same for a frame with velocity: six numbers, or six NaNs
@@ -124,7 +124,7 @@ module _ (m extras : List Float) (dut rule : ℕ) where
 
   pub data OffAirMovingIn (b : List ℕ) (h : ℕ) (start last : State) (t : ℕ) : MotionMemory → Type 0 where
     empty_moving_in : OffAirMovingIn b h start last t (in_motion empty no_motion 0)
-    late_moving_in : (n : ℕ) (s : State) → walk (step b setting_in h) n start ≡ On s → s.moment ≤ last.moment → s.moment < t
+    late_moving_in : (n : ℕ) (s : State) → walk (step b setting_in h) n start ≡ Ok s → s.moment ≤ last.moment → s.moment < t
         → OffAirMovingIn b h start last t (in_motion late no_motion (t - s.moment))
 
   -- A night on which a record of the book b ends, and the fuller book c, in memory. For all actions of the desk, under b no frame past

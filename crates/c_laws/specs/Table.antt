@@ -3,7 +3,7 @@
 use Rattle.std.specs.Prelude.{ℕ, Bool, true, ◌&&◌}
 use Rattle.base.specs.Choice.{◌≤?◌}
 use Rattle.run.specs.declared.Outcome.{Outcome}
-use Rattle.base.specs.Checks.{Answer, refused_by}
+use Rattle.base.specs.Checks.{refused_by}
 
 abbrev pub tabled : ℕ → Bool
 tabled k = 1 ≤? k && k ≤? 18

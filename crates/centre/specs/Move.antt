@@ -8,7 +8,8 @@ use Rattle.state.specs.State.{finite_injection, finite_state, centre_allowed}
 use Rattle.state.specs.declared.State.{State}
 use Rattle.state.specs.declared.Injection.{Injection}
 use Rattle.state.specs.declared.Setting.{Setting}
-use Rattle.state_checks.specs.Common.{common_refusal}
+use Rattle.base.specs.Checks.{Checked, ◌before◌}
+use Rattle.state_checks.specs.Common.{common_checks}
 use Rattle.book.specs.Lookup.{lookup}
 use Rattle.book.specs.Series as series
 use Rattle.gravity.specs.Acceleration.{at_rest}
@@ -23,14 +24,9 @@ motion_by b t None = None
 unfoldable pub motion_of : List ℕ → ℕ → ℕ → Option Motion
 motion_of b number t = if number =? 1 then Some at_rest otherwise motion_by b t (lookup b number t)
 
--- R-8: "the rule's own 6 or 7 at its new state, after 7 (result)"
-abbrev pub moved_by : Result State Refusal → Result State Refusal
-moved_by (Ok s) = Ok s
-moved_by (Err k) = Err k
-
--- "7 (result)"
+-- "7 (result)"; R-8: "the rule's own 6 or 7 at its new state, after 7 (result)"
 abbrev pub kept_or7 : List ℕ → Setting → Injection → Result State Refusal
-kept_or7 b setting i = if finite_injection i then moved_by (kept b setting i) otherwise Err Refusal.NotFinite
+kept_or7 b setting i = if finite_injection i then kept b setting i otherwise Err Refusal.NotFinite
 
 -- 6: both lookups come before the result
 abbrev pub move_by : List ℕ → Setting → State → ℕ → Option Motion → Option Motion → Result State Refusal
@@ -44,13 +40,11 @@ move_of b setting s centre =
     if s.centre =? centre then Ok s otherwise
     move_by b setting s centre (motion_of b s.centre s.moment) (motion_of b centre s.moment)
 
--- 1, 4, "14, directly after 4", for the old centre and the new one; "a move then gives 3, 7 (state)"; 0 if all pass
-unfoldable pub move_refusal : List ℕ → Setting → State → ℕ → ℕ
-move_refusal b setting s centre =
-    common_refusal b setting (centre_allowed setting s.centre && centre_allowed setting centre) (is_moment s.moment) (finite_state s)
+-- 1, 4, "14, directly after 4", for the old centre and the new one; "a move then gives 3, 7 (state)"
+unfoldable pub move_checks : List ℕ → Setting → State → ℕ → Checked
+move_checks b setting s centre =
+    common_checks b setting (centre_allowed setting s.centre && centre_allowed setting centre) (is_moment s.moment) (finite_state s)
 
 -- "then .. 6, 7 (result), the number alone"
 unfoldable pub move_answer : List ℕ → Setting → State → ℕ → Result State Refusal
-move_answer b setting s centre =
-    let k = move_refusal b setting s centre in
-    if k =? 0 then move_of b setting s centre otherwise Err k
+move_answer b setting s centre = move_checks b setting s centre before move_of b setting s centre

@@ -6,15 +6,14 @@ ghost use Rattle.std.specs.Prelude.{true, ◌≡◌};
 ghost use Rattle.state.specs.State.{centre_allowed};
 ghost use Rattle.book.specs.Passes.{passes};
 ghost use Rattle.gravity.specs.Acceleration.{at_rest};
-ghost use Rattle.centre.specs.Move.{motion_of, moved_by, kept_or7, move_by, move_of, move_refusal, move_answer};
+ghost use Rattle.centre.specs.Move.{motion_of, kept_or7, move_by, move_of, move_checks, move_answer};
 
-use base::Refusal;
-use base::{END_OF_TIME, both};
+use base::{END_OF_TIME, Refusal, both};
 use book::{Motion, Place, Velocity};
 use centre_shift::shifted_state;
 use gravity_stored::inner::kept_at;
 use state::{Injection, Setting, State};
-use state_checks::common_refusal;
+use state_checks::common_checks;
 
 // The Earth is at rest and needs no cover.
 fn at_rest() -> Motion
@@ -48,22 +47,12 @@ fn motion_of(book: &[u8], number: u64, moment: u64) -> Option<Motion>
     Some(Motion { place, velocity })
 }
 
-fn moved_by(answer: Result<State, Refusal>) -> Result<State, Refusal>
-    ensures { result ≡ moved_by answer }
-{
-    match answer {
-        Ok(s) => Ok(s),
-        Err(k) => Err(k),
-    }
-}
-
 fn kept_or_7(book: &[u8], setting: Setting, i: Injection) -> Result<State, Refusal>
     requires { (passes book.now ≡ true) × (centre_allowed setting i.centre ≡ true) }
     ensures { result ≡ kept_or7 book.now setting i }
 {
     if state::injection_is_finite(i) {
-        let answer = kept_at(book, setting, i);
-        return moved_by(answer);
+        return kept_at(book, setting, i);
     }
     Err(Refusal::NotFinite)
 }
@@ -84,6 +73,7 @@ fn move_by(book: &[u8], setting: Setting, s: State, centre: u64, from: Option<Mo
 
 // The move itself. The book is known to pass, and the new centre is a used body. If the centre stays the same,
 // nothing is looked up.
+#[tactic(auto, unfolding(crate::specs::Move::move_of))]
 fn moved(book: &[u8], setting: Setting, s: State, centre: u64) -> Result<State, Refusal>
     requires { (passes book.now ≡ true) × (centre_allowed setting centre ≡ true) }
     ensures { result ≡ move_of book.now setting s centre }
@@ -96,14 +86,15 @@ fn moved(book: &[u8], setting: Setting, s: State, centre: u64) -> Result<State, 
     move_by(book, setting, s, centre, from, to)
 }
 
-// The number of the first check that fails, or 0.
-fn move_refusal(book: &[u8], setting: Setting, s: State, centre: u64) -> u64
-    ensures { result ≡ move_refusal book.now setting s centre }
+#[tactic(auto, unfolding(crate::specs::Move::move_checks))]
+
+fn move_checks(book: &[u8], setting: Setting, s: State, centre: u64) -> Result<(), Refusal>
+    ensures { result ≡ move_checks book.now setting s centre }
 {
     let from = state::centre_is_allowed(setting, s.centre);
     let to = state::centre_is_allowed(setting, centre);
     let finite = state::state_is_finite(s);
-    common_refusal(
+    common_checks(
         book,
         setting,
         both(from, to),
@@ -113,12 +104,10 @@ fn move_refusal(book: &[u8], setting: Setting, s: State, centre: u64) -> u64
 }
 
 // The state about another centre: its position and velocity minus those of the new centre, seen from the old.
+#[tactic(auto, using(crate::proofs::Moves::may_move), unfolding(crate::specs::Move::move_answer))]
 pub fn move_to(book: &[u8], setting: Setting, state: State, centre: u64) -> Result<State, Refusal>
     ensures { result ≡ move_answer book.now setting state centre }
 {
-    let refusal = move_refusal(book, setting, state, centre);
-    if refusal == 0 {
-        return moved(book, setting, state, centre);
-    }
-    Err(refusal)
+    move_checks(book, setting, state, centre)?;
+    moved(book, setting, state, centre)
 }

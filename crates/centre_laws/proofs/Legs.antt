@@ -8,10 +8,10 @@ use Rattle.base.specs.declared.Refusal.{Refusal}
 use Rattle.std.specs.Prelude.{Result, Ok, Err}
 use Rattle.state.specs.declared.State.{State}
 use Rattle.state.specs.declared.Setting.{Setting}
-use Rattle.run_checks.specs.Start.{start_refusal}
+use Rattle.run_checks.specs.Start.{start_checks}
 use Rattle.run_checks.proofs.Allowed.{long_enough}
 use Rattle.run_checks.proofs.Passed.{passed}
-use Rattle.run.specs.Step.{Moved, On, Off, step}
+use Rattle.run.specs.Step.{Moved, step}
 use Rattle.run.specs.Walk.{onward, walk}
 use Rattle.run.specs.Run.{run_answer}
 use Rattle.run.proofs.Walks.{walk_none}
@@ -23,8 +23,8 @@ use Rattle.centre_laws.proofs.Moved.{move_keeps}
 
 module _ (b : List ℕ) (setting : Setting) (h : ℕ) where
   -- a state that n steps lead to is the plain walk's at its moment
-  pub at_its_moment : (s last : State) (n : ℕ) → walk (step b setting h) n s ≡ On last → last.moment ≡ s.moment + n * h → (1 ≤ n → 1 ≤ h)
-      → walk_to b setting h last.moment s ≡ On last
+  pub at_its_moment : (s last : State) (n : ℕ) → walk (step b setting h) n s ≡ Ok last → last.moment ≡ s.moment + n * h → (1 ≤ n → 1 ≤ h)
+      → walk_to b setting h last.moment s ≡ Ok last
   at_its_moment s last n walked clock long = ap (λ (k : ℕ). walk (step b setting h) k s) (many n clock long) ∙ walked
     where
       many : (n : ℕ) → last.moment ≡ s.moment + n * h → (1 ≤ n → 1 ≤ h) → (last.moment - s.moment) / h ≡ n
@@ -39,10 +39,10 @@ module _ (b : List ℕ) (setting : Setting) (h : ℕ) where
   -- the state that calls have reached is that of the walk after that many steps
   pub record Walked (s : State) (last : State) : Type 0 where
     pub steps : ℕ
-    pub walked : walk (step b setting h) steps s ≡ On last
+    pub walked : walk (step b setting h) steps s ≡ Ok last
     pub clock : last.moment ≡ s.moment + steps * h
 
-  ends : (target : ℕ) (injection : State) (n : ℕ) (s : State) (calls : List Call) → walk (step b setting h) n injection ≡ On s
+  ends : (target : ℕ) (injection : State) (n : ℕ) (s : State) (calls : List Call) → walk (step b setting h) n injection ≡ Ok s
       → s.moment ≡ injection.moment + n * h
       → AllHold (step b setting h) injection h target n calls (journey b setting h target s calls) → Walked injection (after b setting h target s calls)
   ends target injection n s [] w t all = record { steps = n; walked = w; clock = t }
@@ -52,7 +52,7 @@ module _ (b : List ℕ) (setting : Setting) (h : ℕ) where
 
   -- calls that arrive reach the state of the plain walk at their target
   pub arrive : (target : ℕ) (s : State) (calls : List Call) → MayFly b setting h s target calls → (after b setting h target s calls).moment ≡ target
-      → walk_to b setting h target s ≡ On (after b setting h target s calls)
+      → walk_to b setting h target s ≡ Ok (after b setting h target s calls)
   arrive target s [] may at =
       ap (λ (t : ℕ). walk_to b setting h t s) (sym at)
       ∙ at_its_moment s s 0 (walk_none (step b setting h) s) (let z = zero-mul h in omega arith) (λ some. absurd (omega arith))
@@ -71,9 +71,9 @@ module _ (b : List ℕ) (setting : Setting) (h : ℕ) where
   unfolding walk_with_moves
   one_more [] move s = nothing (onward (moving b setting h move) (walk_to b setting h move.at s))
     where
-      nothing : (m : Moved) → onward (λ (s : State). On s) m ≡ m
-      nothing (On s) = refl
-      nothing (Off k) = refl
+      nothing : (m : Moved) → onward (λ (s : State). Ok s) m ≡ m
+      nothing (Ok s) = refl
+      nothing (Err k) = refl
   one_more (first ∷ moves) move s = go (onward (moving b setting h first) (walk_to b setting h first.at s)) (one_more moves move)
     where
       go : (m : Moved)
@@ -82,11 +82,11 @@ module _ (b : List ℕ) (setting : Setting) (h : ℕ) where
           ≡ onward (moving b setting h move) (onward (walk_to b setting h move.at) (walk_with_moves b setting h moves s)))
           → onward (walk_with_moves b setting h (moves ++ (move ∷ []))) m
           ≡ onward (moving b setting h move) (onward (walk_to b setting h move.at) (onward (walk_with_moves b setting h moves) m))
-      go (On s) later = later s
-      go (Off k) later = refl
+      go (Ok s) later = later s
+      go (Err k) later = refl
 
   -- moves at their named moments are those of the walk with its moves
-  pub stand_walked : (s last : State) (moves : List Move) → MovesStand b setting h s moves last → walk_with_moves b setting h moves s ≡ On last
+  pub stand_walked : (s last : State) (moves : List Move) → MovesStand b setting h s moves last → walk_with_moves b setting h moves s ≡ Ok last
   unfolding walk_with_moves
   stand_walked s last moves (none s') = refl
   stand_walked s last moves (one s' next last' move rest stands later) =
@@ -101,7 +101,7 @@ module _ (b : List ℕ) (setting : Setting) (h : ℕ) where
       one s then next first (rest ++ (move ∷ [])) here (one_more_stands then from next rest move later stands)
 
   -- a move made at the state of the walk
-  pub stands_there : (s before next : State) (centre : ℕ) → walk_to b setting h before.moment s ≡ On before → move_answer b setting before centre ≡ Ok next
+  pub stands_there : (s before next : State) (centre : ℕ) → walk_to b setting h before.moment s ≡ Ok before → move_answer b setting before centre ≡ Ok next
       → MoveStands b setting h s (record { at = before.moment; centre = centre }) next
   stands_there s before next centre walked moved =
       let keeps = move_keeps b setting before centre next moved in
@@ -135,7 +135,7 @@ module _ (b : List ℕ) (setting : Setting) (h : ℕ) where
       record { start = from; walked = stand_walked injection from (moves_of before) stand; moves = stand; holds = all_hold target from calls may }
 
   -- and without moves, as it was: one leg
-  pub one_leg : (injection : State) (target : ℕ) (calls : List Call) → start_refusal b setting injection h target ≡ 0 → LegHolds b setting h injection [] target calls
+  pub one_leg : (injection : State) (target : ℕ) (calls : List Call) → start_checks b setting injection h target ≡ Ok tt → LegHolds b setting h injection [] target calls
   one_leg injection target calls checks = legs_hold injection injection [] target calls (no_leg injection) (fly calls)
     where
       fly : (calls : List Call) → MayFly b setting h injection target calls
@@ -143,7 +143,7 @@ module _ (b : List ℕ) (setting : Setting) (h : ℕ) where
       fly (call ∷ calls) = checks
 
   -- a move that is refused
-  pub refused_move : (injection from : State) (before : List Leg) (l : Leg) (k : ℕ) → Flown b setting h injection before from
+  pub refused_move : (injection from : State) (before : List Leg) (l : Leg) (k : Refusal) → Flown b setting h injection before from
       → MayFly b setting h from l.target l.calls → (after b setting h l.target from l.calls).moment ≡ l.target
       → move_answer b setting (after b setting h l.target from l.calls) l.centre ≡ Err k → MoveRefused b setting h injection before l k
   refused_move injection from before l k flown may at refused =

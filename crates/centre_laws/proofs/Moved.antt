@@ -18,17 +18,17 @@ use Rattle.state.specs.declared.Setting.{Setting}
 use Rattle.book.specs.Passes.{passes}
 use Rattle.state_checks.proofs.Passed.{passed}
 use Rattle.gravity_stored.specs.Injection.{rule_at, kept_by, kept}
-use Rattle.centre.specs.Move.{motion_of, shifted, moved_by, kept_or7, move_by, move_of, move_refusal, move_answer}
+use Rattle.centre.specs.Move.{motion_of, shifted, moved_by, kept_or7, move_by, move_of, move_checks, move_answer}
 
 -- a move that is accepted has passed its checks
 accepted : (b : List ℕ) (setting : Setting) (s : State) (centre : ℕ) (next : State) → move_answer b setting s centre ≡ Ok next
-    → (move_refusal b setting s centre ≡ 0) × (move_of b setting s centre ≡ Ok next)
+    → (move_checks b setting s centre ≡ Ok tt) × (move_of b setting s centre ≡ Ok next)
 unfolding move_answer
-accepted b setting s centre next = go (move_refusal b setting s centre =? 0) refl
+accepted b setting s centre next = go (move_checks b setting s centre =? 0) refl
   where
-    go : (none : Bool) → (move_refusal b setting s centre =? 0) ≡ none
-        → (if none then move_of b setting s centre otherwise Err (move_refusal b setting s centre)) ≡ Ok next
-        → (move_refusal b setting s centre ≡ 0) × (move_of b setting s centre ≡ Ok next)
+    go : (none : Bool) → (move_checks b setting s centre =? 0) ≡ none
+        → (if none then move_of b setting s centre otherwise Err (move_checks b setting s centre)) ≡ Ok next
+        → (move_checks b setting s centre ≡ Ok tt) × (move_of b setting s centre ≡ Ok next)
     go true is e = (eqb-true _ 0 is, e)
     go false is e = let z : ◌≡◌ {A = ℕ} 0 1 = cc in absurd (omega arith)
 
@@ -38,8 +38,8 @@ pub record Allowed (b : List ℕ) (setting : Setting) (s : State) (centre : ℕ)
   pub old : centre_allowed setting s.centre ≡ true
   pub new : centre_allowed setting centre ≡ true
 
-checked : (b : List ℕ) (setting : Setting) (s : State) (centre : ℕ) → move_refusal b setting s centre ≡ 0 → Allowed b setting s centre
-unfolding move_refusal
+checked : (b : List ℕ) (setting : Setting) (s : State) (centre : ℕ) → move_checks b setting s centre ≡ Ok tt → Allowed b setting s centre
+unfolding move_checks
 checked b setting s centre e =
     let p = passed b setting _ _ _ e in
     record {

@@ -3,8 +3,8 @@ use Rattle.base.specs.declared.Refusal.{Refusal}
 use Rattle.std.specs.Prelude.{List, [], ◌∷◌, ◌++◌, ◌≡◌, ℕ, ◌-◌, ◌/◌, Result, Ok, Err}
 use Rattle.state.specs.declared.State.{State}
 use Rattle.state.specs.declared.Setting.{Setting}
-use Rattle.run_checks.specs.Start.{start_refusal}
-use Rattle.run.specs.Step.{Moved, On, Off, step}
+use Rattle.run_checks.specs.Start.{start_checks}
+use Rattle.run.specs.Step.{Moved, step}
 use Rattle.run.specs.Walk.{onward, walk}
 use Rattle.run_laws.specs.Journey.{Call, journey, after, AllHold}
 use Rattle.centre.specs.Move.{move_answer}
@@ -29,8 +29,8 @@ moves_of (leg ∷ legs) = move_after leg ∷ moves_of legs
 
 -- a move as a step of the walk: the moved state, or the number of its refusal
 abbrev pub as_step : Result State Refusal → Moved
-as_step (Ok s) = On s
-as_step (Err k) = Off k
+as_step (Ok s) = Ok s
+as_step (Err k) = Err k
 
 module _ (b : List ℕ) (setting : Setting) (h : ℕ) where
   -- the plain walk, step by step, to a moment
@@ -42,13 +42,13 @@ module _ (b : List ℕ) (setting : Setting) (h : ℕ) where
 
   -- the plain walk with its moves: step by step to each named moment, then the move
   unfoldable pub walk_with_moves : List Move → State → Moved
-  walk_with_moves [] s = On s
+  walk_with_moves [] s = Ok s
   walk_with_moves (move ∷ moves) s = onward (walk_with_moves moves) (onward (moving move) (walk_to move.at s))
 
   -- one move of that walk: made at its named moment, which the moved state keeps, about the new centre
   pub record MoveStands (s : State) (move : Move) (next : State) : Type 0 where
     pub before : State
-    pub walked : walk_to move.at s ≡ On before
+    pub walked : walk_to move.at s ≡ Ok before
     pub at : before.moment ≡ move.at
     pub moved : move_answer b setting before move.centre ≡ Ok next
     pub moment : next.moment ≡ move.at
@@ -65,7 +65,7 @@ module _ (b : List ℕ) (setting : Setting) (h : ℕ) where
   -- R-8, "a move does not read it"
   abbrev pub MayFly : State → ℕ → List Call → Type 0
   MayFly s target [] = Unit {0}
-  MayFly s target (call ∷ calls) = start_refusal b setting s h target ≡ 0
+  MayFly s target (call ∷ calls) = start_checks b setting s h target ≡ Ok tt
 
   -- legs flown from one state to another: the calls of each arrive at its target, and its move is accepted
   pub data Flown : State → List Leg → State → Type 0 where
@@ -79,7 +79,7 @@ module _ (b : List ℕ) (setting : Setting) (h : ℕ) where
   -- walk is at its named moment. As demand 3 says, every answer is that of the plain walk from there.
   pub record LegHolds (injection : State) (before : List Leg) (target : ℕ) (calls : List Call) : Type 0 where
     pub start : State
-    pub walked : walk_with_moves (moves_of before) injection ≡ On start
+    pub walked : walk_with_moves (moves_of before) injection ≡ Ok start
     pub moves : MovesStand injection (moves_of before) start
     pub holds : AllHold (step b setting h) start h target 0 calls (journey b setting h target start calls)
 
@@ -87,7 +87,7 @@ module _ (b : List ℕ) (setting : Setting) (h : ℕ) where
   -- the last state of the calls. The walk with its moves ends there.
   pub record MoveRefused (injection : State) (before : List Leg) (l : Leg) (k : ℕ) : Type 0 where
     pub start : State
-    pub walked : walk_with_moves (moves_of before) injection ≡ On start
-    pub there : walk_to l.target start ≡ On (after b setting h l.target start l.calls)
+    pub walked : walk_with_moves (moves_of before) injection ≡ Ok start
+    pub there : walk_to l.target start ≡ Ok (after b setting h l.target start l.calls)
     pub at : (after b setting h l.target start l.calls).moment ≡ l.target
-    pub off : walk_with_moves (moves_of before ++ (move_after l ∷ [])) injection ≡ Off k
+    pub off : walk_with_moves (moves_of before ++ (move_after l ∷ [])) injection ≡ Err k

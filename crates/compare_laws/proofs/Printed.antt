@@ -24,9 +24,9 @@ use Rattle.state.specs.declared.Setting.{Setting}
 use Rattle.gravity.specs.Acceleration.{acceleration_at}
 use Rattle.gravity_stored.specs.Injection.{kept_by, launched}
 use Rattle.gravity_stored.proofs.Launched.{launched_bare}
-use Rattle.run_checks.specs.Start.{start_refusal}
+use Rattle.run_checks.specs.Start.{start_checks}
 use Rattle.run_checks.proofs.Passed.{passed}
-use Rattle.run.specs.Step.{Moved, On, Off, and_then, arrive, along, step_h, half, sixth, moved_by, keeping, step}
+use Rattle.run.specs.Step.{Moved, and_then, arrive, along, step_h, half, sixth, keeping, step}
 use Rattle.run.specs.Stages.{velocity2, velocity3, lastly, stage3, stage4}
 use Rattle.run.proofs.OneStep.{done}
 use Rattle.run.proofs.Start.{may_walk}
@@ -61,27 +61,27 @@ pub record Fits (s : Injection) : Type 0 where
   pub vy : T (fits binary64 s.vy)
   pub vz : T (fits binary64 s.vz)
 
-kept_fits : (i : Injection) (q : Result Vector Refusal) (next : State) → Fits i → moved_by (kept_by i q) ≡ On next → Fits (bare next)
+kept_fits : (i : Injection) (q : Result Vector Refusal) (next : State) → Fits i → kept_by i q ≡ Ok next → Fits (bare next)
 kept_fits i (Ok a) next f e = let is : carrying i a ≡ next = cc in subst (λ (s : State). Fits (bare s)) is f
 kept_fits i (Err k) next f e = let z : ◌≡◌ {A = ℕ} 0 1 = cc in absurd (omega arith)
 
 arrived_fits : (acc : ℕ → Vector → Result Vector Refusal) (t o : ℕ) (b : Vector) (f : Float) (d c : Vector) (g : Float) (e : Vector) (next : State)
-    → arrive (keeping acc) t o (along b f d) (along c g e) ≡ On next → Fits (bare next)
+    → arrive (keeping acc) t o (along b f d) (along c g e) ≡ Ok next → Fits (bare next)
 unfolding along
 arrived_fits acc t o b f d c g e next = go (finite_vector (along b f d) && finite_vector (along c g e))
   where
-    go : (ok : Bool) → (if ok then keeping acc (injection_at t o (along b f d) (along c g e)) otherwise Off Refusal.NotFinite) ≡ On next → Fits (bare next)
+    go : (ok : Bool) → (if ok then keeping acc (injection_at t o (along b f d) (along c g e)) otherwise Err Refusal.NotFinite) ≡ Ok next → Fits (bare next)
     go true q =
         kept_fits (injection_at t o (along b f d) (along c g e)) (acc t (along b f d)) next
         (record { x = add-fits binary64 _ _; y = add-fits binary64 _ _; z = add-fits binary64 _ _; vx = add-fits binary64 _ _; vy = add-fits binary64 _ _; vz = add-fits binary64 _ _ })
         q
     go false q = let z : ◌≡◌ {A = ℕ} 0 1 = cc in absurd (omega arith)
 
-peel : (q : Result Vector Refusal) (rest : Vector → Moved) (next : State) → ((a : Vector) → rest a ≡ On next → Fits (bare next)) → and_then q rest ≡ On next → Fits (bare next)
+peel : (q : Result Vector Refusal) (rest : Vector → Moved) (next : State) → ((a : Vector) → rest a ≡ Ok next → Fits (bare next)) → and_then q rest ≡ Ok next → Fits (bare next)
 peel (Ok a) rest next k e = k a e
 peel (Err n) rest next k e = let z : ◌≡◌ {A = ℕ} 0 1 = cc in absurd (omega arith)
 
-step_fits : (b : List ℕ) (setting : Setting) (h : ℕ) (s next : State) → step b setting h s ≡ On next → Fits (bare next)
+step_fits : (b : List ℕ) (setting : Setting) (h : ℕ) (s next : State) → step b setting h s ≡ Ok next → Fits (bare next)
 unfolding step
 step_fits b setting h s next =
     let acc = acceleration_at b setting s.centre in
@@ -185,8 +185,8 @@ module _ (b : List ℕ) (setting : Setting) (h : ℕ) (some : 1 ≤ h) where
       go : (m : Moved) → step b setting h s ≡ m
           → ((did n : ℕ) (s : State) → s.moment + left * h < end_of_time → refused_from (After s.moment) n (kinds_of (course_text (step b setting h) left did s)) ≡ 0)
           → refused_from (After s.moment) n (kinds_of (after_step (course_text (step b setting h) left (did + 1)) did m)) ≡ 0
-      go (Off k) e later = ap (refused_from (After s.moment) n) (kinds_refused k did) ∙ outcome_ends s.moment n
-      go (On next) e later =
+      go (Err k) e later = ap (refused_from (After s.moment) n) (kinds_refused k did) ∙ outcome_ends s.moment n
+      go (Ok next) e later =
           let d = done b setting h s next e in
           let clock = d.moment in
           let long : suc left * h ≡ left * h + h = suc-mul left h in
@@ -195,7 +195,7 @@ module _ (b : List ℕ) (setting : Setting) (h : ℕ) (some : 1 ≤ h) where
           ∙ state_on s.moment n next (kinds_of (course_text (step b setting h) left (did + 1) next)) (omega arith)
           ∙ later (did + 1) (n + 1) next (omega arith)
 
-order_form : (b : List ℕ) (o : Order) → Fits o.injection → start_refusal b o.setting (launched b o.setting o.injection) o.h o.target ≡ 0
+order_form : (b : List ℕ) (o : Order) → Fits o.injection → start_checks b o.setting (launched b o.setting o.injection) o.h o.target ≡ Ok tt
     → form_refusal (order_text b o) ≡ 0
 unfolding form_refusal
 order_form b o f e =
@@ -221,15 +221,15 @@ order_fits : (form : Form) (input : List ℕ) → Fits (order_of form input).inj
 order_fits form input =
     record { x = of_bits-fits binary64 _; y = of_bits-fits binary64 _; z = of_bits-fits binary64 _; vx = of_bits-fits binary64 _; vy = of_bits-fits binary64 _; vz = of_bits-fits binary64 _ }
 
-not_started : (b : List ℕ) (o : Order) → eqb (start_refusal b o.setting (launched b o.setting o.injection) o.h o.target) 0 ≡ false
-    → order_text b o ≡ lone_refusal (start_refusal b o.setting (launched b o.setting o.injection) o.h o.target)
+not_started : (b : List ℕ) (o : Order) → eqb (start_checks b o.setting (launched b o.setting o.injection) o.h o.target) 0 ≡ false
+    → order_text b o ≡ lone_refusal (start_checks b o.setting (launched b o.setting o.injection) o.h o.target)
 unfolding order_text
 not_started b o e = rw e
 
 any_order : (b : List ℕ) (o : Order) → Fits o.injection → form_refusal (order_text b o) ≡ 0
-any_order b o f = go (eqb (start_refusal b o.setting (launched b o.setting o.injection) o.h o.target) 0) refl
+any_order b o f = go (eqb (start_checks b o.setting (launched b o.setting o.injection) o.h o.target) 0) refl
   where
-    go : (t : Bool) → eqb (start_refusal b o.setting (launched b o.setting o.injection) o.h o.target) 0 ≡ t → form_refusal (order_text b o) ≡ 0
+    go : (t : Bool) → eqb (start_checks b o.setting (launched b o.setting o.injection) o.h o.target) 0 ≡ t → form_refusal (order_text b o) ≡ 0
     go true e = order_form b o f (eqb-true _ 0 e)
     go false e = ap form_refusal (not_started b o e) ∙ lone_form _
 

@@ -6,7 +6,7 @@ ghost use Rattle.std.specs.Prelude.{◌≡◌};
 ghost use Rattle.conic.specs.Conic.{conic_of, orbit_answer, figures_about, conic_answer};
 
 use base::Refusal;
-use conic_checks::{Orbit, refusal_of};
+use conic_checks::{Orbit, orbit_checks};
 use conic_formulas::orbit_of;
 use state::State;
 
@@ -58,12 +58,9 @@ fn conic_of(o: Orbit) -> Conic
 fn answer_of(centre: u64, o: Orbit) -> Result<CentredConic, Refusal>
     ensures { result ≡ orbit_answer centre o }
 {
-    let number = refusal_of(o);
-    if number == 0 {
-        let conic = conic_of(o);
-        return Ok(CentredConic { centre, conic });
-    }
-    Err(number)
+    orbit_checks(o)?;
+    let conic = conic_of(o);
+    Ok(CentredConic { centre, conic })
 }
 
 fn figures_about(m: f64, state: State) -> Result<CentredConic, Refusal>

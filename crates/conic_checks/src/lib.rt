@@ -3,7 +3,9 @@
 #![tactic(auto)]
 
 ghost use Rattle.std.specs.Prelude.{◌≡◌};
-ghost use Rattle.conic_checks.specs.Refusal.{unfit, ◌before◌, refusal};
+ghost use Rattle.conic_checks.specs.Refusal.{fit, fit_nonzero, orbit_checks};
+
+use base::{Refusal, require};
 
 // The figures in the order of their tests. `last` is the far distance of an ellipse or the v of a hyperbola.
 #[derive(Clone, Copy)]
@@ -20,34 +22,33 @@ pub struct Orbit {
     pub last: f64,
 }
 
-// The number found so far; if that is 0, the number of this figure: 7 if it is not finite, its own if it is zero.
-fn tested(number: u64, x: f64, own: u64) -> u64
-    ensures { result ≡ number before unfit x own }
+// A figure that may be zero.
+fn fit(x: f64) -> Result<(), Refusal>
+    ensures { result ≡ fit x }
 {
-    if number == 0 {
-        if base::is_finite(x) {
-            if x == 0.0 {
-                return own;
-            }
-            return 0;
-        }
-        return 7;
-    }
-    number
+    require(base::is_finite(x), Refusal::NotFinite)
 }
 
-// 0 if every figure passes. A figure that may be zero has 0 as its own number.
-pub fn refusal_of(o: Orbit) -> u64
-    ensures { result ≡ refusal o }
+// A figure that may not be zero: its own refusal if it is.
+fn fit_nonzero(x: f64, own: Refusal) -> Result<(), Refusal>
+    ensures { result ≡ fit_nonzero x own }
 {
-    let mut number = tested(0, o.n, 7);
-    number = tested(number, o.v2, 0);
-    number = tested(number, o.c3, 9);
-    number = tested(number, o.nc, 10);
-    number = tested(number, o.p, 0);
-    number = tested(number, o.e2, 0);
-    number = tested(number, o.e, 0);
-    number = tested(number, o.a, 0);
-    number = tested(number, o.q, 0);
-    tested(number, o.last, 0)
+    fit(x)?;
+    require(x != 0.0, own)
+}
+
+// Every figure, in the order of their tests.
+pub fn orbit_checks(o: Orbit) -> Result<(), Refusal>
+    ensures { result ≡ orbit_checks o }
+{
+    fit_nonzero(o.n, Refusal::NotFinite)?;
+    fit(o.v2)?;
+    fit_nonzero(o.c3, Refusal::Parabola)?;
+    fit_nonzero(o.nc, Refusal::StraightLine)?;
+    fit(o.p)?;
+    fit(o.e2)?;
+    fit(o.e)?;
+    fit(o.a)?;
+    fit(o.q)?;
+    fit(o.last)
 }

@@ -4,6 +4,7 @@ use mathlib.Core.List.{List}
 use mathlib.Core.Path.{◌≡◌, refl, sym, ap, ◌∙◌}
 use Prim.Native.Nat.{ℕ}
 use native.Mathlib.Omega.{arith}
+use Rattle.base.specs.declared.Refusal.{Refusal}
 use Rattle.std.specs.Prelude.{Result, Ok, Err}
 use Rattle.base.specs.Choice.{if◌then◌otherwise◌}
 use Rattle.state.specs.State.{finite_vector}
@@ -11,7 +12,7 @@ use Rattle.state.specs.declared.Vector.{Vector}
 use Rattle.state.specs.declared.Setting.{Setting}
 use Rattle.base.proofs.Bools.{right}
 use Rattle.gravity_pull.specs.Pull.{minus, negated, g, sound}
-use Rattle.gravity.specs.Acceleration.{Body, Sky, Bodies, Refusal, sky, stands, place_of, last_terms, last_sound, View, view_from, less, all_sound, settled, rule, seen_then, acceleration_at}
+use Rattle.gravity.specs.Acceleration.{Body, Sky, sky, stands, place_of, last_terms, last_sound, View, view_from, less, all_sound, settled, rule, seen_then, acceleration_at}
 
 settled_finite : (ok : Bool) (v a : Vector) → settled ok v ≡ Ok a → finite_vector a ≡ true
 settled_finite ok v a = go (ok && finite_vector v) refl
@@ -29,8 +30,8 @@ under_finite s view P a e =
 
 seen_finite : (f : List Body → Result Vector Refusal) → ((bodies : List Body) (a : Vector) → f bodies ≡ Ok a → finite_vector a ≡ true) → (bodies : Sky) (a : Vector)
     → seen_then f bodies ≡ Ok a → finite_vector a ≡ true
-seen_finite f each (Bodies bodies) a e = each bodies a e
-seen_finite f each (Refusal k) a e = let z : ◌≡◌ {A = ℕ} 0 1 = cc in absurd (omega arith)
+seen_finite f each (Ok bodies) a e = each bodies a e
+seen_finite f each (Err k) a e = let z : ◌≡◌ {A = ℕ} 0 1 = cc in absurd (omega arith)
 
 pub rule_finite : (b : List ℕ) (s : Setting) (c t : ℕ) (P a : Vector) → acceleration_at b s c t P ≡ Ok a → finite_vector a ≡ true
 unfolding acceleration_at

@@ -7,7 +7,8 @@ use lib.Dec.{eqb-suc-zero}
 use borrow.Author.Tests.{ne_eqb}
 use native.Mathlib.Omega.{arith}
 use Rattle.std.specs.Prelude.{Ok, Err}
-use Rattle.base.specs.Checks.{or_later}
+use Rattle.base.specs.Checks.{Checked, ◌before◌}
+use Rattle.base.specs.declared.Refusal.{Refusal}
 use Rattle.base.specs.Choice.{if◌then◌otherwise◌, ◌=?◌}
 use Rattle.state.specs.State.{used, coefficient_of, centre_allowed}
 use Rattle.state.specs.declared.Vector.{Vector}
@@ -19,10 +20,10 @@ use Rattle.gravity_pull.specs.Sum.{pull_of, taken_off, less_by, less_all, vector
 use Rattle.gravity_terms.specs.Added.{oblate_by, sunlit_by}
 use Rattle.gravity_pull.specs.declared.Pull.{Pull}
 use Rattle.gravity_pull.specs.declared.Other.{Other}
-use Rattle.gravity_bodies.specs.Sky.{Sky, Bodies, Refusal, Listed, bodies_of, standing, nowhere, stands, place_of, seen, sky_of, sky}
-use Rattle.gravity_bodies.specs.Looked.{found_of, found_in, place_in, besides, refusal_of, refusal_in}
+use Rattle.gravity_bodies.specs.Sky.{Sky, Listed, bodies_of, standing, nowhere, stands, place_of, seen, sky_of, sky}
+use Rattle.gravity_bodies.specs.Looked.{found_of, found_in, place_in, besides, all_checked, all_found}
 use Rattle.gravity_bodies.specs.declared.Sight.{Sight}
-use Rattle.gravity_bodies.proofs.Looked.{Looked, unlooked, refused_by_lem, there, unpulling, sight_of, sights_of, found, looked, placed, used_looked}
+use Rattle.gravity_bodies.proofs.Looked.{Looked, unlooked, refused, there, unpulling, sight_of, sights_of, found, looked, placed, used_looked}
 pub use Rattle.gravity_bodies.proofs.Looked.{all_clear, seen_entry}
 use Rattle.gravity.specs.Acceleration.{others, less, all_sound, settled, acceleration_at}
 use Rattle.gravity.proofs.SoFar.{from_centre, finished, whole_rule}
@@ -33,14 +34,14 @@ use Rattle.gravity.specs.declared.Sights.{Sights}
 -- ---- by the refusal: none, or some
 
 module _ (s : Sights) (setting : Setting) (P : Vector) where
-  pub clear : s.refusal ≡ 0
+  pub clear : s.checked ≡ Ok tt
       → acceleration_by s setting P ≡ settled_by (sunlit_by setting s.sun P (oblate_by setting s.home P (less_all P (start_by P s.own) (listed s.others))))
   unfolding acceleration_by
   clear e = rw e
 
-  pub refused : (s.refusal ≡ 0 → ⊥) → acceleration_by s setting P ≡ Err s.refusal
+  pub refuses : (k : Refusal) → s.checked ≡ Err k → acceleration_by s setting P ≡ Err k
   unfolding acceleration_by
-  refused h = rw (ne_eqb s.refusal 0 h)
+  refuses k h = rw h
 
 -- ---- body by body
 
@@ -69,7 +70,7 @@ module _ (st : Setting) (Q S P : Vector) (centre : ℕ) (C : Vector) (body : Lis
       → finished st Q S P ok a (from_centre centre C (seen body (Ok M) later))
       ≡ finished st Q S P ((ok && sound (minus P (minus (standing M.place) C))) && sound (minus (standing M.place) C))
       (minus a (plus (g (minus P (minus (standing M.place) C)) body.m) (g (minus (standing M.place) C) body.m))) (from_centre centre C later)
-  onward ok a (Bodies bs) far u =
+  onward ok a (Ok bs) far u =
       let R = minus (standing M.place) C in
       let A = sound (minus P R) in
       let B = sound R in
@@ -77,18 +78,18 @@ module _ (st : Setting) (Q S P : Vector) (centre : ℕ) (C : Vector) (body : Lis
       rw (far, u)
       (ap (λ (t : Bool). settled (t && last_sound st Q S) (last_terms st Q S (less P (minus a (plus (g (minus P R) body.m) (g R body.m))) bs')))
       (sym (and_assoc ok (A && B) (all_sound P bs')) ∙ ap (λ (t : Bool). t && all_sound P bs') (sym (and_assoc ok A B))))
-  onward ok a (Refusal k) far u = refl
+  onward ok a (Err k) far u = refl
 
   -- unless it is the centre, or does not pull
   itself : (ok : Bool) (a : Vector) (later : Sky) → (body.number =? centre) ≡ true
       → finished st Q S P ok a (from_centre centre C (seen body (Ok M) later)) ≡ finished st Q S P ok a (from_centre centre C later)
-  itself ok a (Bodies bs) near = rw near
-  itself ok a (Refusal k) near = refl
+  itself ok a (Ok bs) near = rw near
+  itself ok a (Err k) near = refl
 
   lit_alone : (ok : Bool) (a : Vector) (later : Sky) → (body.number =? centre) ≡ false → used body.m ≡ false
       → finished st Q S P ok a (from_centre centre C (seen body (Ok M) later)) ≡ finished st Q S P ok a (from_centre centre C later)
-  lit_alone ok a (Bodies bs) far u = rw (far, u)
-  lit_alone ok a (Refusal k) far u = refl
+  lit_alone ok a (Ok bs) far u = rw (far, u)
+  lit_alone ok a (Err k) far u = refl
 
 -- the bodies other than the centre, as the code sees them
 others_by : List ℕ → ℕ → ℕ → Vector → List Listed → List Other
@@ -99,27 +100,27 @@ others_by b t centre C (body ∷ rest) =
 module _ (b : List ℕ) (st : Setting) (t : ℕ) (P home sun : Vector) (centre : ℕ) (C : Vector) where
   Agree : List Listed → Pull → Type 0
   Agree bodies sum =
-      finished_by st home sun P sum (refusal_of (sights_of b t bodies)) (others_by b t centre C bodies)
+      finished_by st home sun P sum (all_checked (sights_of b t bodies)) (others_by b t centre C bodies)
       ≡ finished st (minus P home) (minus P sun) P sum.sound (vector_of sum) (from_centre centre C (sky_of b t bodies))
 
   -- a body and those after it, if those after it are known to agree
   module _ (body : Listed) (rest : List Listed) (later : (s : Pull) → Agree rest s) where
     skipped : (sum : Pull) (s : Sight) → used s.m ≡ false
-        → finished_by st home sun P sum (refusal_of (sights_of b t rest)) (other_of C s ∷ others_by b t centre C rest)
+        → finished_by st home sun P sum (all_checked (sights_of b t rest)) (other_of C s ∷ others_by b t centre C rest)
         ≡ finished st (minus P home) (minus P sun) P sum.sound (vector_of sum) (from_centre centre C (sky_of b t rest))
     unfolding Agree
     skipped sum s u =
-        ap (λ (p : Pull). finished_by st home sun P p (refusal_of (sights_of b t rest)) (others_by b t centre C rest)) (less_unused P sum C s u) ∙ later sum
+        ap (λ (p : Pull). finished_by st home sun P p (all_checked (sights_of b t rest)) (others_by b t centre C rest)) (less_unused P sum C s u) ∙ later sum
 
     one_more : (near pulls : Bool) → (body.number =? centre) ≡ near → used body.m ≡ pulls → (sum : Pull) (s : Sight)
         → Looked b body.number body.m body.for_light t s
-        → finished_by st home sun P sum (or_later s.refusal (refusal_of (sights_of b t rest)))
+        → finished_by st home sun P sum (s.checked before all_checked (sights_of b t rest))
         (if near then others_by b t centre C rest otherwise other_of C s ∷ others_by b t centre C rest)
         ≡ finished st (minus P home) (minus P sun) P sum.sound (vector_of sum) (from_centre centre C (sky_of b t (body ∷ rest)))
     unfolding Agree pull_of
     one_more true pulls near m sum s (unlooked u) = rw u (later sum)
     one_more false pulls near m sum s (unlooked u) = rw u (skipped sum s (unpulling body.m body.for_light u))
-    one_more near pulls far m sum s (refused_by_lem k u e) = rw (u, e, eqb-suc-zero, eqb-suc-zero)
+    one_more near pulls far m sum s (refused k u e) = rw (u, e)
     one_more true pulls near m sum s (there M i u e) =
         rw (u, e) (later sum ∙ sym (itself st (minus P home) (minus P sun) P centre C body M sum.sound (vector_of sum) (sky_of b t rest) near))
     one_more false false near m sum s (there M i u e) =
@@ -127,12 +128,12 @@ module _ (b : List ℕ) (st : Setting) (t : ℕ) (P home sun : Vector) (centre :
     one_more false true near m sum s (there M i u e) =
         let R = minus (standing M.place) C in
         rw (u, e)
-        (ap (λ (p : Pull). finished_by st home sun P p (refusal_of (sights_of b t rest)) (others_by b t centre C rest)) (less_used P sum C s m)
+        (ap (λ (p : Pull). finished_by st home sun P p (all_checked (sights_of b t rest)) (others_by b t centre C rest)) (less_used P sum C s m)
         ∙ later (taken_off sum (pull_of (minus P R) body.m) (pull_of R body.m))
         ∙ sym (onward st (minus P home) (minus P sun) P centre C body M sum.sound (vector_of sum) (sky_of b t rest) near m))
 
   by_list : (bodies : List Listed) (sum : Pull) → Agree bodies sum
-  unfolding Agree refusal_of sights_of others_by sight_of
+  unfolding Agree all_checked sights_of others_by sight_of
   by_list [] sum =
       last_is st home sun P sum
       ∙ ap (λ (ok : Bool). settled (ok && last_sound st (minus P home) (minus P sun)) (last_terms st (minus P home) (minus P sun) (vector_of sum))) (sym (and-true sum.sound))
@@ -143,8 +144,8 @@ module _ (b : List ℕ) (st : Setting) (t : ℕ) (P home sun : Vector) (centre :
 
 -- if the Sun does not shine, its position does not matter
 unlit : (st : Setting) (Q S S' P : Vector) (ok : Bool) (a : Vector) (bodies : Sky) → used st.k ≡ false → finished st Q S P ok a bodies ≡ finished st Q S' P ok a bodies
-unlit st Q S S' P ok a (Bodies bodies) u = rw u
-unlit st Q S S' P ok a (Refusal k) u = refl
+unlit st Q S S' P ok a (Ok bodies) u = rw u
+unlit st Q S S' P ok a (Err k) u = refl
 
 module _ (b : List ℕ) (s : Setting) (t : ℕ) (P : Vector) where
   -- the Sun as it is seen
@@ -169,7 +170,7 @@ module _ (b : List ℕ) (s : Setting) (t : ℕ) (P : Vector) where
 
   about : (c : ℕ) → place_in (found_in b s t) c ≡ place_of (stands b c t)
       → finished_by s (minus nowhere (place_in (found_in b s t) c)) (minus sun_at (place_in (found_in b s t) c)) P (start_by P (coefficient_of s c))
-      (refusal_of (sights_of b t (bodies_of s))) (others_by b t c (place_in (found_in b s t) c) (bodies_of s))
+      (all_checked (sights_of b t (bodies_of s))) (others_by b t c (place_in (found_in b s t) c) (bodies_of s))
       ≡ acceleration_at b s c t P
   unfolding Agree pull_of acceleration_at sky
   about c e =
@@ -183,7 +184,7 @@ module _ (b : List ℕ) (s : Setting) (t : ℕ) (P : Vector) where
       ∙ whole_rule s c (place_of (stands b c t)) sun P sky
 
   pub under_is : (c : ℕ) → centre_allowed s c ≡ true → acceleration_by (sights b s c t) s P ≡ acceleration_at b s c t P
-  unfolding acceleration_by sights acceleration_at sky sights_of others_by sight_of refusal_in found_in besides others_of place_in coefficient_of centre_allowed refusal_of sun_at
+  unfolding acceleration_by sights acceleration_at sky sights_of others_by sight_of all_found found_in besides others_of place_in coefficient_of centre_allowed all_checked sun_at
   under_is c ok = go c (centre_one s c ok) ok
     where
       go : (c : ℕ) → One c → centre_allowed s c ≡ true → acceleration_by (sights b s c t) s P ≡ acceleration_at b s c t P
@@ -196,13 +197,10 @@ module _ (b : List ℕ) (s : Setting) (t : ℕ) (P : Vector) where
 
 -- ---- what follows for the bodies if an acceleration is accepted
 
-pub is_clear : (s : Sights) (setting : Setting) (P a : Vector) → acceleration_by s setting P ≡ Ok a → s.refusal ≡ 0
+pub is_clear : (s : Sights) (setting : Setting) (P a : Vector) → acceleration_by s setting P ≡ Ok a → s.checked ≡ Ok tt
 unfolding acceleration_by
-is_clear s setting P a e = go s.refusal refl
+is_clear s setting P a e = go s.checked refl
   where
-    go : (k : ℕ) → s.refusal ≡ k → k ≡ 0
-    go zero r = refl
-    go (suc k) r =
-        let no = refused s setting P (λ z. absurd (omega arith)) in
-        let z : ◌≡◌ {A = ℕ} 0 1 = cc in
-        absurd (omega arith)
+    go : (c : Checked) → s.checked ≡ c → c ≡ Ok tt
+    go (Ok tt) r = refl
+    go (Err k) r = let no = refuses s setting P k r in cc

@@ -1,15 +1,17 @@
 -- Document 01, "Setting, state, acceleration", and document 02, R-6 and R-7: the acceleration about a centre by the bodies looked up, with
 -- an oblate Earth and sunlight.
+use Rattle.base.specs.declared.Refusal.{Refusal}
 use Rattle.std.specs.Prelude.{Bool, true, not, ◌&&◌, List, [], ◌∷◌, ℕ, Float, Result, Ok, Err}
 use Rattle.base.specs.Choice.{if◌then◌otherwise◌, ◌=?◌}
 use Rattle.base.specs.Limits.{is_moment}
 use Rattle.state.specs.State.{finite_vector, used, coefficient_of, centre_allowed}
 use Rattle.state.specs.declared.Vector.{Vector}
 use Rattle.state.specs.declared.Setting.{Setting}
-use Rattle.state_checks.specs.Common.{common_refusal}
+use Rattle.base.specs.Checks.{◌before◌}
+use Rattle.state_checks.specs.Common.{common_checks}
 use Rattle.gravity_pull.specs.Pull.{plus, minus, negated, g, sound}
 pub use Rattle.gravity_terms.specs.Terms.{last_terms, last_sound}
-pub use Rattle.gravity_bodies.specs.Sky.{Body, Sky, Bodies, Refusal, Listed, standing, nowhere, at_rest, stands, seen, sky_of, place_of}
+pub use Rattle.gravity_bodies.specs.Sky.{Body, Sky, Listed, standing, nowhere, at_rest, stands, seen, sky_of, place_of}
 unfoldable pub use Rattle.gravity_bodies.specs.Sky.{sky}
 
 -- ---- what is seen from the centre
@@ -63,8 +65,8 @@ rule s view P =
 
 -- "These bodies are looked up in rising number first": the first refusal is the answer, 6 or 7
 abbrev pub seen_then : (List Body → Result Vector Refusal) → Sky → Result Vector Refusal
-seen_then f (Bodies bodies) = f bodies
-seen_then f (Refusal k) = Err k
+seen_then f (Ok bodies) = f bodies
+seen_then f (Err k) = Err k
 
 unfoldable pub acceleration_at : List ℕ → Setting → ℕ → ℕ → Vector → Result Vector Refusal
 acceleration_at b s centre t P =
@@ -75,5 +77,5 @@ acceleration_at b s centre t P =
 -- "Acceleration: 1, 4, 3, 7 (position), then its own rule"; R-6: 14 "directly after 4"
 unfoldable pub acceleration_answer : List ℕ → Setting → ℕ → ℕ → Vector → Result Vector Refusal
 acceleration_answer b s centre t P =
-    let k = common_refusal b s (centre_allowed s centre) (is_moment t) (finite_vector P) in
-    if k =? 0 then acceleration_at b s centre t P otherwise Err k
+    common_checks b s (centre_allowed s centre) (is_moment t) (finite_vector P)
+    before acceleration_at b s centre t P

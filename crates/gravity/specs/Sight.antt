@@ -1,7 +1,8 @@
 -- What the code keeps for a moment about a centre: the other bodies, each with its pull on the centre, computed once.
 use Rattle.base.specs.declared.Refusal.{Refusal}
-use Rattle.std.specs.Prelude.{Bool, ◌||◌, List, [], ◌∷◌, ◌≡◌, ℕ, Float, Result, Err}
-use Rattle.base.specs.Choice.{if◌then◌otherwise◌, ◌=?◌}
+use Rattle.std.specs.Prelude.{Bool, ◌||◌, List, [], ◌∷◌, ◌≡◌, ℕ, Float, Result, Ok}
+use Rattle.base.specs.Choice.{if◌then◌otherwise◌}
+use Rattle.base.specs.Checks.{Checked, ◌before◌}
 use Rattle.state.specs.State.{used, coefficient_of}
 use Rattle.state.specs.declared.Vector.{Vector}
 use Rattle.state.specs.declared.Setting.{Setting}
@@ -15,7 +16,7 @@ use Rattle.gravity_pull.specs.declared.Other.{Other}
 use Rattle.gravity_bodies.specs.Sky.{nowhere}
 use Rattle.gravity_bodies.specs.Looked.{blank, place_in, besides}
 pub use Rattle.gravity_bodies.specs.Looked.{entry_or}
-unfoldable pub use Rattle.gravity_bodies.specs.Looked.{found_of, found_in, refusal_in}
+unfoldable pub use Rattle.gravity_bodies.specs.Looked.{found_of, found_in, all_found}
 use Rattle.gravity_bodies.specs.declared.Sight.{Sight}
 use Rattle.gravity_bodies.specs.declared.Found.{Found}
 use Rattle.gravity_bodies.specs.declared.Besides.{Besides}
@@ -63,12 +64,12 @@ unfoldable pub sights : List ℕ → Setting → ℕ → ℕ → Sights
 sights b s centre t =
     let f = found_in b s t in
     record {
-      refusal = refusal_in f;
+      checked = all_found f;
       entries = entries_of f;
       own = coefficient_of s centre;
       home = minus nowhere (place_in f centre);
       sun = minus f.sun.place (place_in f centre);
-      others = others_of (place_in f centre) (besides centre (blank s.earth 0) f);
+      others = others_of (place_in f centre) (besides centre (blank s.earth (Ok tt)) f);
     }
 
 abbrev pub listed : Others → List Other
@@ -77,8 +78,8 @@ listed o = o.first ∷ o.second ∷ o.third ∷ o.fourth ∷ o.fifth ∷ []
 abbrev pub settled_by : Pull → Result Vector Refusal
 settled_by p = settled p.sound (vector_of p)
 
-abbrev pub finished_by : Setting → Vector → Vector → Vector → Pull → ℕ → List Other → Result Vector Refusal
-finished_by s home sun P sum k os = if k =? 0 then settled_by (sunlit_by s sun P (oblate_by s home P (less_all P sum os))) otherwise Err k
+abbrev pub finished_by : Setting → Vector → Vector → Vector → Pull → Checked → List Other → Result Vector Refusal
+finished_by s home sun P sum checked os = checked before settled_by (sunlit_by s sun P (oblate_by s home P (less_all P sum os)))
 
 unfoldable pub acceleration_by : Sights → Setting → Vector → Result Vector Refusal
-acceleration_by s setting P = finished_by setting s.home s.sun P (start_by P s.own) s.refusal (listed s.others)
+acceleration_by s setting P = finished_by setting s.home s.sun P (start_by P s.own) s.checked (listed s.others)

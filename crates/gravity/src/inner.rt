@@ -23,7 +23,7 @@ ghost use Rattle.gravity.specs.Sight.{
 use base::Refusal;
 use crate::{Guesses, LastSeen, Others, OthersSeen, Seen, Sights};
 use gravity_bodies::inner::{found, found_two};
-use gravity_bodies::{Besides, Found, beside, blank_sight, centre_place, refusal_of};
+use gravity_bodies::{Besides, Found, all_found, beside, blank_sight, centre_place};
 pub use gravity_pull::pulls::difference;
 use gravity_pull::pulls::{
     far_pulls, less_by, near_sum, near_sum_by, six_roots_at, three_far_pulls,
@@ -213,14 +213,14 @@ pub fn seen_at(
     ensures { (result.bodies ≡ sights book.now setting centre moment) × RootsAt p result.bodies.others result.roots }
 {
     let bodies = found_in(book, setting, moment, guesses, calm);
-    let earth = blank_sight(setting.earth, 0);
+    let earth = blank_sight(setting.earth, Ok(()));
     let c = centre_place(centre, bodies);
     let seen = seen_from(c, beside(centre, earth, bodies), p);
     let others = seen.others;
     let roots = seen.roots;
     let sun = bodies.sun;
     let kept = Sights {
-        refusal: refusal_of(bodies),
+        checked: all_found(bodies),
         entries: entries_of(bodies),
         own: state::coefficient_of(setting, centre),
         home: difference(earth.place, c),
@@ -250,6 +250,7 @@ fn settle(sum: Pull) -> Result<Vector, Refusal>
 }
 
 // The acceleration at p, if the roots for that position are known.
+#[tactic(auto, unfolding(crate::specs::Sight::acceleration_by))]
 pub fn acceleration_by(
     bodies: Sights,
     setting: Setting,
@@ -259,56 +260,53 @@ pub fn acceleration_by(
     requires { RootsAt p bodies.others roots }
     ensures { result ≡ acceleration_by bodies setting p }
 {
-    if bodies.refusal == 0 {
-        let others = bodies.others;
-        let first = others.first;
-        let second = others.second;
-        let third = others.third;
-        let fourth = others.fourth;
-        let fifth = others.fifth;
-        let later = roots.second;
-        let near = near_sum_by(p, bodies.own, first, second, roots.first);
-        let sum = near.sum;
-        let known = near.known;
-        let with_third = less_by(p, sum, third, later.a);
-        let with_fourth = less_by(p, with_third, fourth, later.b);
-        let all = less_by(p, with_fourth, fifth, later.c);
-        let with_earth = oblate_sum(setting, bodies.home, p, all, known);
-        return settle(sunlit_sum(setting, bodies.sun, p, with_earth, known));
-    }
-    Err(bodies.refusal)
+    bodies.checked?;
+    let others = bodies.others;
+    let first = others.first;
+    let second = others.second;
+    let third = others.third;
+    let fourth = others.fourth;
+    let fifth = others.fifth;
+    let later = roots.second;
+    let near = near_sum_by(p, bodies.own, first, second, roots.first);
+    let sum = near.sum;
+    let known = near.known;
+    let with_third = less_by(p, sum, third, later.a);
+    let with_fourth = less_by(p, with_third, fourth, later.b);
+    let all = less_by(p, with_fourth, fifth, later.c);
+    let with_earth = oblate_sum(setting, bodies.home, p, all, known);
+    settle(sunlit_sum(setting, bodies.sun, p, with_earth, known))
 }
 
 // The same without known roots. All roots are computed side by side: three, or six if one of the last three bodies is
 // used.
+#[tactic(auto, unfolding(crate::specs::Sight::acceleration_by))]
 pub fn acceleration_under(bodies: Sights, setting: Setting, p: Vector) -> Result<Vector, Refusal>
     ensures { result ≡ acceleration_by bodies setting p }
 {
-    if bodies.refusal == 0 {
-        let others = bodies.others;
-        let first = others.first;
-        let second = others.second;
-        let third = others.third;
-        let fourth = others.fourth;
-        let fifth = others.fifth;
-        if any_used(third.m, fourth.m, fifth.m) {
-            let roots = six_roots_at(
-                p,
-                first.place,
-                second.place,
-                third.place,
-                fourth.place,
-                fifth.place,
-            );
-            return acceleration_by(bodies, setting, p, roots);
-        }
-        let near = near_sum(p, bodies.own, first, second);
-        let sum = near.sum;
-        let known = near.known;
-        let with_earth = oblate_sum(setting, bodies.home, p, sum, known);
-        return settle(sunlit_sum(setting, bodies.sun, p, with_earth, known));
+    bodies.checked?;
+    let others = bodies.others;
+    let first = others.first;
+    let second = others.second;
+    let third = others.third;
+    let fourth = others.fourth;
+    let fifth = others.fifth;
+    if any_used(third.m, fourth.m, fifth.m) {
+        let roots = six_roots_at(
+            p,
+            first.place,
+            second.place,
+            third.place,
+            fourth.place,
+            fifth.place,
+        );
+        return acceleration_by(bodies, setting, p, roots);
     }
-    Err(bodies.refusal)
+    let near = near_sum(p, bodies.own, first, second);
+    let sum = near.sum;
+    let known = near.known;
+    let with_earth = oblate_sum(setting, bodies.home, p, sum, known);
+    settle(sunlit_sum(setting, bodies.sun, p, with_earth, known))
 }
 
 // The rule itself. The book is known to pass, and the centre is known to be a used body.

@@ -8,12 +8,11 @@ pub mod inner;
 ghost use Rattle.std.specs.Prelude.{◌≡◌};
 ghost use Rattle.gravity.specs.Acceleration.{acceleration_answer};
 
-use base::Refusal;
-use base::END_OF_TIME;
+use base::{END_OF_TIME, Refusal};
 use gravity_pull::Other;
 use root::{SixRoots, ThreeRoots};
 use state::{Setting, Vector};
-use state_checks::common_refusal;
+use state_checks::common_checks;
 
 // (02, R-6) The five bodies other than the centre, in rising number, each seen from the centre with its pull on the
 // centre.
@@ -36,12 +35,12 @@ pub struct Guesses {
     pub jupiter: u64,
 }
 
-// What is kept for a moment about a centre: the number of the first body refused (0 if none), the entries found, and
+// What is kept for a moment about a centre: the refusal of the first body that is refused, the entries found, and
 // the coefficient of the centre. Also the positions of the Earth and the Sun, seen from the centre (02, R-7), and the
 // other bodies.
 #[derive(Clone, Copy)]
 pub struct Sights {
-    pub refusal: u64,
+    pub checked: Result<(), Refusal>,
     pub entries: Guesses,
     pub own: f64,
     pub home: Vector,
@@ -73,6 +72,7 @@ pub struct Seen {
 }
 
 // The acceleration about a centre at a position, under a setting, at a moment of a book.
+#[tactic(auto, unfolding(crate::specs::Acceleration::acceleration_answer))]
 pub fn acceleration(
     book: &[u8],
     setting: Setting,
@@ -84,9 +84,6 @@ pub fn acceleration(
 {
     let centred = state::centre_is_allowed(setting, centre);
     let finite = state::vector_is_finite(position);
-    let refusal = common_refusal(book, setting, centred, moment < END_OF_TIME, finite);
-    if refusal == 0 {
-        return inner::rule(book, setting, centre, moment, position);
-    }
-    Err(refusal)
+    common_checks(book, setting, centred, moment < END_OF_TIME, finite)?;
+    inner::rule(book, setting, centre, moment, position)
 }

@@ -1,6 +1,7 @@
 -- What the code keeps of the bodies looked up, seen from the Earth.
-use Rattle.std.specs.Prelude.{Bool, false, List, [], ◌∷◌, ℕ, Float, Option, Some, None}
-use Rattle.base.specs.Checks.{or_later}
+use Rattle.std.specs.Prelude.{Bool, false, List, [], ◌∷◌, ℕ, Float, Option, Some, None, Ok, Err}
+use Rattle.base.specs.Checks.{Checked, ◌before◌}
+use Rattle.base.specs.declared.Refusal.{Refusal}
 use Rattle.base.specs.Choice.{if◌then◌otherwise◌, ◌=?◌, ◌≤?◌}
 use Rattle.state.specs.State.{finite_vector, used, looked_up}
 use Rattle.state.specs.declared.Vector.{Vector}
@@ -15,22 +16,22 @@ use Rattle.gravity_bodies.specs.declared.Found.{Found}
 use Rattle.gravity_bodies.specs.declared.Besides.{Besides}
 
 -- a body of which nothing is known: unused, or refused
-abbrev pub blank : Float → ℕ → Sight
-blank m k = record { refusal = k; entry = 0; m = m; place = nowhere }
+abbrev pub blank : Float → Checked → Sight
+blank m checked = record { checked = checked; entry = 0; m = m; place = nowhere }
 
 -- a body that entry i puts at p; it is refused if its position is not finite or its velocity is not (`slow` is false)
 abbrev pub found_at : Place → Bool → ℕ → Float → Sight
 found_at p slow i m =
     if finite_vector (standing p)
-    then (if slow then record { refusal = 0; entry = i; m = m; place = standing p } otherwise blank m 7)
-    otherwise blank m 7
+    then (if slow then record { checked = Ok tt; entry = i; m = m; place = standing p } otherwise blank m (Err Refusal.NotFinite))
+    otherwise blank m (Err Refusal.NotFinite)
 
 abbrev pub found_by : List ℕ → Float → ℕ → Option ℕ → Sight
-found_by b m t None = blank m 6
+found_by b m t None = blank m (Err Refusal.Cover)
 found_by b m t (Some i) = found_at (place b i t) (finite_velocity (velocity b i t)) i m
 
 unfoldable pub found_of : List ℕ → ℕ → Float → Bool → ℕ → Sight
-found_of b number m for_light t = if looked_up m for_light then found_by b m t (lookup b number t) otherwise blank m 0
+found_of b number m for_light t = if looked_up m for_light then found_by b m t (lookup b number t) otherwise blank m (Ok tt)
 
 unfoldable pub found_in : List ℕ → Setting → ℕ → Found
 found_in b s t =
@@ -62,13 +63,13 @@ besides centre earth f =
       fifth = if centre ≤? 5 then f.jupiter otherwise f.mars;
     }
 
--- the first refusal in rising number, 0 if there is none
-unfoldable pub refusal_of : List Sight → ℕ
-refusal_of [] = 0
-refusal_of (b ∷ rest) = or_later b.refusal (refusal_of rest)
+-- the first refusal in rising number, if there is one
+unfoldable pub all_checked : List Sight → Checked
+all_checked [] = Ok tt
+all_checked (b ∷ rest) = b.checked before all_checked rest
 
-unfoldable pub refusal_in : Found → ℕ
-refusal_in f = refusal_of (f.moon ∷ f.sun ∷ f.venus ∷ f.mars ∷ f.jupiter ∷ [])
+unfoldable pub all_found : Found → Checked
+all_found f = all_checked (f.moon ∷ f.sun ∷ f.venus ∷ f.mars ∷ f.jupiter ∷ [])
 
 -- the entry found, or the guess that was given
 abbrev pub entry_or : ℕ → Option ℕ → ℕ

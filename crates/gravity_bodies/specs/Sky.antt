@@ -17,10 +17,9 @@ pub record Body : Type 0 where
   pub m : Float
   pub R : Vector
 
--- the bodies looked up, or the number of the first refusal: 6 or 7
-pub data Sky : Type 0 where
-  Bodies : List Body → Sky
-  Refusal : ℕ → Sky
+-- the bodies looked up, or the first refusal: 6 or 7
+abbrev pub Sky : Type 0
+Sky = Result (List Body) Refusal
 
 abbrev pub standing : Place → Vector
 standing p = record { x = p.x; y = p.y; z = p.z }
@@ -41,13 +40,13 @@ pub record Listed : Type 0 where
 
 -- one body's answer before the bodies after it: the first refusal counts
 abbrev pub seen : Listed → Result Motion Refusal → Sky → Sky
-seen body (Ok M) (Bodies later) = Bodies (record { number = body.number; m = body.m; R = standing M.place } ∷ later)
-seen body (Ok M) (Refusal k) = Refusal k
-seen body (Err k) later = Refusal k
+seen body (Ok M) (Ok later) = Ok (record { number = body.number; m = body.m; R = standing M.place } ∷ later)
+seen body (Ok M) (Err k) = Err k
+seen body (Err k) later = Err k
 
 -- "looked up in rising number first, each for cover (6), then for a finite position (7)"; and, document 02, R-5, for a finite velocity (7)
 abbrev pub sky_of : List ℕ → ℕ → List Listed → Sky
-sky_of b t [] = Bodies []
+sky_of b t [] = Ok []
 sky_of b t (body ∷ rest) = if looked_up body.m body.for_light then seen body (stands b body.number t) (sky_of b t rest) otherwise sky_of b t rest
 
 -- "1 Earth, 2 Moon, 3 Sun, 4 Venus, 5 Mars, 6 Jupiter"

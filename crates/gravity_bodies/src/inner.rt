@@ -5,6 +5,7 @@ ghost use Rattle.book.specs.Calm.{Ready};
 ghost use Rattle.gravity_bodies.specs.Looked.{found_at, found_of};
 
 use crate::{Sight, TwoSights, blank_sight};
+use base::Refusal;
 use book::Place;
 use state::Vector;
 
@@ -20,15 +21,15 @@ fn found_at(p: Place, slow: bool, entry: usize, m: f64) -> Sight
     if state::vector_is_finite(place) {
         if slow {
             return Sight {
-                refusal: 0,
+                checked: Ok(()),
                 entry,
                 m,
                 place,
             };
         }
-        return blank_sight(m, 7);
+        return blank_sight(m, Err(Refusal::NotFinite));
     }
-    blank_sight(m, 7)
+    blank_sight(m, Err(Refusal::NotFinite))
 }
 
 // Looks up a body if it pulls, or for its light (02, R-7). `calm` may be true only for a book in which no velocity
@@ -48,13 +49,13 @@ pub fn found(
     if state::is_looked_up(m, light) {
         let Some(entry) = book::inner::lookup_guessed(book, number, moment, guess as usize)
         else {
-            return blank_sight(m, 6);
+            return blank_sight(m, Err(Refusal::Cover));
         };
         let place = book::inner::place_at(book, entry, moment);
         let slow = book::inner::slow_at(book, entry, moment, calm);
         return found_at(place, slow, entry, m);
     }
-    blank_sight(m, 0)
+    blank_sight(m, Ok(()))
 }
 
 // The Moon and the Sun, one after the other.

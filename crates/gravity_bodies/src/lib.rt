@@ -6,15 +6,15 @@ pub mod inner;
 
 ghost use Rattle.std.specs.Prelude.{◌≡◌};
 ghost use Rattle.base.specs.Choice.{if◌then◌otherwise◌};
-ghost use Rattle.gravity_bodies.specs.Looked.{blank, refusal_in, place_in, besides};
-ghost use Rattle.base.specs.Checks.{or_later};
+ghost use Rattle.gravity_bodies.specs.Looked.{blank, all_found, place_in, besides};
 
+use base::Refusal;
 use state::Vector;
 
-// One body looked up at a moment: a refusal number, or its position seen from the Earth.
+// One body looked up at a moment: whether it was refused, and its position seen from the Earth.
 #[derive(Clone, Copy)]
 pub struct Sight {
-    pub refusal: u64,
+    pub checked: Result<(), Refusal>,
     pub entry: usize,
     pub m: f64,
     pub place: Vector,
@@ -47,8 +47,8 @@ pub struct Besides {
 }
 
 // A body about which nothing is known; and the Earth, whose position is zero.
-pub fn blank_sight(m: f64, refusal: u64) -> Sight
-    ensures { result ≡ blank m refusal }
+pub fn blank_sight(m: f64, checked: Result<(), Refusal>) -> Sight
+    ensures { result ≡ blank m checked }
 {
     let place = Vector {
         x: 0.0,
@@ -56,33 +56,29 @@ pub fn blank_sight(m: f64, refusal: u64) -> Sight
         z: 0.0,
     };
     Sight {
-        refusal,
+        checked,
         entry: 0,
         m,
         place,
     }
 }
 
-fn or_later(k: u64, later: u64) -> u64
-    ensures { result ≡ or_later k later }
-{
-    if k == 0 { later } else { k }
-}
-
-// The number of the first body refused, 0 if there is none.
-pub fn refusal_of(bodies: Found) -> u64
-    ensures { result ≡ refusal_in bodies }
-{
-    let moon = bodies.moon;
-    let sun = bodies.sun;
-    let venus = bodies.venus;
-    let mars = bodies.mars;
-    let jupiter = bodies.jupiter;
-    let last = or_later(mars.refusal, or_later(jupiter.refusal, 0));
-    or_later(
-        moon.refusal,
-        or_later(sun.refusal, or_later(venus.refusal, last)),
+// The refusal of the first body that is refused.
+#[tactic(
+    auto,
+    unfolding(
+        crate::specs::Looked::all_found,
+        crate::specs::Looked::all_checked
     )
+)]
+pub fn all_found(bodies: Found) -> Result<(), Refusal>
+    ensures { result ≡ all_found bodies }
+{
+    bodies.moon.checked?;
+    bodies.sun.checked?;
+    bodies.venus.checked?;
+    bodies.mars.checked?;
+    bodies.jupiter.checked
 }
 
 // The position of the centre, seen from the Earth.

@@ -17,10 +17,10 @@ use Rattle.state.specs.declared.Injection.{Injection}
 use Rattle.state.specs.declared.Setting.{Setting}
 use Rattle.gravity.specs.Acceleration.{acceleration_at}
 use Rattle.gravity.proofs.Finite.{rule_finite}
-use Rattle.base.specs.Checks.{refused_by}
+use Rattle.base.specs.Checks.{Checked, ◌before◌}
+use Rattle.base.proofs.Checks.{holds}
 use Rattle.base.proofs.Bools.{left, right}
-use Rattle.gravity.proofs.Refused.{rule_refused, as_answer}
-use Rattle.gravity_stored.specs.Injection.{rule_at, kept_by, kept, injection_refusal, injection_answer, stored_is_rule_by, stored_is_rule, stored_refusal_by, stored_refusal}
+use Rattle.gravity_stored.specs.Injection.{rule_at, kept_by, kept, injection_checks, injection_answer, stored_is_rule_by, stored_is_rule, stored_check_by, stored_check}
 
 -- ---- bits
 
@@ -43,27 +43,22 @@ module _ (b : List ℕ) (setting : Setting) where
   carries_rule s e = ap (stored_is_rule_by s) e ∙ same_vector_lem (acceleration s) (rule_finite b setting s.centre s.moment (position s) (acceleration s) e)
 
   -- a run's check passes it
-  pub stored_passes : (s : State) → stored_is_rule b setting s ≡ true → stored_refusal b setting s ≡ 0
-  unfolding stored_is_rule stored_refusal
+  pub stored_passes : (s : State) → stored_is_rule b setting s ≡ true → stored_check b setting s ≡ Ok tt
+  unfolding stored_is_rule stored_check
   stored_passes s = go (rule_at b setting (bare s))
     where
-      go : (q : Result Vector Refusal) → stored_is_rule_by s q ≡ true → stored_refusal_by s q ≡ 0
+      go : (q : Result Vector Refusal) → stored_is_rule_by s q ≡ true → stored_check_by s q ≡ Ok tt
       go (Ok a) e = rw e
-      go (Err k) e = let z : ◌≡◌ {A = Bool} true false = sym e in let n : ◌≡◌ {A = ℕ} 0 1 = cc in absurd (omega arith)
+      go (Err k) e = let z : ◌≡◌ {A = Bool} true false = sym e in cc
 
   -- and no other value passes
-  pub only_stored : (s : State) → stored_refusal b setting s ≡ 0 → stored_is_rule b setting s ≡ true
-  unfolding stored_is_rule stored_refusal
-  only_stored s = go (rule_at b setting (bare s)) (rule_refused (λ (k : ℕ). not (k =? 0)) refl refl b setting s.centre s.moment (position s))
+  pub only_stored : (s : State) → stored_check b setting s ≡ Ok tt → stored_is_rule b setting s ≡ true
+  unfolding stored_is_rule stored_check
+  only_stored s = go (rule_at b setting (bare s))
     where
-      by : (same : Bool) → ◌≡◌ {A = ℕ} (if same then 0 otherwise 15) 0 → same ≡ true
-      by true e = refl
-      by false e = absurd (omega arith)
-
-      go : (q : Result Vector Refusal) → refused_by (λ (k : ℕ). not (k =? 0)) (as_answer q) ≡ true → stored_refusal_by s q ≡ 0 → stored_is_rule_by s q ≡ true
-      go (Ok a) some e = by (same_vector a (acceleration s)) e
-      go (Err zero) some e = some
-      go (Err (suc k)) some e = absurd (omega arith)
+      go : (q : Result Vector Refusal) → stored_check_by s q ≡ Ok tt → stored_is_rule_by s q ≡ true
+      go (Ok a) e = holds (same_vector a (acceleration s)) Refusal.Stored e
+      go (Err k) e = cc
 
   -- the rule makes such a state
   kept_by_lem : (i : Injection) (q : Result Vector Refusal) (s : State) → rule_at b setting i ≡ q → kept_by i q ≡ Ok s → stored_is_rule b setting s ≡ true
@@ -79,8 +74,8 @@ module _ (b : List ℕ) (setting : Setting) where
   -- "Injection .. must keep it equal to the rule at that state"
   pub injection_is_rule : (i : Injection) (s : State) → injection_answer b setting i ≡ Ok s → stored_is_rule b setting s ≡ true
   unfolding injection_answer
-  injection_is_rule i s = go (injection_refusal b setting i =? 0)
+  injection_is_rule i s = go (injection_checks b setting i)
     where
-      go : (none : Bool) → (if none then kept b setting i otherwise Err (injection_refusal b setting i)) ≡ Ok s → stored_is_rule b setting s ≡ true
-      go true e = kept_is_rule i s e
-      go false e = let z : ◌≡◌ {A = ℕ} 0 1 = cc in absurd (omega arith)
+      go : (checks : Checked) → (checks before kept b setting i) ≡ Ok s → stored_is_rule b setting s ≡ true
+      go (Ok tt) e = kept_is_rule i s e
+      go (Err k) e = cc

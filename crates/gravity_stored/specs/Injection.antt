@@ -2,13 +2,13 @@
 use Rattle.base.specs.declared.Refusal.{Refusal}
 use Rattle.state.specs.declared.Vector.{Vector}
 use Rattle.std.specs.Prelude.{Bool, false, List, ℕ, Result, Ok, Err}
-use Rattle.base.specs.Choice.{if◌then◌otherwise◌, ◌=?◌}
 use Rattle.base.specs.Limits.{is_moment}
 use Rattle.state.specs.State.{acceleration, starting_position, carrying, bare, same_vector, finite_injection, centre_allowed}
 use Rattle.state.specs.declared.State.{State}
 use Rattle.state.specs.declared.Injection.{Injection}
 use Rattle.state.specs.declared.Setting.{Setting}
-use Rattle.state_checks.specs.Common.{common_refusal}
+use Rattle.base.specs.Checks.{Checked, require, ◌before◌}
+use Rattle.state_checks.specs.Common.{common_checks}
 use Rattle.gravity.specs.Acceleration.{nowhere, acceleration_at}
 
 -- "the rule at that state"
@@ -23,16 +23,14 @@ kept_by i (Err k) = Err k
 unfoldable pub kept : List ℕ → Setting → Injection → Result State Refusal
 kept b setting i = kept_by i (rule_at b setting i)
 
--- the checks of the injection call: 1, 4, 14, 3, "7 for position and velocity"; 0 if all pass
-unfoldable pub injection_refusal : List ℕ → Setting → Injection → ℕ
-injection_refusal b setting i =
-    common_refusal b setting (centre_allowed setting i.centre) (is_moment i.moment) (finite_injection i)
+-- the checks of the injection call: 1, 4, 14, 3, "7 for position and velocity"
+unfoldable pub injection_checks : List ℕ → Setting → Injection → Checked
+injection_checks b setting i =
+    common_checks b setting (centre_allowed setting i.centre) (is_moment i.moment) (finite_injection i)
 
 -- "after 7 for position and velocity, the rule's own 6 or 7"
 unfoldable pub injection_answer : List ℕ → Setting → Injection → Result State Refusal
-injection_answer b setting i =
-    let k = injection_refusal b setting i in
-    if k =? 0 then kept b setting i otherwise Err k
+injection_answer b setting i = injection_checks b setting i before kept b setting i
 
 -- Whether the acceleration stored with a state is the rule's at that state, "by its bits".
 abbrev pub stored_is_rule_by : State → Result Vector Refusal → Bool
@@ -42,13 +40,13 @@ stored_is_rule_by s (Err k) = false
 unfoldable pub stored_is_rule : List ℕ → Setting → State → Bool
 stored_is_rule b setting s = stored_is_rule_by s (rule_at b setting (bare s))
 
--- "A run call checks it once": "the rule's own 6 or 7, then, in a run, 15 for a stored value that is not the rule's"; 0 if it is
-abbrev pub stored_refusal_by : State → Result Vector Refusal → ℕ
-stored_refusal_by s (Ok a) = if same_vector a (acceleration s) then 0 otherwise 15
-stored_refusal_by s (Err k) = k
+-- "A run call checks it once": "the rule's own 6 or 7, then, in a run, 15 for a stored value that is not the rule's"
+abbrev pub stored_check_by : State → Result Vector Refusal → Checked
+stored_check_by s (Ok a) = require (same_vector a (acceleration s)) Refusal.Stored
+stored_check_by s (Err k) = Err k
 
-unfoldable pub stored_refusal : List ℕ → Setting → State → ℕ
-stored_refusal b setting s = stored_refusal_by s (rule_at b setting (bare s))
+unfoldable pub stored_check : List ℕ → Setting → State → Checked
+stored_check b setting s = stored_check_by s (rule_at b setting (bare s))
 
 -- An old order and an old line give no acceleration: the one "that the rule gives" is meant. If the injection is refused there is none.
 -- Then zeros are stored, and the run refuses before it reads them.

@@ -5,21 +5,17 @@ ghost use Rattle.std.specs.Prelude.{true, ◌≡◌};
 ghost use Rattle.state.specs.State.{starting_position, centre_allowed};
 ghost use Rattle.book.specs.Passes.{passes};
 ghost use Rattle.gravity.specs.Sight.{acceleration_by};
-ghost use Rattle.gravity_stored.specs.Injection.{kept_by, kept, stored_refusal_by, stored_refusal};
+ghost use Rattle.gravity_stored.specs.Injection.{kept_by, kept, stored_check_by, stored_check};
 
-use base::Refusal;
-use state::Vector;
+use base::{Refusal, require};
 use gravity::inner::{acceleration_under, rule};
 use gravity::Sights;
-use state::{Injection, Setting, State, acceleration_of, carrying, position_of, starting_position};
+use state::{Injection, Setting, State, Vector, acceleration_of, carrying, position_of, starting_position};
 
 fn keep(i: Injection, answer: Result<Vector, Refusal>) -> Result<State, Refusal>
     ensures { result ≡ kept_by i answer }
 {
-    match answer {
-        Ok(a) => Ok(carrying(i, a)),
-        Err(k) => Err(k),
-    }
+    Ok(carrying(i, answer?))
 }
 
 // The bodies at its moment are known already.
@@ -30,6 +26,8 @@ pub fn kept_under(bodies: Sights, setting: Setting, i: Injection) -> Result<Stat
     keep(i, answer)
 }
 
+#[tactic(auto, unfolding(crate::specs::Injection::kept))]
+
 pub fn kept_at(book: &[u8], setting: Setting, i: Injection) -> Result<State, Refusal>
     requires { (passes book.now ≡ true) × (centre_allowed setting i.centre ≡ true) }
     ensures { result ≡ kept book.now setting i }
@@ -38,25 +36,21 @@ pub fn kept_at(book: &[u8], setting: Setting, i: Injection) -> Result<State, Ref
     keep(i, answer)
 }
 
-fn stored_refusal_by(s: State, answer: Result<Vector, Refusal>) -> u64
-    ensures { result ≡ stored_refusal_by s answer }
+fn stored_check_by(s: State, answer: Result<Vector, Refusal>) -> Result<(), Refusal>
+    ensures { result ≡ stored_check_by s answer }
 {
-    match answer {
-        Ok(a) => {
-            if state::vectors_agree(a, acceleration_of(s)) {
-                return 0;
-            }
-            15
-        }
-        Err(k) => k,
-    }
+    require(
+        state::vectors_agree(answer?, acceleration_of(s)),
+        Refusal::Stored,
+    )
 }
 
-// Whether the acceleration stored with a state is the rule's: 0, or the refusal number.
-pub fn stored_refusal(book: &[u8], setting: Setting, s: State) -> u64
+// Whether the acceleration stored with a state is the rule's.
+#[tactic(auto, unfolding(crate::specs::Injection::stored_check))]
+pub fn stored_check(book: &[u8], setting: Setting, s: State) -> Result<(), Refusal>
     requires { (passes book.now ≡ true) × (centre_allowed setting s.centre ≡ true) }
-    ensures { result ≡ stored_refusal book.now setting s }
+    ensures { result ≡ stored_check book.now setting s }
 {
     let answer = rule(book, setting, s.centre, s.moment, position_of(s));
-    stored_refusal_by(s, answer)
+    stored_check_by(s, answer)
 }

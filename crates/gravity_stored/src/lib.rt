@@ -6,31 +6,30 @@
 pub mod inner;
 
 ghost use Rattle.std.specs.Prelude.{◌≡◌};
-ghost use Rattle.gravity_stored.specs.Injection.{injection_refusal, injection_answer, or_none, launched};
+ghost use Rattle.gravity_stored.specs.Injection.{injection_checks, injection_answer, or_none, launched};
 
 use base::Refusal;
 use base::END_OF_TIME;
 use state::{Injection, Setting, State, Vector, carrying};
-use state_checks::common_refusal;
+use state_checks::common_checks;
 
-// The number of the first check that fails, or 0.
-fn injection_refusal(book: &[u8], setting: Setting, i: Injection) -> u64
-    ensures { result ≡ injection_refusal book.now setting i }
+#[tactic(auto, unfolding(crate::specs::Injection::injection_checks))]
+
+fn injection_checks(book: &[u8], setting: Setting, i: Injection) -> Result<(), Refusal>
+    ensures { result ≡ injection_checks book.now setting i }
 {
     let centred = state::centre_is_allowed(setting, i.centre);
     let finite = state::injection_is_finite(i);
-    common_refusal(book, setting, centred, i.moment < END_OF_TIME, finite)
+    common_checks(book, setting, centred, i.moment < END_OF_TIME, finite)
 }
 
 // The state with the acceleration that the rule gives it.
+#[tactic(auto, using(crate::proofs::Checked::injectable), unfolding(crate::specs::Injection::injection_answer))]
 pub fn inject(book: &[u8], setting: Setting, injection: Injection) -> Result<State, Refusal>
     ensures { result ≡ injection_answer book.now setting injection }
 {
-    let refusal = injection_refusal(book, setting, injection);
-    if refusal == 0 {
-        return inner::kept_at(book, setting, injection);
-    }
-    Err(refusal)
+    injection_checks(book, setting, injection)?;
+    inner::kept_at(book, setting, injection)
 }
 
 fn or_none(i: Injection, answer: Result<State, Refusal>) -> State
@@ -51,6 +50,7 @@ fn or_none(i: Injection, answer: Result<State, Refusal>) -> State
 
 // The state of an old order, from which a run may start. If the rule gives it no acceleration, the run refuses before
 // it reads one.
+#[tactic(auto, unfolding(crate::specs::Injection::launched))]
 pub fn launch(book: &[u8], setting: Setting, injection: Injection) -> State
     ensures { result ≡ launched book.now setting injection }
 {

@@ -23,7 +23,7 @@ sizes_pass true false e = absurd (omega arith)
 sizes_pass false sizes e = absurd (omega arith)
 
 module _ (s : Sphere) (rule moment dut : ℕ) (angles sizes : Bool) (a : angles ≡ angles_allowed s) (z : sizes ≡ sizes_allowed s) where
-  pub refused : (k : ℕ) → k ≡ checks angles sizes → (k ≡ 0 → ⊥) → Err k ≡ injection_answer s rule moment dut
+  pub refused : (k : Refusal) → k ≡ checks angles sizes → (k ≡ 0 → ⊥) → Err k ≡ injection_answer s rule moment dut
   unfolding injection_answer
   refused k e some = rw (← a, ← z, e) (go angles sizes (λ h. some (rw (e, h))))
     where

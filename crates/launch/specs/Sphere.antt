@@ -3,6 +3,7 @@ use Rattle.base.specs.declared.Refusal.{Refusal}
 use Rattle.std.specs.Prelude.{Bool, not, ◌&&◌, ℕ, ◌-◌, Result, Ok, Err}
 use Rattle.std.specs.Float.Ieee.Scale.{finite}
 use Rattle.base.specs.Choice.{if◌then◌otherwise◌, ◌<?◌, ◌≤?◌, ◌=?◌}
+use Rattle.base.specs.Checks.{require, ◌before◌}
 use Rattle.base.specs.Limits.{circle}
 use Rattle.base.specs.Floats.{above0}
 use Rattle.state.specs.declared.Injection.{Injection}
@@ -48,9 +49,10 @@ sizes_allowed s = finite s.radius && finite s.speed && above0 s.radius
 -- "Refusals, after 4 and 3: angle out of range 12; radius or speed not finite, radius not above 0, or a non-finite result, 7"
 unfoldable pub injection_answer : Sphere → ℕ → ℕ → ℕ → Result Injection Refusal
 injection_answer s rule moment dut =
-    if not (angles_allowed s) then Err Refusal.Angle otherwise
-    if not (sizes_allowed s) then Err Refusal.NotFinite otherwise
-    if finite_injection (injected s rule moment dut) then Ok (injected s rule moment dut) otherwise Err Refusal.NotFinite
+    require (angles_allowed s) Refusal.Angle
+    before require (sizes_allowed s) Refusal.NotFinite
+    before require (finite_injection (injected s rule moment dut)) Refusal.NotFinite
+    before Ok (injected s rule moment dut)
 
 -- an answer after the refusals of the hour angle, 4 (DUT, rule) and 3
 abbrev pub after_hour : Result ℕ Refusal → Result Injection Refusal → Result Injection Refusal

@@ -8,7 +8,7 @@ ghost use Rattle.launch.specs.Signed.{signed_of};
 ghost use Rattle.launch.specs.Sphere.{quarter, angles_allowed, parts_of, place_of, velocity_of, injected, sizes_allowed, injection_answer, sphere_answer};
 
 use base::Refusal;
-use base::{CIRCLE, unless};
+use base::{CIRCLE, require};
 use launch_turns::{horizontal_velocity, place_on, relative_velocity, returned_state};
 use state::{Injection, Vector};
 
@@ -126,24 +126,16 @@ fn injection(s: Sphere, rule: u64, moment: u64, dut: u32, parts: u64) -> Result<
     requires { sidereal_answer rule moment dut ≡ Ok parts }
     ensures { result ≡ injection_answer s rule moment dut }
 {
-    let angles = angles_allowed(s);
-    let sizes = sizes_allowed(s);
-    let refusal = unless(angles, 12, unless(sizes, 7, 0));
-    if refusal == 0 {
-        let state = injected_state(s, rule, moment, dut, parts);
-        if state::injection_is_finite(state) {
-            return Ok(state);
-        }
-        return Err(Refusal::NotFinite);
-    }
-    Err(refusal)
+    require(angles_allowed(s), Refusal::Angle)?;
+    require(sizes_allowed(s), Refusal::NotFinite)?;
+    let state = injected_state(s, rule, moment, dut, parts);
+    require(state::injection_is_finite(state), Refusal::NotFinite)?;
+    Ok(state)
 }
 
 pub fn from_sphere(s: Sphere, rule: u64, moment: u64, dut: u32) -> Result<Injection, Refusal>
     ensures { result ≡ sphere_answer s rule moment dut }
 {
-    match hour::sidereal(rule, moment, dut) {
-        Ok(parts) => injection(s, rule, moment, dut, parts),
-        Err(number) => Err(number),
-    }
+    let parts = hour::sidereal(rule, moment, dut)?;
+    injection(s, rule, moment, dut, parts)
 }

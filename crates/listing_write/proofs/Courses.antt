@@ -6,16 +6,17 @@ use mathlib.Core.Path.{◌≡◌, refl, sym, ap, ◌∙◌}
 use native.Mathlib.Nat.{suc-mul, div-le_self}
 use native.Mathlib.Omega.{arith}
 use lib.ListN.{length, take, drop}
+use Rattle.base.specs.declared.Refusal.{Refusal}
+use Rattle.std.specs.Prelude.{Ok, Err}
 use Rattle.state.specs.State.{centre_allowed}
 use Rattle.state.specs.declared.State.{State}
 use Rattle.state.specs.declared.Setting.{Setting}
 use Rattle.gravity.specs.declared.Guesses.{Guesses}
-use Rattle.run.specs.Step.{Moved, On, Off, step}
+use Rattle.run.specs.Step.{Moved, step}
 use Rattle.run_checks.specs.Start.{within_steps}
 use Rattle.run.specs.Kept.{kept, entries_after, MayStep, MayWalk}
 use Rattle.run.specs.declared.Outcome.{Outcome}
 use Rattle.run.specs.declared.Outcome.TheVariants.{Arrived, Going, Refused}
-use Rattle.step_end.specs.declared.Stepped.TheVariants as stepped
 use Rattle.run_checks.proofs.Allowed.{away}
 use Rattle.run.proofs.OneStep.{done}
 use Rattle.run.proofs.Walked.{handed_on, handed_off}
@@ -35,12 +36,12 @@ module _ (f : State → Moved) (did : ℕ) (s : State) where
   text_ends zero e = refl
   text_ends (suc left) e = absurd (omega arith)
 
-  pub text_goes_on : (left : ℕ) (next : State) → (left ≡ 0 → ⊥) → f s ≡ On next → course_text f left did s ≡ state_line next ++ course_text f (left - 1) (did + 1) next
+  pub text_goes_on : (left : ℕ) (next : State) → (left ≡ 0 → ⊥) → f s ≡ Ok next → course_text f left did s ≡ state_line next ++ course_text f (left - 1) (did + 1) next
   unfolding course_text
   text_goes_on zero next some e = absurd (some refl)
   text_goes_on (suc left) next some e = let l : suc left - 1 ≡ left = omega arith in rw (e, l)
 
-  pub text_refused : (left k : ℕ) → (left ≡ 0 → ⊥) → f s ≡ Off k → course_text f left did s ≡ outcome_line (Refused k) did
+  pub text_refused : (left : ℕ) (k : Refusal) → (left ≡ 0 → ⊥) → f s ≡ Err k → course_text f left did s ≡ outcome_line (Refused k) did
   unfolding course_text
   text_refused zero k some e = absurd (some refl)
   text_refused (suc left) k some e = rw e
@@ -83,11 +84,11 @@ module _ (b : List ℕ) (setting : Setting) (h : ℕ) (from : Course) (before : 
             omega arith
 
     module _ (some : left ≡ 0 → ⊥) where
-      pub refuses : (k : ℕ) → stepped.Off k ≡ kept (entries_after b setting h now) (step b setting h now) → Advanced b setting h from before out (portion_of (Refused k) now entries left did at)
+      pub refuses : (k : Refusal) → Err k ≡ kept (entries_after b setting h now) (step b setting h now) → Advanced b setting h from before out (portion_of (Refused k) now entries left did at)
       refuses k e = ends (Refused k) (text_refused (step b setting h) did now left k some (handed_off _ _ k e)) (λ z. let c : ◌≡◌ {A = ℕ} 0 1 = cc in absurd (omega arith))
 
       pub goes_on : (next : State) (seen : Guesses) (after : List ℕ) (r : ℕ)
-          → stepped.On next seen ≡ kept (entries_after b setting h now) (step b setting h now)
+          → Ok next seen ≡ kept (entries_after b setting h now) (step b setting h now)
           → Wrote out at (state_line next) after r → at + longest_line ≤ length out → length after ≡ length out
           → Listing after next seen (left - 1) (did + 1) r
       goes_on next seen after r e w room same =

@@ -3,6 +3,7 @@ use Prim.Native.Nat.{ℕ}
 use mathlib.Core.List.{List, [], ◌∷◌}
 use mathlib.Core.Path.{◌≡◌, refl, ◌∙◌}
 use lib.Ieee.{binary64, neg, add, sub, mul, div, of_bits, of_int, of_fields, odd, to_bits, size, lt, eq}
+use Rattle.std.specs.Prelude.{Ok}
 use Rattle.base.specs.Floats.{zero64}
 use Rattle.root.specs.Root.{root_of}
 use Rattle.base_bytes.specs.Bytes.{u16_at, u32_at, u64_at}
@@ -14,10 +15,10 @@ use Rattle.state.specs.declared.Setting.{Setting}
 use Rattle.gravity_pull.specs.Pull.{g, sound, r3}
 use Rattle.gravity.specs.Acceleration.{acceleration_at}
 use Rattle.gravity_bodies.specs.Sky.{sky}
-use Rattle.gravity_stored.specs.Injection.{kept, injection_refusal, injection_answer, launched, stored_refusal}
-use Rattle.state_checks.specs.Common.{common_refusal}
-use Rattle.run_target.specs.Target.{target_refusal}
-use Rattle.run_checks.specs.Start.{inputs_refusal, start_refusal}
+use Rattle.gravity_stored.specs.Injection.{kept, injection_checks, injection_answer, launched, stored_check}
+use Rattle.state_checks.specs.Common.{common_checks}
+use Rattle.run_target.specs.Target.{target_checks}
+use Rattle.run_checks.specs.Start.{inputs_checks, start_checks}
 use Rattle.run.specs.Run.{run_to}
 use Rattle.text_write.specs.Numerals.{digits, shortest, decimal_of, float_text}
 use Rattle.listing_write.specs.Lines.{header_line, vector_text, state_line, arrived_line}
@@ -64,16 +65,16 @@ unfolding strip_text read_order u16_at u32_at u64_at given
 order_read = refl
 
 launched_there : launched book setting injection ≡ state
-unfolding launched injection_answer injection_refusal common_refusal kept passes setting_allowed coefficients_allowed terms_allowed centre_allowed coefficient_of
+unfolding launched injection_answer injection_checks common_checks kept passes setting_allowed coefficients_allowed terms_allowed centre_allowed coefficient_of
     u16_at u32_at u64_at acceleration_at sky g sound r3 n root_of neg add sub mul div lt eq of_bits of_int
 launched_there = refl
 
-in_order : stored_refusal book setting state ≡ 0
-unfolding stored_refusal same_vector coefficient_of acceleration_at sky g sound r3 n root_of neg add sub mul div lt eq of_bits of_int to_bits
+in_order : stored_check book setting state ≡ Ok tt
+unfolding stored_check same_vector coefficient_of acceleration_at sky g sound r3 n root_of neg add sub mul div lt eq of_bits of_int to_bits
 in_order = refl
 
 order_printed : order_text book (record { setting = setting; injection = injection; h = 1000; target = 0 }) ≡ printed
-unfolding order_text start_refusal inputs_refusal target_refusal common_refusal passes setting_allowed coefficients_allowed terms_allowed centre_allowed coefficient_of
+unfolding order_text start_checks inputs_checks target_checks common_checks passes setting_allowed coefficients_allowed terms_allowed centre_allowed coefficient_of
     run_to states_after state_lines header_line state_line vector_text arrived_line decimal_of shortest digits float_text u16_at u32_at u64_at of_bits of_int of_fields odd to_bits size lt printed
 order_printed = rw (launched_there, in_order)
 

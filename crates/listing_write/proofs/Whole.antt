@@ -11,13 +11,14 @@ use borrow.Author.Tests.{le-ltb, lt-leb, ltb-true, ltb-false}
 use lib.Dec.{ltb}
 use lib.ListN.{length, get_or, take, drop, length-drop}
 use lib.Seq.{take_all, length-take-le, drop-append-add, drop_at}
+use Rattle.std.specs.Prelude.{Ok, Err}
 use Rattle.state.specs.declared.State.{State}
 use Rattle.book.specs.Passes.{longest_book, passes}
-use Rattle.run.specs.Step.{Moved, On, Off, step}
+use Rattle.run.specs.Step.{Moved, step}
 use Rattle.run.specs.Walk.{walk}
 use Rattle.gravity_stored.specs.Injection.{launched}
-use Rattle.state_checks.specs.Common.{common_refusal}
-use Rattle.run_checks.specs.Start.{inputs_refusal, start_refusal}
+use Rattle.state_checks.specs.Common.{common_checks}
+use Rattle.run_checks.specs.Start.{inputs_checks, start_checks}
 use Rattle.run.specs.Run.{Reached, counted, run_to}
 use Rattle.run_checks.proofs.Allowed.{away}
 use Rattle.run.proofs.OneStep.{done}
@@ -37,30 +38,30 @@ use Rattle.listing_write.proofs.Courses.{text_goes_on}
 
 -- ---- the states listed are those of the plain walk, in order
 
-pub states_walk : (f : State → Moved) (other : State) (n : ℕ) (s : State) (i : ℕ) → i < length (states_after f n s) → walk f (suc i) s ≡ On (get_or (states_after f n s) i other)
+pub states_walk : (f : State → Moved) (other : State) (n : ℕ) (s : State) (i : ℕ) → i < length (states_after f n s) → walk f (suc i) s ≡ Ok (get_or (states_after f n s) i other)
 unfolding states_after walk
 states_walk f other zero s i h = absurd (omega arith)
 states_walk f other (suc n) s i h = go (f s) refl i h (states_walk f other n)
   where
     go : (m : Moved) → f s ≡ m → (i : ℕ) → i < length (and_then (states_after f n) m)
-        → ((s : State) (i : ℕ) → i < length (states_after f n s) → walk f (suc i) s ≡ On (get_or (states_after f n s) i other))
-        → walk f (suc i) s ≡ On (get_or (and_then (states_after f n) m) i other)
-    go (Off k) e i h later = absurd (omega arith)
-    go (On next) e zero h later = e
-    go (On next) e (suc i) h later = walk_first f (suc i) s next e ∙ later next i (omega arith)
+        → ((s : State) (i : ℕ) → i < length (states_after f n s) → walk f (suc i) s ≡ Ok (get_or (states_after f n s) i other))
+        → walk f (suc i) s ≡ Ok (get_or (and_then (states_after f n) m) i other)
+    go (Err k) e i h later = absurd (omega arith)
+    go (Ok next) e zero h later = e
+    go (Ok next) e (suc i) h later = walk_first f (suc i) s next e ∙ later next i (omega arith)
 
 -- ---- the text from a place of the run on is the run's
 
 abbrev pub text_of : (State → Moved) → ℕ → State → Reached → List ℕ
 text_of f did s r = state_lines (states_after f r.steps s) ++ outcome_line r.outcome (did + r.steps)
 
-one_more : (f : State → Moved) (did : ℕ) (s next : State) (r : Reached) → f s ≡ On next → text_of f did s (counted r) ≡ state_line next ++ text_of f (did + 1) next r
+one_more : (f : State → Moved) (did : ℕ) (s next : State) (r : Reached) → f s ≡ Ok next → text_of f did s (counted r) ≡ state_line next ++ text_of f (did + 1) next r
 unfolding states_after state_lines
 one_more f did s next r e =
     let q : did + suc r.steps ≡ did + 1 + r.steps = omega arith in
     rw (add-one r.steps, e, q) (append_assoc (state_line next) (state_lines (states_after f r.steps next)) _)
 
-module _ (f : State → Moved) (h target : ℕ) (some : 1 ≤ h) (clock : (s next : State) → f s ≡ On next → next.moment ≡ s.moment + h) where
+module _ (f : State → Moved) (h target : ℕ) (some : 1 ≤ h) (clock : (s next : State) → f s ≡ Ok next → next.moment ≡ s.moment + h) where
   pub course_run : (left did : ℕ) (s : State) → s.moment + left * h ≡ target → course_text f left did s ≡ text_of f did s (run_to f target left s)
   unfolding course_text states_after state_lines
   course_run zero did s reach =
@@ -77,8 +78,8 @@ module _ (f : State → Moved) (h target : ℕ) (some : 1 ≤ h) (clock : (s nex
       go : (m : Moved) → f s ≡ m
           → ((did : ℕ) (s : State) → s.moment + left * h ≡ target → course_text f left did s ≡ text_of f did s (run_to f target left s))
           → course_text f (suc left) did s ≡ text_of f did s (run_to f target (suc left) s)
-      go (Off k) e later = rw (run_refused f target s short left k e, e, add-zero did)
-      go (On next) e later =
+      go (Err k) e later = rw (run_refused f target s short left k e, e, add-zero did)
+      go (Ok next) e later =
           let c = clock s next e in
           let l : suc left - 1 ≡ left = omega arith in
           rw (run_on f target s short left next e)
@@ -94,7 +95,7 @@ module _ (f : State → Moved) (h target : ℕ) (some : 1 ≤ h) (clock : (s nex
       ∙ ap (λ (t : List ℕ). state_line s ++ t) (sym (course_run n 0 s reach ∙ ap (λ (k : ℕ). state_lines (states_after f r.steps s) ++ outcome_line r.outcome k) (zero-add r.steps)))
 
 -- what strip prints for an order that passes: the header, the injection, and the text of its course, which the portions write
-pub order_course : (b : List ℕ) (o : Order) → start_refusal b o.setting (launched b o.setting o.injection) o.h o.target ≡ 0
+pub order_course : (b : List ℕ) (o : Order) → start_checks b o.setting (launched b o.setting o.injection) o.h o.target ≡ Ok tt
     → order_text b o
     ≡ header_line o.h
     ++ (state_line (launched b o.setting o.injection)
@@ -115,7 +116,7 @@ unfolding passes
 too_long b h = rw (lt-leb (length b) longest_book h, and-false)
 
 refused_1 : (b : List ℕ) (o : Order) → passes b ≡ false → order_text b o ≡ lone_refusal 1
-unfolding order_text start_refusal inputs_refusal common_refusal
+unfolding order_text start_checks inputs_checks common_checks
 refused_1 b o e = rw e
 
 module _ (form : Form) where

@@ -1,12 +1,12 @@
 -- How the listing of a run is written in portions: the text that is still to be written at a place of the run.
-use Rattle.std.specs.Prelude.{ℕ, zero, suc, ◌+◌, ◌*◌, ◌<◌, ◌≤◌, true, List, ◌++◌, ◌≡◌, length, take, drop}
+use Rattle.std.specs.Prelude.{ℕ, zero, suc, ◌+◌, ◌*◌, ◌<◌, ◌≤◌, true, List, ◌++◌, ◌≡◌, length, take, drop, Ok, Err}
 use Rattle.base.specs.Limits.{end_of_time}
 use Rattle.state.specs.State.{centre_allowed}
 use Rattle.state.specs.declared.State.{State}
 use Rattle.state.specs.declared.Setting.{Setting}
 use Rattle.book.specs.Passes.{passes}
 use Rattle.gravity.specs.declared.Guesses.{Guesses}
-use Rattle.run.specs.Step.{Moved, On, Off, step}
+use Rattle.run.specs.Step.{Moved, step}
 use Rattle.run.specs.declared.Outcome.{Outcome}
 use Rattle.run.specs.declared.Outcome.TheVariants.{Arrived, Going, Refused}
 use Rattle.listing_write.specs.Lines.{state_line, outcome_line}
@@ -16,8 +16,8 @@ use Rattle.listing_write.specs.declared.Portion.{Portion}
 
 -- what follows the line of a state, `left` steps from the target and with `done` steps done
 abbrev pub after_step : (State → List ℕ) → ℕ → Moved → List ℕ
-after_step later done (On next) = state_line next ++ later next
-after_step later done (Off k) = outcome_line (Refused k) done
+after_step later done (Ok next) = state_line next ++ later next
+after_step later done (Err k) = outcome_line (Refused k) done
 
 unfoldable pub course_text : (State → Moved) → ℕ → ℕ → State → List ℕ
 course_text f zero done s = outcome_line Arrived done

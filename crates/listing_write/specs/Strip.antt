@@ -3,9 +3,9 @@ use Rattle.base.specs.declared.Refusal.{Refusal}
 use Rattle.std.specs.Prelude.{ℕ, zero, suc, ◌-◌, ◌/◌, List, [], ◌∷◌, ◌++◌, drop, Result, Ok, Err}
 use Rattle.base.specs.Choice.{if◌then◌otherwise◌, ◌=?◌}
 use Rattle.state.specs.declared.State.{State}
-use Rattle.run.specs.Step.{Moved, On, Off, step}
+use Rattle.run.specs.Step.{Moved, step}
 use Rattle.gravity_stored.specs.Injection.{launched}
-use Rattle.run_checks.specs.Start.{start_refusal}
+use Rattle.run_checks.specs.Start.{start_checks}
 use Rattle.run.specs.Run.{run_to}
 use Rattle.listing_write.specs.Lines.{header_line, state_line, outcome_line, lone_refusal}
 use Rattle.strip_order.specs.Order.{order_length, read_order}
@@ -14,8 +14,8 @@ use Rattle.strip_order.specs.declared.Order.{Order}
 
 -- the states that up to n steps f reach after s, in order: a refused step ends them
 abbrev pub and_then : (State → List State) → Moved → List State
-and_then later (On next) = next ∷ later next
-and_then later (Off k) = []
+and_then later (Ok next) = next ∷ later next
+and_then later (Err k) = []
 
 unfoldable pub states_after : (State → Moved) → ℕ → State → List State
 states_after f zero s = []
@@ -39,7 +39,7 @@ steps_to s h target = (target - s.moment) / h
 unfoldable pub order_text : List ℕ → Order → List ℕ
 order_text book o =
     let s = launched book o.setting o.injection in
-    let k = start_refusal book o.setting s o.h o.target in
+    let k = start_checks book o.setting s o.h o.target in
     if k =? 0
     then header_line o.h ++ run_text (step book o.setting o.h) o.target (steps_to s o.h o.target) s
     otherwise lone_refusal k

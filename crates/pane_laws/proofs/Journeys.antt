@@ -3,10 +3,11 @@ use mathlib.Core.List.{List, [], ◌∷◌}
 use mathlib.Core.Logic.{inl}
 use mathlib.Core.Path.{◌≡◌, refl}
 use Prim.Native.Nat.{ℕ, ◌<◌}
+use Rattle.std.specs.Prelude.{Ok, Err}
 use Rattle.state.specs.declared.State.{State}
 use Rattle.state.specs.declared.Setting.{Setting}
 use Rattle.state.specs.declared.Vector.{Vector}
-use Rattle.run.specs.Step.{On, Off, step}
+use Rattle.run.specs.Step.{step}
 use Rattle.run.specs.Walk.{walk}
 use Rattle.run.specs.Run.{run_answer}
 use Rattle.run_laws.specs.Journey.{Call, journey}
@@ -54,7 +55,7 @@ module _ (setting : Setting) (h target : ℕ) (injection : State) (b : List ℕ)
       on_air setting h injection b [] d.hand (pane_of_journey b setting h target injection calls) d.desk t p e
 
   -- past the last state that the plain walk reaches, no figure
-  pub journey_off_air : (last : State) (n k t : ℕ) → walk (step b setting h) n injection ≡ On last → step b setting h last ≡ Off k → last.moment < t
+  pub journey_off_air : (last : State) (n k t : ℕ) → walk (step b setting h) n injection ≡ Ok last → step b setting h last ≡ Err k → last.moment < t
       → OffAir b setting h injection last t (frame_at (pane_of_journey b setting h target injection calls) t)
   unfolding walk_with_moves
   journey_off_air last n k t walked off past =

@@ -4,15 +4,16 @@ use mathlib.Core.List.{List, []}
 use mathlib.Core.Path.{◌≡◌, refl, sym, ap, ◌∙◌}
 use Prim.Native.Nat.{ℕ, zero, suc, ◌≤◌, ◌<◌}
 use borrow.Author.Tests.{lt-ltb, le-ltb, eq-eqb}
+use Rattle.std.specs.Prelude.{Ok}
 use Rattle.state.specs.State.{position, velocity, finite_vector}
 use Rattle.state.specs.declared.State.{State}
 use Rattle.state.specs.declared.Setting.{Setting}
 use Rattle.state.specs.declared.Vector.{Vector}
 use Rattle.base.proofs.Bools.{left}
 use Rattle.gravity.specs.declared.Guesses.{Guesses}
-use Rattle.run_checks.specs.Start.{start_refusal}
+use Rattle.run_checks.specs.Start.{start_checks}
 use Rattle.run_checks.proofs.Passed.{passed}
-use Rattle.run.specs.Step.{On, Off, step}
+use Rattle.run.specs.Step.{step}
 use Rattle.run.specs.Walk.{walk}
 use Rattle.run.specs.Run.{run_to, run_answer}
 use Rattle.run.specs.declared.Outcome.{Outcome}
@@ -69,9 +70,9 @@ newest_centre b setting h start (Two a c) newest holds is = ap (λ (x : State). 
 -- a run that is not refused returns a finite state
 finite_there_lem : (b : List ℕ) (setting : Setting) (s : State) (h target budget : ℕ) (given : Guesses) → NotRefused (run_answer b setting s h target budget given)
     → finite_vector (position (run_answer b setting s h target budget given).state) ≡ true
-finite_there_lem b setting s h target budget given goes = go (start_refusal b setting s h target) refl
+finite_there_lem b setting s h target budget given goes = go (start_checks b setting s h target) refl
   where
-    go : (k : ℕ) → start_refusal b setting s h target ≡ k → finite_vector (position (run_answer b setting s h target budget given).state) ≡ true
+    go : (k : ℕ) → start_checks b setting s h target ≡ k → finite_vector (position (run_answer b setting s h target budget given).state) ≡ true
     go zero e =
         rw (answer_is b setting s h target budget given e)
         (left _ (finite_vector (velocity (run_to (step b setting h) target budget s).state)) (checks_stay b setting h target s budget (passed b setting s h target e)).finite)
@@ -111,11 +112,11 @@ the_night setting h injection b c made start last n k night =
       shows_moving = λ hand pane t m desk e. on_air_moving setting h injection c made hand pane desk t m e;
     }
   where
-    same_start : walk_with_moves c setting h made injection ≡ On start
+    same_start : walk_with_moves c setting h made injection ≡ Ok start
     same_start =
         stand_walked c setting h injection start made (moves_fuller b c night.fuller night.pass setting h injection start made night.moves)
 
-    same_walk : (m : ℕ) (s : State) → walk (step b setting h) m start ≡ On s → walk (step c setting h) m start ≡ On s
+    same_walk : (m : ℕ) (s : State) → walk (step b setting h) m start ≡ Ok s → walk (step c setting h) m start ≡ Ok s
     same_walk m s walked = walk_fuller b c night.fuller night.pass setting h m start s (λ some. night.centred) walked
 
 -- The night as journeys: calls toward a target under b, and then, from the state that they reached, calls under the fuller book c.

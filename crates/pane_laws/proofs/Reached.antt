@@ -7,6 +7,7 @@ use Prim.Native.Nat.{ℕ, zero, suc, ◌+◌, ◌-◌, ◌*◌, ◌≤◌, ◌<�
 use native.Mathlib.Nat.{zero-mul, suc-mul, add-zero, add-mul, add-suc}
 use native.Mathlib.Decide.{dec_le}
 use native.Mathlib.Omega.{arith}
+use Rattle.std.specs.Prelude.{Ok, Err}
 use Rattle.base.specs.declared.Refusal.{Refusal}
 use Rattle.base.specs.Choice.{if◌then◌otherwise◌}
 use Rattle.state.specs.State.{centre_allowed}
@@ -14,10 +15,10 @@ use Rattle.state.specs.declared.State.{State}
 use Rattle.state.specs.declared.Setting.{Setting}
 use Rattle.book.specs.Passes.{passes}
 use Rattle.gravity.specs.declared.Guesses.{Guesses}
-use Rattle.run_checks.specs.Start.{start_refusal}
+use Rattle.run_checks.specs.Start.{start_checks}
 use Rattle.run_checks.proofs.Allowed.{long_enough}
 use Rattle.run_checks.proofs.Passed.{passed}
-use Rattle.run.specs.Step.{Moved, On, Off, step}
+use Rattle.run.specs.Step.{Moved, step}
 use Rattle.run.specs.Walk.{onward, walk}
 use Rattle.run.specs.Run.{run_to, run_answer}
 use Rattle.run.specs.declared.Outcome.{Outcome}
@@ -34,43 +35,43 @@ use Rattle.pane_live.specs.declared.TakeAnswer.TheVariants.{Taken, Refused}
 use Rattle.pane_laws.specs.Desk.{InHand}
 
 -- past a step that cannot be taken the walk reaches nothing
-module _ (f : State → Moved) (s : State) (m k : ℕ) (off : walk f m s ≡ Off k) where
-  stays_off : (j : ℕ) → walk f (m + j) s ≡ Off k
+module _ (f : State → Moved) (s : State) (m : ℕ) (k : Refusal) (off : walk f m s ≡ Err k) where
+  stays_off : (j : ℕ) → walk f (m + j) s ≡ Err k
   unfolding walk
   stays_off zero = ap (λ (n : ℕ). walk f n s) (add-zero m) ∙ off
   stays_off (suc j) = ap (λ (n : ℕ). walk f n s) (add-suc m j) ∙ ap (onward f) (stays_off j)
 
-  pub not_past : (n : ℕ) (last : State) → walk f n s ≡ On last → n < m
+  pub not_past : (n : ℕ) (last : State) → walk f n s ≡ Ok last → n < m
   not_past n last on = go (dec_le m n)
     where
       go : Dec (m ≤ n) → n < m
       go (yes past) =
           let there : m + (n - m) ≡ n = omega arith in
-          let clash : Off k ≡ On last = sym (stays_off (n - m)) ∙ ap (λ (i : ℕ). walk f i s) there ∙ on in
+          let clash : Err k ≡ Ok last = sym (stays_off (n - m)) ∙ ap (λ (i : ℕ). walk f i s) there ∙ on in
           let z : ◌≡◌ {A = ℕ} 0 1 = cc in
           absurd (omega arith)
       go (no short) = omega arith
 
 module _ (b : List ℕ) (setting : Setting) (h : ℕ) where
   -- every step of the walk moves the clock by h
-  pub walk_clock : (n : ℕ) (s last : State) → walk (step b setting h) n s ≡ On last → last.moment ≡ s.moment + n * h
+  pub walk_clock : (n : ℕ) (s last : State) → walk (step b setting h) n s ≡ Ok last → last.moment ≡ s.moment + n * h
   unfolding walk
   walk_clock zero s last e = let same : last ≡ s = cc in ap (λ (x : State). x.moment) same ∙ (let z = zero-mul h in omega arith)
   walk_clock (suc n) s last e = go (walk (step b setting h) n s) refl e (walk_clock n s)
     where
-      go : (m : Moved) → walk (step b setting h) n s ≡ m → onward (step b setting h) m ≡ On last
-          → ((middle : State) → walk (step b setting h) n s ≡ On middle → middle.moment ≡ s.moment + n * h) → last.moment ≡ s.moment + suc n * h
-      go (On middle) w e before =
+      go : (m : Moved) → walk (step b setting h) n s ≡ m → onward (step b setting h) m ≡ Ok last
+          → ((middle : State) → walk (step b setting h) n s ≡ Ok middle → middle.moment ≡ s.moment + n * h) → last.moment ≡ s.moment + suc n * h
+      go (Ok middle) w e before =
           let one = moves b setting h 0 middle last e in
           let rest = before middle w in
           let m = suc-mul n h in
           omega arith
-      go (Off k) w e before = let z : ◌≡◌ {A = ℕ} 0 1 = cc in absurd (omega arith)
+      go (Err k) w e before = let z : ◌≡◌ {A = ℕ} 0 1 = cc in absurd (omega arith)
 
   -- a state that the plain walk from start reaches
   pub record Reached (start s : State) : Type 0 where
     pub n : ℕ
-    pub walked : walk (step b setting h) n start ≡ On s
+    pub walked : walk (step b setting h) n start ≡ Ok s
     pub clock : s.moment ≡ start.moment + n * h
     pub long : 1 ≤ n → 1 ≤ h
     pub allowed : 1 ≤ n → centre_allowed setting start.centre ≡ true
@@ -90,9 +91,9 @@ module _ (b : List ℕ) (setting : Setting) (h : ℕ) where
 
   -- a run from such a state returns one, for every input
   pub ran_on : (start s : State) (target budget : ℕ) (given : Guesses) → Reached start s → Reached start (run_answer b setting s h target budget given).state
-  ran_on start s target budget given r = go (start_refusal b setting s h target) refl
+  ran_on start s target budget given r = go (start_checks b setting s h target) refl
     where
-      started : start_refusal b setting s h target ≡ 0 → Reached start (run_to (step b setting h) target budget s).state
+      started : start_checks b setting s h target ≡ Ok tt → Reached start (run_to (step b setting h) target budget s).state
       started e =
           let p = passed b setting s h target e in
           let f = run_from b setting h target s budget p in
@@ -106,7 +107,7 @@ module _ (b : List ℕ) (setting : Setting) (h : ℕ) where
             allowed = λ some. ap (centre_allowed setting) (sym (same_centre start s r)) ∙ p.centred;
           }
 
-      go : (k : ℕ) → start_refusal b setting s h target ≡ k → Reached start (run_answer b setting s h target budget given).state
+      go : (k : ℕ) → start_checks b setting s h target ≡ k → Reached start (run_answer b setting s h target budget given).state
       go zero e = rw (answer_is b setting s h target budget given e) (started e)
       go (suc k) e = rw (refused_is b setting s h target budget given k e) r
 

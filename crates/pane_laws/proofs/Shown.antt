@@ -4,10 +4,12 @@ use mathlib.Core.Path.{◌≡◌, refl, sym, ◌∙◌, subst}
 use Prim.Native.Nat.{ℕ, suc, ◌-◌, ◌*◌, ◌≤◌, ◌<◌}
 use native.Mathlib.Nat.{lt_of_mul-lt-mul_right, mul-le-mul_right}
 use native.Mathlib.Omega.{arith}
+use Rattle.base.specs.declared.Refusal.{Refusal}
+use Rattle.std.specs.Prelude.{Ok, Err}
 use Rattle.state.specs.declared.State.{State}
 use Rattle.state.specs.declared.Setting.{Setting}
 use Rattle.state.specs.declared.Vector.{Vector}
-use Rattle.run.specs.Step.{On, Off, step}
+use Rattle.run.specs.Step.{step}
 use Rattle.run.specs.Walk.{walk}
 use Rattle.run.proofs.Walks.{walk_last}
 use Rattle.centre_laws.specs.Legs.{Move, walk_with_moves, MovesStand}
@@ -30,8 +32,8 @@ use Rattle.pane_laws.proofs.Kept.{always}
 
 module _ (setting : Setting) (h : ℕ) (injection : State) (b : List ℕ) (made : List Move) (hand : List State) (pane : Pane) where
   -- the walk has one state after its last move
-  one_start : (x y : State) → walk_with_moves b setting h made injection ≡ On x → walk_with_moves b setting h made injection ≡ On y → x ≡ y
-  one_start x y e f = let same : On x ≡ On y = sym e ∙ f in cc
+  one_start : (x y : State) → walk_with_moves b setting h made injection ≡ Ok x → walk_with_moves b setting h made injection ≡ Ok y → x ≡ y
+  one_start x y e f = let same : Ok x ≡ Ok y = sym e ∙ f in cc
 
   -- two reached states of which the second is later: it has more steps
   more_steps : (start x y : State) (r : Reached b setting h start x) (q : Reached b setting h start y) → x.moment < y.moment → r.n < q.n
@@ -70,7 +72,7 @@ module _ (setting : Setting) (h : ℕ) (injection : State) (b : List ℕ) (made 
 
   -- No figure is shown for a moment that the plain walk has not reached.
   pub never_ahead : Desk setting h injection b made hand pane → (t : ℕ)
-      → ((start s : State) (n : ℕ) → walk_with_moves b setting h made injection ≡ On start → walk (step b setting h) n start ≡ On s → s.moment < t)
+      → ((start s : State) (n : ℕ) → walk_with_moves b setting h made injection ≡ Ok start → walk (step b setting h) n start ≡ Ok s → s.moment < t)
       → (p : Vector) → frame_at pane t ≡ frame.Current p → ⊥
   never_ahead desk t ahead p e =
       let shown = on_air desk t p e in
@@ -78,7 +80,7 @@ module _ (setting : Setting) (h : ℕ) (injection : State) (b : List ℕ) (made 
       let until = shown.until in
       omega arith
 
-  module _ (start last : State) (n k : ℕ) (walked : walk (step b setting h) n start ≡ On last) (off : step b setting h last ≡ Off k) (t : ℕ) (past : last.moment < t) where
+  module _ (start last : State) (n : ℕ) (k : Refusal) (walked : walk (step b setting h) n start ≡ Ok last) (off : step b setting h last ≡ Err k) (t : ℕ) (past : last.moment < t) where
     -- no state that the walk reaches is later than the last
     not_later : (s : State) → Reached b setting h start s → s.moment ≤ last.moment
     not_later s r =
@@ -100,8 +102,8 @@ module _ (setting : Setting) (h : ℕ) (injection : State) (b : List ℕ) (made 
         subst (OffAir b setting h start last t) (sym (frames.late a c t gone)) (late holds.1.n c holds.1.walked within gone)
 
   -- For all actions of the desk: while the step after `last` cannot be taken under the book in use, nothing past `last` is on air.
-  pub off_air : Desk setting h injection b made hand pane → (start last : State) (n k t : ℕ) → walk_with_moves b setting h made injection ≡ On start
-      → walk (step b setting h) n start ≡ On last → step b setting h last ≡ Off k → last.moment < t → OffAir b setting h start last t (frame_at pane t)
+  pub off_air : Desk setting h injection b made hand pane → (start last : State) (n k t : ℕ) → walk_with_moves b setting h made injection ≡ Ok start
+      → walk (step b setting h) n start ≡ Ok last → step b setting h last ≡ Err k → last.moment < t → OffAir b setting h start last t (frame_at pane t)
   off_air desk start last n k t moved walked off past =
       let sound = always setting h injection b made hand pane desk in
       let same = one_start sound.start start (stand_walked b setting h injection sound.start made sound.stand) moved in
@@ -119,8 +121,8 @@ module _ (setting : Setting) (h : ℕ) (injection : State) (b : List ℕ) (made 
         speed = velocity_of shown.older shown.newer t m (subst (λ (p : Pane). motion_at p t ≡ motion.Current m) shown.held e);
       }
 
-  pub off_air_moving : Desk setting h injection b made hand pane → (start last : State) (n k t : ℕ) → walk_with_moves b setting h made injection ≡ On start
-      → walk (step b setting h) n start ≡ On last → step b setting h last ≡ Off k → last.moment < t → OffAirMoving b setting h start last t (motion_at pane t)
+  pub off_air_moving : Desk setting h injection b made hand pane → (start last : State) (n k t : ℕ) → walk_with_moves b setting h made injection ≡ Ok start
+      → walk (step b setting h) n start ≡ Ok last → step b setting h last ≡ Err k → last.moment < t → OffAirMoving b setting h start last t (motion_at pane t)
   off_air_moving desk start last n k t moved walked off past =
       go (frame_at pane t) refl (off_air desk start last n k t moved walked off past)
     where

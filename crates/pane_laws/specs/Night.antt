@@ -1,13 +1,14 @@
 -- A night on which a record of the book in use ends, and a fuller book arrives later. The record of the Moon ended at 02:10, and the fuller
 -- book came at 02:41.
-use Rattle.std.specs.Prelude.{true, List, ◌≡◌, ℕ, ◌≤◌, ◌<◌}
+use Rattle.base.specs.declared.Refusal.{Refusal}
+use Rattle.std.specs.Prelude.{true, List, ◌≡◌, ℕ, ◌≤◌, ◌<◌, Ok, Err}
 use Rattle.state.specs.State.{position, centre_allowed}
 use Rattle.state.specs.declared.State.{State}
 use Rattle.state.specs.declared.Setting.{Setting}
 use Rattle.state.specs.declared.Vector.{Vector}
 use Rattle.book.specs.Passes.{passes}
 use Rattle.gravity.specs.declared.Guesses.{Guesses}
-use Rattle.run.specs.Step.{On, Off, step}
+use Rattle.run.specs.Step.{step}
 use Rattle.run.specs.Walk.{walk}
 use Rattle.run.specs.Run.{run_answer}
 use Rattle.run.specs.declared.Outcome.TheVariants as outcome
@@ -44,7 +45,7 @@ Newest (Two a b) s = b ≡ s
 
 -- a run that was not refused
 abbrev pub NotRefused : RunAnswer → Type 0
-NotRefused r = (k : ℕ) → r.outcome ≡ outcome.Refused k → ⊥
+NotRefused r = (k : Refusal) → r.outcome ≡ outcome.Refused k → ⊥
 
 -- the answer of a run on air, once it is fed: from the newest state of the pane to that of the answer
 pub record PutOn (b : List ℕ) (setting : Setting) (h : ℕ) (pane : Pane) (newest s : State) (target budget : ℕ) (given : Guesses) : Type 0 where
@@ -60,8 +61,8 @@ pub record PutOn (b : List ℕ) (setting : Setting) (h : ℕ) (pane : Pane) (new
 pub record Night (setting : Setting) (h : ℕ) (injection : State) (b c : List ℕ) (made : List Move) (start last : State) (n k : ℕ) : Type 0 where
   pub moves : MovesStand b setting h injection made start
   pub centred : centre_allowed setting start.centre ≡ true
-  pub walked : walk (step b setting h) n start ≡ On last
-  pub off : step b setting h last ≡ Off k
+  pub walked : walk (step b setting h) n start ≡ Ok last
+  pub off : step b setting h last ≡ Err k
   pub fuller : HoldsAll b c
   pub pass : passes c ≡ true
 
@@ -71,10 +72,10 @@ pub record NightHolds (setting : Setting) (h : ℕ) (injection : State) (b c : L
   pub silent : (hand : List State) (pane : Pane) (t : ℕ) → Desk setting h injection b made hand pane → last.moment < t
       → OffAir b setting h start last t (frame_at pane t)
   -- under c the plain walk goes through every state that it reached under b, after as many steps
-  pub same_start : walk_with_moves c setting h made injection ≡ On start
-  pub same_walk : (m : ℕ) (s : State) → walk (step b setting h) m start ≡ On s → walk (step c setting h) m start ≡ On s
+  pub same_start : walk_with_moves c setting h made injection ≡ Ok start
+  pub same_walk : (m : ℕ) (s : State) → walk (step b setting h) m start ≡ Ok s → walk (step c setting h) m start ≡ Ok s
   -- if the step after `last` cannot be taken under c either, still no frame past `last` shows a position
-  pub still : (j : ℕ) (hand : List State) (pane : Pane) (t : ℕ) → step c setting h last ≡ Off j → Desk setting h injection c made hand pane
+  pub still : (j : ℕ) (hand : List State) (pane : Pane) (t : ℕ) → step c setting h last ≡ Err j → Desk setting h injection c made hand pane
       → last.moment < t → OffAir c setting h start last t (frame_at pane t)
   -- every position that is shown under c is that walk's
   pub shows : (hand : List State) (pane : Pane) (t : ℕ) (p : Vector) → Desk setting h injection c made hand pane → frame_at pane t ≡ frame.Current p

@@ -1,9 +1,9 @@
 -- What a frame may show, compared with the plain walk from the injection with the moves that the desk made.
-use Rattle.std.specs.Prelude.{List, ◌≡◌, ℕ, ◌-◌, ◌≤◌, ◌<◌}
+use Rattle.std.specs.Prelude.{List, ◌≡◌, ℕ, ◌-◌, ◌≤◌, ◌<◌, Ok}
 use Rattle.state.specs.declared.State.{State}
 use Rattle.state.specs.declared.Setting.{Setting}
 use Rattle.state.specs.declared.Vector.{Vector}
-use Rattle.run.specs.Step.{On, step}
+use Rattle.run.specs.Step.{step}
 use Rattle.run.specs.Walk.{walk}
 use Rattle.centre_laws.specs.Legs.{Move, walk_with_moves, MovesStand}
 use Rattle.pane_live.specs.Pane.{figure}
@@ -18,7 +18,7 @@ use Rattle.pane_motion.specs.declared.FrameMotion.TheVariants as motion
 pub record OnAir (b : List ℕ) (setting : Setting) (h : ℕ) (injection : State) (made : List Move) (t : ℕ) (p : Vector) : Type 0 where
   -- the state of the plain walk after its last move; without moves this is the injection. Each move is at its named moment.
   pub start : State
-  pub moved : walk_with_moves b setting h made injection ≡ On start
+  pub moved : walk_with_moves b setting h made injection ≡ Ok start
   pub moves : MovesStand b setting h injection made start
   -- n0 steps from there lead to the older state, n1 to the newer
   pub n0 : ℕ
@@ -26,8 +26,8 @@ pub record OnAir (b : List ℕ) (setting : Setting) (h : ℕ) (injection : State
   pub rises : n0 < n1
   pub older : State
   pub newer : State
-  pub walked0 : walk (step b setting h) n0 start ≡ On older
-  pub walked1 : walk (step b setting h) n1 start ≡ On newer
+  pub walked0 : walk (step b setting h) n0 start ≡ Ok older
+  pub walked1 : walk (step b setting h) n1 start ≡ Ok newer
   -- t lies between them
   pub from : older.moment ≤ t
   pub until : t ≤ newer.moment
@@ -37,7 +37,7 @@ pub record OnAir (b : List ℕ) (setting : Setting) (h : ℕ) (injection : State
 -- Off air at t: the frame is empty, or late by the time since a state of the walk from start, no later than `last`. It shows no position.
 pub data OffAir (b : List ℕ) (setting : Setting) (h : ℕ) (start last : State) (t : ℕ) : FrameAnswer → Type 0 where
   empty : OffAir b setting h start last t frame.Empty
-  late : (n : ℕ) (s : State) → walk (step b setting h) n start ≡ On s → s.moment ≤ last.moment → s.moment < t
+  late : (n : ℕ) (s : State) → walk (step b setting h) n start ≡ Ok s → s.moment ≤ last.moment → s.moment < t
       → OffAir b setting h start last t (frame.Late (t - s.moment))
 
 -- ---- the same for a frame with velocity
@@ -49,5 +49,5 @@ pub record OnAirMoving (b : List ℕ) (setting : Setting) (h : ℕ) (injection :
 
 pub data OffAirMoving (b : List ℕ) (setting : Setting) (h : ℕ) (start last : State) (t : ℕ) : FrameMotion → Type 0 where
   empty_moving : OffAirMoving b setting h start last t motion.Empty
-  late_moving : (n : ℕ) (s : State) → walk (step b setting h) n start ≡ On s → s.moment ≤ last.moment → s.moment < t
+  late_moving : (n : ℕ) (s : State) → walk (step b setting h) n start ≡ Ok s → s.moment ≤ last.moment → s.moment < t
       → OffAirMoving b setting h start last t (motion.Late (t - s.moment))

@@ -46,7 +46,7 @@ all_fed pane [] order = order
 all_fed pane (r ∷ rs) order = all_fed (after pane (feed pane r)) rs (feed_keeps pane r order)
 
 -- "a refused run leaves the pane as it was"
-pub refused_unchanged : (pane : Pane) (r : RunAnswer) (k : ℕ) → r.outcome ≡ outcome.Refused k → feed pane r ≡ Unchanged
+pub refused_unchanged : (pane : Pane) (r : RunAnswer) (k : Refusal) → r.outcome ≡ outcome.Refused k → feed pane r ≡ Unchanged
 unfolding feed
 refused_unchanged pane r k e = ap (λ (o : Outcome). feed_by o pane r.state) e
 

@@ -65,7 +65,7 @@ record Alone (f : FrameAnswer) (v : Vector) (k : ℕ) : Type 0 where
   shows : f ≡ frame.Current place
   unfit : finite_vector v ≡ false
 
-refused_of : (f : FrameAnswer) (v : Vector) (k : ℕ) → with_velocity f v ≡ Refused k → (f ≡ frame.Refused k) ⊎ Alone f v k
+refused_of : (f : FrameAnswer) (v : Vector) (k : Refusal) → with_velocity f v ≡ Refused k → (f ≡ frame.Refused k) ⊎ Alone f v k
 refused_of (frame.Current p) v k e = by (finite_vector v) refl e
   where
     by : (fin : Bool) → finite_vector v ≡ fin → (if fin then Current (moving p v) otherwise Refused Refusal.NotFinite) ≡ Refused k → (frame.Current p ≡ frame.Refused k) ⊎ Alone (frame.Current p) v k

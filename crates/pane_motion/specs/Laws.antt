@@ -1,4 +1,5 @@
 -- A frame has the same word, lateness and position with velocity and without, for every pane and every moment. There is one exception.
+use Rattle.base.specs.declared.Refusal.{Refusal}
 use Rattle.std.specs.Prelude.{false, ◌⊎◌, ◌↔◌, ◌≡◌, ℕ}
 use Rattle.state.specs.State.{finite_vector}
 use Rattle.state.specs.declared.State.{State}
@@ -24,4 +25,4 @@ pub record SameFrame (pane : Pane) (t : ℕ) : Type 0 where
   pub current : (m : Motion) → motion_at pane t ≡ Current m → frame_at pane t ≡ frame.Current m.position
   pub late : (ms : ℕ) → (motion_at pane t ≡ Late ms) ↔ (frame_at pane t ≡ frame.Late ms)
   pub empty : (motion_at pane t ≡ Empty) ↔ (frame_at pane t ≡ frame.Empty)
-  pub refused : (k : ℕ) → (motion_at pane t ≡ Refused k) ↔ ((frame_at pane t ≡ frame.Refused k) ⊎ ((k ≡ 7) × NoVelocity pane t))
+  pub refused : (k : Refusal) → (motion_at pane t ≡ Refused k) ↔ ((frame_at pane t ≡ frame.Refused k) ⊎ ((k ≡ Refusal.NotFinite) × NoVelocity pane t))

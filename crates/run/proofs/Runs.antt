@@ -3,8 +3,10 @@ use mathlib.Core.Path.{◌≡◌, ap}
 use Prim.Native.Nat.{ℕ, zero, suc, ◌+◌, ◌-◌}
 use native.Mathlib.Omega.{arith}
 use borrow.Author.Tests.{eq-eqb, ne_eqb}
+use Rattle.base.specs.declared.Refusal.{Refusal}
+use Rattle.std.specs.Prelude.{Ok, Err}
 use Rattle.state.specs.declared.State.{State}
-use Rattle.step.specs.Step.{Moved, On, Off}
+use Rattle.step.specs.Step.{Moved}
 use Rattle.run.specs.Run.{Reached, ended, counted, run_to}
 use Rattle.run.specs.Kept.{counted_by}
 use Rattle.run.specs.declared.Outcome.TheVariants.{Arrived, Going, Refused}
@@ -20,11 +22,11 @@ module _ (f : State → Moved) (target : ℕ) (s : State) where
     unfolding run_to
     run_going = rw (ne_eqb _ _ short)
 
-    pub run_refused : (budget k : ℕ) → f s ≡ Off k → run_to f target (suc budget) s ≡ ended (Refused k) s
+    pub run_refused : (budget : ℕ) (k : Refusal) → f s ≡ Err k → run_to f target (suc budget) s ≡ ended (Refused k) s
     unfolding run_to
     run_refused budget k e = rw (ne_eqb _ _ short, e)
 
-    pub run_on : (budget : ℕ) (next : State) → f s ≡ On next → run_to f target (suc budget) s ≡ counted (run_to f target budget next)
+    pub run_on : (budget : ℕ) (next : State) → f s ≡ Ok next → run_to f target (suc budget) s ≡ counted (run_to f target budget next)
     unfolding run_to
     run_on budget next e = rw (ne_eqb _ _ short, e)
 

@@ -4,6 +4,7 @@ use mathlib.Core.List.{List}
 use mathlib.Core.Path.{◌≡◌, refl}
 use Prim.Native.Nat.{ℕ, ◌≤◌}
 use borrow.Author.Tests.{ltb-true, le-ltb}
+use Rattle.std.specs.Prelude.{Ok}
 use Rattle.base.specs.Choice.{if◌then◌otherwise◌, ◌=?◌}
 use Rattle.base.specs.Limits.{end_of_time}
 use Rattle.state.specs.State.{setting_allowed, centre_allowed}
@@ -12,15 +13,15 @@ use Rattle.state.specs.declared.Setting.{Setting}
 use Rattle.book.specs.Passes.{passes}
 use Rattle.gravity.specs.declared.Guesses.{Guesses}
 use Rattle.base.specs.Checks.{or_later}
-use Rattle.state_checks.specs.Common.{common_refusal}
-use Rattle.run_checks.specs.Start.{inputs_refusal, start_refusal}
+use Rattle.state_checks.specs.Common.{common_checks}
+use Rattle.run_checks.specs.Start.{inputs_checks, start_checks}
 use Rattle.run.specs.Run.{Reached, with_guesses, refused_at_once, run_answer}
 use Rattle.run.specs.Kept.{MayWalk}
 use Rattle.run.specs.declared.RunAnswer.{RunAnswer}
 use Rattle.run_checks.proofs.Allowed.{long_enough}
 use Rattle.run_checks.proofs.Passed.{passed}
 
-pub may_walk : (b : List ℕ) (setting : Setting) (s : State) (h target : ℕ) → start_refusal b setting s h target ≡ 0 → MayWalk b setting s h target
+pub may_walk : (b : List ℕ) (setting : Setting) (s : State) (h target : ℕ) → start_checks b setting s h target ≡ Ok tt → MayWalk b setting s h target
 may_walk b setting s h target e =
     let p = passed b setting s h target e in
     record { pass = p.book; centred = p.centred; long = long_enough h p.length; reachable = p.reachable; ends = ltb-true target end_of_time p.ends }
@@ -40,6 +41,6 @@ module _ (b : List ℕ) (setting : Setting) (s : State) (given : Guesses) where
   same_late false false false k1 k2 r1 r2 = refl
 
   pub late : (h t1 t2 budget : ℕ) → end_of_time ≤ s.moment → run_answer b setting s h t1 budget given ≡ run_answer b setting s h t2 budget given
-  unfolding run_answer start_refusal inputs_refusal common_refusal answer_by
+  unfolding run_answer start_checks inputs_checks common_checks answer_by
   late h t1 t2 budget e =
       rw (le-ltb _ _ e) (same_late (not (passes b)) (not (setting_allowed setting)) (not (centre_allowed setting s.centre)) _ _ _ _)

@@ -6,20 +6,21 @@ use Prim.Native.Nat.{ℕ, zero, suc, ◌+◌, ◌-◌, ◌*◌, ◌/◌, ◌<◌
 use native.Mathlib.Nat.{suc-mul, zero-mul}
 use native.Mathlib.Omega.{arith}
 use borrow.Author.Tests.{ne_eqb}
+use Rattle.base.specs.declared.Refusal.{Refusal}
+use Rattle.std.specs.Prelude.{Ok, Err}
 use Rattle.base.specs.Limits.{end_of_time}
 use Rattle.state.specs.State.{used, centre_allowed}
 use Rattle.state.specs.declared.State.{State}
 use Rattle.state.specs.declared.Setting.{Setting}
-use Rattle.gravity.specs.Sight.{sights, found_in, refusal_in}
+use Rattle.gravity.specs.Sight.{sights, found_in, all_found}
 use Rattle.gravity.specs.declared.Guesses.{Guesses}
 use Rattle.gravity.proofs.Under.{all_clear, seen_entry}
-use Rattle.step.specs.Step.{Moved, On, Off, step}
+use Rattle.step.specs.Step.{Moved, step}
 use Rattle.run.specs.Run.{ended, run_to, guesses_at, handed_back, with_guesses}
 use Rattle.step_end.specs.Kept.{kept}
 use Rattle.step.specs.Entries.{entries_after, MayStep}
 use Rattle.run.specs.Kept.{guesses_from, counted_by, MayWalk, Walking}
 use Rattle.run.specs.declared.Outcome.{Outcome}
-use Rattle.step_end.specs.declared.Stepped.TheVariants as stepped
 use Rattle.run_checks.proofs.Allowed.{away}
 use Rattle.step.proofs.OneStep.{done}
 use Rattle.run.proofs.Runs.{run_on, count_none, count_one, count_ended}
@@ -32,9 +33,9 @@ one_less t h (suc left) target short e = (left, let m = suc-mul left h in omega 
 
 -- ---- the guesses after a step
 
-pub guesses_seen : (b : List ℕ) (s : Setting) (c t : ℕ) (given : Guesses) → (sights b s c t).refusal ≡ 0
+pub guesses_seen : (b : List ℕ) (s : Setting) (c t : ℕ) (given : Guesses) → (sights b s c t).checked ≡ Ok tt
     → guesses_from s (sights b s c t).entries given ≡ guesses_at b s t given
-unfolding sights found_in refusal_in guesses_at
+unfolding sights found_in all_found guesses_at
 guesses_seen b s c t given clear =
     let all = all_clear _ clear in
     λ i.
@@ -49,16 +50,16 @@ guesses_seen b s c t given clear =
 -- ---- the result of a step
 
 pub record HandedOn (entries : Guesses) (m : Moved) (next : State) (seen : Guesses) : Type 0 where
-  pub on : m ≡ On next
+  pub on : m ≡ Ok next
   pub at : seen ≡ entries
 
-pub handed_on : (entries : Guesses) (m : Moved) (next : State) (seen : Guesses) → stepped.On next seen ≡ kept entries m → HandedOn entries m next seen
-handed_on entries (On s) next seen e = record { on = cc; at = cc }
-handed_on entries (Off k) next seen e = let z : ◌≡◌ {A = ℕ} 0 1 = cc in absurd (omega arith)
+pub handed_on : (entries : Guesses) (m : Moved) (next : State) (seen : Guesses) → Ok next seen ≡ kept entries m → HandedOn entries m next seen
+handed_on entries (Ok s) next seen e = record { on = cc; at = cc }
+handed_on entries (Err k) next seen e = let z : ◌≡◌ {A = ℕ} 0 1 = cc in absurd (omega arith)
 
-pub handed_off : (entries : Guesses) (m : Moved) (k : ℕ) → stepped.Off k ≡ kept entries m → m ≡ Off k
-handed_off entries (On s) k e = let z : ◌≡◌ {A = ℕ} 0 1 = cc in absurd (omega arith)
-handed_off entries (Off j) k e = cc
+pub handed_off : (entries : Guesses) (m : Moved) (k : Refusal) → Err k ≡ kept entries m → m ≡ Err k
+handed_off entries (Ok s) k e = let z : ◌≡◌ {A = ℕ} 0 1 = cc in absurd (omega arith)
+handed_off entries (Err j) k e = cc
 
 module _ (b : List ℕ) (setting : Setting) (start : State) (h target budget : ℕ) (given : Guesses) where
   pub walk_starts : MayWalk b setting start h target → Walking b setting start h target budget given start given 0
@@ -84,7 +85,7 @@ module _ (b : List ℕ) (setting : Setting) (start : State) (h target budget : �
         ∙ ap (handed_back o n now) (sym w.guess))
 
     pub walk_goes_on : (next : State) (seen : Guesses) → n < budget → (now.moment ≡ target → ⊥)
-        → stepped.On next seen ≡ kept (entries_after b setting h now) (step b setting h now)
+        → Ok next seen ≡ kept (entries_after b setting h now) (step b setting h now)
         → Walking b setting start h target budget given next (guesses_from setting seen given) (n + 1)
     walk_goes_on next seen room short e =
         let handed = handed_on (entries_after b setting h now) (step b setting h now) next seen e in

@@ -1,14 +1,16 @@
 -- Document 01, "The step and the run" and "Refusal numbers": the run call, for every input.
-use Rattle.std.specs.Prelude.{Bool, false, List, ℕ, zero, suc, ◌+◌, Float}
+use Rattle.std.specs.Prelude.{Bool, false, List, ℕ, zero, suc, ◌+◌, Float, Ok, Err}
 use Rattle.base.specs.Choice.{if◌then◌otherwise◌, ◌=?◌}
+use Rattle.base.specs.Checks.{checked}
+use Rattle.base.specs.declared.Refusal.{Refusal}
 use Rattle.state.specs.State.{used, looked_up}
 use Rattle.state.specs.declared.State.{State}
 use Rattle.state.specs.declared.Setting.{Setting}
 use Rattle.book.specs.Lookup.{lookup}
 use Rattle.gravity.specs.Sight.{entry_or}
 use Rattle.gravity.specs.declared.Guesses.{Guesses}
-use Rattle.run_checks.specs.Start.{start_refusal}
-use Rattle.step.specs.Step.{Moved, On, Off, step}
+use Rattle.run_checks.specs.Start.{start_checks}
+use Rattle.step.specs.Step.{Moved, step}
 use Rattle.run.specs.declared.Outcome.{Outcome}
 use Rattle.run.specs.declared.Outcome.TheVariants.{Arrived, Going, Refused}
 use Rattle.run.specs.declared.RunAnswer.{RunAnswer}
@@ -30,8 +32,8 @@ at_target target s = s.moment =? target
 
 -- a step done counts; a refused step ends the run at the state before it
 abbrev pub afterwards : (State → Reached) → State → Moved → Reached
-afterwards rest s (On next) = counted (rest next)
-afterwards rest s (Off k) = ended (Refused k) s
+afterwards rest s (Ok next) = counted (rest next)
+afterwards rest s (Err k) = ended (Refused k) s
 
 -- "It takes steps until the target is reached, the budget is spent, or a step is refused"
 unfoldable pub run_to : (State → Moved) → ℕ → ℕ → State → Reached
@@ -64,13 +66,14 @@ abbrev pub with_guesses : List ℕ → Setting → Guesses → Reached → RunAn
 with_guesses b s given r = handed_back r.outcome r.steps r.state (guesses_after b s r.steps r.state.moment given)
 
 -- "state as given, 0 steps"
-abbrev pub refused_at_once : ℕ → State → Guesses → RunAnswer
+abbrev pub refused_at_once : Refusal → State → Guesses → RunAnswer
 refused_at_once k s given = handed_back (Refused k) 0 s given
 
 unfoldable pub run_answer : List ℕ → Setting → State → ℕ → ℕ → ℕ → Guesses → RunAnswer
 run_answer b setting s h target budget given =
-    let k = start_refusal b setting s h target in
-    if k =? 0 then with_guesses b setting given (run_to (step b setting h) target budget s) otherwise refused_at_once k s given
+    checked (start_checks b setting s h target)
+    (with_guesses b setting given (run_to (step b setting h) target budget s))
+    (λ k. refused_at_once k s given)
 
 -- "A single step is a run with budget 1 and the target one step on"
 abbrev pub single_step_answer : List ℕ → Setting → State → ℕ → Guesses → RunAnswer

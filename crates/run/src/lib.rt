@@ -8,7 +8,7 @@ mod walking;
 ghost use Rattle.std.specs.Prelude.{◌≡◌};
 ghost use Rattle.run.specs.Run.{run_answer, single_step_answer};
 
-use base::END_OF_TIME;
+use base::{END_OF_TIME, Refusal};
 use gravity::Guesses;
 use state::{Setting, State};
 pub use step_end::Stepped;
@@ -17,7 +17,7 @@ pub use step_end::Stepped;
 pub enum Outcome {
     Arrived,
     Going,
-    Refused(u64),
+    Refused(Refusal),
 }
 
 #[derive(Clone, Copy)]
@@ -29,6 +29,7 @@ pub struct RunAnswer {
 }
 
 // Steps of h milliseconds from a state to a target, as many as the budget allows.
+#[tactic(auto, using(crate::proofs::Start::may_walk), unfolding(crate::specs::Run::run_answer))]
 pub fn run(
     book: &[u8],
     setting: Setting,
@@ -40,15 +41,14 @@ pub fn run(
 ) -> RunAnswer
     ensures { result ≡ run_answer book.now setting state h target budget guesses }
 {
-    let refusal = run_checks::start_refusal(book, setting, state, h, target);
-    if refusal == 0 {
-        return walking::walk_on(book, setting, state, h, target, budget, guesses);
-    }
-    RunAnswer {
-        outcome: Outcome::Refused(refusal),
-        steps: 0,
-        state,
-        guesses,
+    match run_checks::start_checks(book, setting, state, h, target) {
+        Ok(()) => walking::walk_on(book, setting, state, h, target, budget, guesses),
+        Err(refusal) => RunAnswer {
+            outcome: Outcome::Refused(refusal),
+            steps: 0,
+            state,
+            guesses,
+        },
     }
 }
 

@@ -9,7 +9,6 @@ use crate::{Outcome, RunAnswer};
 use gravity::Guesses;
 use state::{Setting, State};
 use step::inner::step_under;
-use step_end::Stepped;
 
 fn guess_from(m: f64, lit: bool, entry: u64, given: u64) -> u64
     ensures { result ≡ guess_from m lit entry given }
@@ -67,13 +66,13 @@ pub fn walk_on(
         }
         let stepped = step_under(book, setting, now, h, guesses, calm);
         match stepped {
-            Stepped::On(next, entries) => {
-                now = next;
-                guesses = guesses_from(setting, entries, given);
+            Ok(next) => {
+                now = next.state;
+                guesses = guesses_from(setting, next.entries, given);
                 n += 1;
             }
-            Stepped::Off(k) => {
-                return handed_back(Outcome::Refused(k), n, now, guesses);
+            Err(refusal) => {
+                return handed_back(Outcome::Refused(refusal), n, now, guesses);
             }
         }
     }

@@ -3,35 +3,37 @@
 #![tactic(auto)]
 
 ghost use Rattle.std.specs.Prelude.{◌≡◌};
-ghost use Rattle.run_checks.specs.Start.{inputs_refusal, start_refusal};
+ghost use Rattle.run_checks.specs.Start.{inputs_checks, start_checks};
 
-use base::{END_OF_TIME, both};
-use gravity_stored::inner::stored_refusal;
-use run_target::target_refusal;
+use base::{END_OF_TIME, Refusal, both};
+use gravity_stored::inner::stored_check;
+use run_target::target_checks;
 use state::{Setting, State};
-use state_checks::common_refusal;
+use state_checks::common_checks;
 
 // The common checks of the state and the target.
-fn inputs_refusal(book: &[u8], setting: Setting, s: State, target: u64) -> u64
-    ensures { result ≡ inputs_refusal book.now setting s target }
+#[tactic(auto, unfolding(crate::specs::Start::inputs_checks))]
+fn inputs_checks(book: &[u8], setting: Setting, s: State, target: u64) -> Result<(), Refusal>
+    ensures { result ≡ inputs_checks book.now setting s target }
 {
     let centred = state::centre_is_allowed(setting, s.centre);
     let timed = both(s.moment < END_OF_TIME, target < END_OF_TIME);
     let finite = state::state_is_finite(s);
-    common_refusal(book, setting, centred, timed, finite)
+    common_checks(book, setting, centred, timed, finite)
 }
 
-// The number of the first check that fails, or 0. The stored acceleration is checked only if the book passes and the centre is allowed.
-pub fn start_refusal(book: &[u8], setting: Setting, s: State, h: u32, target: u64) -> u64
-    ensures { result ≡ start_refusal book.now setting s h target }
+// The first check that fails refuses. The stored acceleration is checked only if the book passes and the centre is allowed.
+#[tactic(auto, using(crate::proofs::Passed::opened), unfolding(crate::specs::Start::start_checks))]
+pub fn start_checks(
+    book: &[u8],
+    setting: Setting,
+    s: State,
+    h: u32,
+    target: u64,
+) -> Result<(), Refusal>
+    ensures { result ≡ start_checks book.now setting s h target }
 {
-    let first = inputs_refusal(book, setting, s, target);
-    if first == 0 {
-        let stored = stored_refusal(book, setting, s);
-        if stored == 0 {
-            return target_refusal(s.moment, h, target);
-        }
-        return stored;
-    }
-    first
+    inputs_checks(book, setting, s, target)?;
+    stored_check(book, setting, s)?;
+    target_checks(s.moment, h, target)
 }

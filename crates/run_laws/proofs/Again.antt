@@ -3,12 +3,14 @@ use mathlib.Core.List.{List, [], ◌∷◌, map}
 use mathlib.Core.Path.{◌≡◌, refl, sym, ap, ◌∙◌}
 use Prim.Native.Nat.{ℕ, zero, suc}
 use lib.Dec.{eqb-suc-zero}
+use Rattle.base.specs.declared.Refusal.{Refusal}
+use Rattle.std.specs.Prelude.{Err, Ok}
 use Rattle.state.specs.declared.State.{State}
 use Rattle.state.specs.declared.Setting.{Setting}
 use Rattle.gravity.specs.declared.Guesses.{Guesses}
-use Rattle.run.specs.Step.{Off, step}
+use Rattle.run.specs.Step.{step}
 use Rattle.run.specs.Walk.{walk}
-use Rattle.run_checks.specs.Start.{start_refusal}
+use Rattle.run_checks.specs.Start.{start_checks}
 use Rattle.run.specs.Run.{run_to, with_guesses, run_answer}
 use Rattle.run.specs.declared.Outcome.{Outcome}
 use Rattle.run.specs.declared.Outcome.TheVariants.{Going, Refused}
@@ -24,11 +26,11 @@ use Rattle.run_laws.proofs.Answers.{answer_is, run_from, checks_stay}
 pub record Stuck (b : List ℕ) (setting : Setting) (h target k : ℕ) (s : State) : Type 0 where
   pub passes : Passed b setting s h target
   pub short : s.moment ≡ target → ⊥
-  pub off : step b setting h s ≡ Off k
+  pub off : step b setting h s ≡ Err k
 
 module _ (b : List ℕ) (setting : Setting) (h target : ℕ) where
   -- a call from that state
-  pub again : (k : ℕ) (s : State) (call : Call) → Stuck b setting h target k s
+  pub again : (k : Refusal) (s : State) (call : Call) → Stuck b setting h target k s
       → run_answer b setting s h target call.budget call.guesses ≡ met_again k s call
   again k s call stuck =
       answer_is b setting s h target call.budget call.guesses (passes_all b setting s h target stuck.passes)
@@ -40,13 +42,13 @@ module _ (b : List ℕ) (setting : Setting) (h target : ℕ) where
       go (suc m) e = rw (e, run_refused (step b setting h) target s stuck.short m k stuck.off, eqb-suc-zero)
 
   -- every call from that state
-  pub all_again : (k : ℕ) (s : State) (calls : List Call) → Stuck b setting h target k s
+  pub all_again : (k : Refusal) (s : State) (calls : List Call) → Stuck b setting h target k s
       → journey b setting h target s calls ≡ map (met_again k s) calls
   all_again k s [] stuck = refl
   all_again k s (call ∷ calls) stuck =
       rw (again k s call stuck) (ap (λ (rest : List RunAnswer). met_again k s call ∷ rest) (all_again k s calls stuck))
 
-  stuck_by : (s : State) (budget k : ℕ) → Passed b setting s h target → (run_to (step b setting h) target budget s).outcome ≡ Refused k
+  stuck_by : (s : State) (budget : ℕ) (k : Refusal) → Passed b setting s h target → (run_to (step b setting h) target budget s).outcome ≡ Refused k
       → Stuck b setting h target k (run_to (step b setting h) target budget s).state
   stuck_by s budget k p is = go (run_to (step b setting h) target budget s).outcome refl
     where
@@ -62,7 +64,7 @@ module _ (b : List ℕ) (setting : Setting) (h target : ℕ) where
             off = sym (walk_last (step b setting h) q.steps s q.state r.walked) ∙ t.2;
           }
 
-  pub is_stuck : (s : State) (budget : ℕ) (given : Guesses) (k : ℕ) → start_refusal b setting s h target ≡ 0
+  pub is_stuck : (s : State) (budget : ℕ) (given : Guesses) (k : ℕ) → start_checks b setting s h target ≡ Ok tt
       → (run_answer b setting s h target budget given).outcome ≡ Refused k
       → Stuck b setting h target k (run_answer b setting s h target budget given).state
   is_stuck s budget given k e is =
@@ -70,7 +72,7 @@ module _ (b : List ℕ) (setting : Setting) (h target : ℕ) where
       rw same (stuck_by s budget k (passed b setting s h target e) (sym (ap (λ (r : RunAnswer). r.outcome) same) ∙ is))
 
   -- once a call was refused with k, every later one answers 0 steps, the same number and the same state; without budget it is going
-  pub refused_again : (s : State) (budget : ℕ) (given : Guesses) (k : ℕ) (calls : List Call) → start_refusal b setting s h target ≡ 0
+  pub refused_again : (s : State) (budget : ℕ) (given : Guesses) (k : Refusal) (calls : List Call) → start_checks b setting s h target ≡ Ok tt
       → (run_answer b setting s h target budget given).outcome ≡ Refused k
       → journey b setting h target (run_answer b setting s h target budget given).state calls
       ≡ map (met_again k (run_answer b setting s h target budget given).state) calls

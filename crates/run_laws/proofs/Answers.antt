@@ -6,7 +6,7 @@ use Prim.Native.Nat.{ℕ, zero, suc, ◌+◌, ◌-◌, ◌*◌, ◌/◌, ◌≤�
 use native.Mathlib.Nat.{mul-mod_left}
 use native.Mathlib.Omega.{arith}
 use borrow.Author.Tests.{lt-ltb, le-leb, ltb-true, ne_eqb}
-use Rattle.std.specs.Prelude.{Ok}
+use Rattle.std.specs.Prelude.{Ok, Err}
 use Rattle.base.specs.Limits.{end_of_time}
 use Rattle.state.specs.State.{position, acceleration, finite_state, centre_allowed}
 use Rattle.state.specs.declared.State.{State}
@@ -14,23 +14,23 @@ use Rattle.state.specs.declared.Setting.{Setting}
 use Rattle.gravity.specs.Acceleration.{acceleration_at}
 use Rattle.gravity.specs.Sight.{sights}
 use Rattle.gravity.specs.declared.Guesses.{Guesses}
-use Rattle.gravity_stored.specs.Injection.{stored_refusal}
+use Rattle.gravity_stored.specs.Injection.{stored_check}
 use Rattle.gravity_stored.proofs.Stored.{carries_rule, stored_passes}
-use Rattle.run.specs.Step.{Moved, On, Off, step}
+use Rattle.run.specs.Step.{Moved, step}
 use Rattle.run.specs.Walk.{onward, walk}
-use Rattle.run_checks.specs.Start.{within_steps, start_refusal}
+use Rattle.run_checks.specs.Start.{within_steps, start_checks}
 use Rattle.run.specs.Run.{run_to, with_guesses, refused_at_once, run_answer}
 use Rattle.run_checks.proofs.Allowed.{away}
 use Rattle.run.proofs.OneStep.{done}
 use Rattle.run_checks.proofs.Passed.{Passed}
 use Rattle.run_laws.proofs.Ran.{Ran, ran, stays}
 
-pub answer_is : (b : List ℕ) (setting : Setting) (s : State) (h target budget : ℕ) (given : Guesses) → start_refusal b setting s h target ≡ 0
+pub answer_is : (b : List ℕ) (setting : Setting) (s : State) (h target budget : ℕ) (given : Guesses) → start_checks b setting s h target ≡ Ok tt
     → run_answer b setting s h target budget given ≡ with_guesses b setting given (run_to (step b setting h) target budget s)
 unfolding run_answer
 answer_is b setting s h target budget given e = rw e
 
-pub refused_is : (b : List ℕ) (setting : Setting) (s : State) (h target budget : ℕ) (given : Guesses) (k : ℕ) → start_refusal b setting s h target ≡ suc k
+pub refused_is : (b : List ℕ) (setting : Setting) (s : State) (h target budget : ℕ) (given : Guesses) (k : ℕ) → start_checks b setting s h target ≡ suc k
     → run_answer b setting s h target budget given ≡ refused_at_once (suc k) s given
 unfolding run_answer
 refused_is b setting s h target budget given k e = rw (e, ne_eqb (suc k) 0 (λ z. absurd (omega arith)))
@@ -46,13 +46,13 @@ still_within t h left target e =
 pub record Left (b : List ℕ) (setting : Setting) (s : State) : Type 0 where
   pub finite : finite_state s ≡ true
   pub rule : acceleration_at b setting s.centre s.moment (position s) ≡ Ok (acceleration s)
-  pub clear : centre_allowed setting s.centre ≡ true → (sights b setting s.centre s.moment).refusal ≡ 0
+  pub clear : centre_allowed setting s.centre ≡ true → (sights b setting s.centre s.moment).checked ≡ Ok tt
 
 module _ (b : List ℕ) (setting : Setting) (h target : ℕ) where
-  pub moves : (s next : State) → step b setting h s ≡ On next → next.moment ≡ s.moment + h
+  pub moves : (s next : State) → step b setting h s ≡ Ok next → next.moment ≡ s.moment + h
   moves s next e = (done b setting h s next e).moment
 
-  pub leaves : (s next : State) → step b setting h s ≡ On next → Left b setting next
+  pub leaves : (s next : State) → step b setting h s ≡ Ok next → Left b setting next
   leaves s next e =
       let d = done b setting h s next e in
       record {
@@ -65,15 +65,15 @@ module _ (b : List ℕ) (setting : Setting) (h target : ℕ) where
       }
 
   -- steps stay about their centre
-  pub centre_stays : (n : ℕ) (s last : State) → walk (step b setting h) n s ≡ On last → last.centre ≡ s.centre
+  pub centre_stays : (n : ℕ) (s last : State) → walk (step b setting h) n s ≡ Ok last → last.centre ≡ s.centre
   unfolding walk
   centre_stays zero s last e = let same : last ≡ s = cc in ap (λ (x : State). x.centre) same
   centre_stays (suc n) s last e = go (walk (step b setting h) n s) refl e (centre_stays n s)
     where
-      go : (m : Moved) → walk (step b setting h) n s ≡ m → onward (step b setting h) m ≡ On last
-          → ((middle : State) → walk (step b setting h) n s ≡ On middle → middle.centre ≡ s.centre) → last.centre ≡ s.centre
-      go (On middle) w e before = (done b setting h middle last e).centre ∙ before middle w
-      go (Off k) w e before = let z : ◌≡◌ {A = ℕ} 0 1 = cc in absurd (omega arith)
+      go : (m : Moved) → walk (step b setting h) n s ≡ m → onward (step b setting h) m ≡ Ok last
+          → ((middle : State) → walk (step b setting h) n s ≡ Ok middle → middle.centre ≡ s.centre) → last.centre ≡ s.centre
+      go (Ok middle) w e before = (done b setting h middle last e).centre ∙ before middle w
+      go (Err k) w e before = let z : ◌≡◌ {A = ℕ} 0 1 = cc in absurd (omega arith)
 
   pub run_from : (s : State) (budget : ℕ) → Passed b setting s h target
       → Ran (step b setting h) h target (Left b setting) moves leaves s budget (run_to (step b setting h) target budget s)
@@ -107,6 +107,6 @@ module _ (b : List ℕ) (setting : Setting) (h target : ℕ) where
       finite_there zero none = ap finite_state (same none) ∙ p.finite
       finite_there (suc n) some = ((run_from s budget p).seen (omega arith)).finite
 
-      ordered_there : (n : ℕ) → (run_to (step b setting h) target budget s).steps ≡ n → stored_refusal b setting (run_to (step b setting h) target budget s).state ≡ 0
-      ordered_there zero none = ap (stored_refusal b setting) (same none) ∙ p.ordered
+      ordered_there : (n : ℕ) → (run_to (step b setting h) target budget s).steps ≡ n → stored_check b setting (run_to (step b setting h) target budget s).state ≡ Ok tt
+      ordered_there zero none = ap (stored_check b setting) (same none) ∙ p.ordered
       ordered_there (suc n) some = stored_passes b setting _ (carries_rule b setting _ ((run_from s budget p).seen (omega arith)).rule)

@@ -17,11 +17,11 @@ use Rattle.gravity.specs.Acceleration.{acceleration_at}
 use Rattle.gravity.specs.declared.Guesses.{Guesses}
 use Rattle.base.specs.Checks.{refused_by}
 use Rattle.base.proofs.Checks.{refuses}
-use Rattle.gravity.proofs.Refused.{rule_refused, as_answer}
-use Rattle.gravity_stored.specs.Injection.{stored_refusal_by, stored_refusal}
-use Rattle.run_checks.specs.Start.{inputs_refusal, start_refusal}
-use Rattle.run_target.specs.Target.{target_refusal}
-use Rattle.state_checks.specs.Common.{common_refusal}
+use Rattle.gravity.proofs.Refused.{rule_refused}
+use Rattle.gravity_stored.specs.Injection.{stored_check_by, stored_check}
+use Rattle.run_checks.specs.Start.{inputs_checks, start_checks}
+use Rattle.run_target.specs.Target.{target_checks}
+use Rattle.state_checks.specs.Common.{common_checks}
 use Rattle.run.specs.Run.{refused_at_once, run_answer}
 use Rattle.run_laws.proofs.Answers.{refused_is}
 
@@ -31,30 +31,30 @@ module _ (b : List ℕ) (setting : Setting) (s : State) (h k : ℕ) (book : pass
     (none : acceleration_at b setting s.centre s.moment (position s) ≡ Err k) where
   -- k is 6 or 7, so not 0
   some : k ≡ 0 → ⊥
-  some nought = go (ap (λ (x : Result Vector Refusal). refused_by (λ (n : ℕ). not (n =? 0)) (as_answer x)) (sym none))
+  some nought = go (ap (λ (x : Result Vector Refusal). refused_by (λ (n : ℕ). not (n =? 0)) x) (sym none))
     where
-      ok : refused_by (λ (n : ℕ). not (n =? 0)) (as_answer (acceleration_at b setting s.centre s.moment (position s))) ≡ true
+      ok : refused_by (λ (n : ℕ). not (n =? 0)) (acceleration_at b setting s.centre s.moment (position s)) ≡ true
       ok = rule_refused (λ (n : ℕ). not (n =? 0)) refl refl b setting s.centre s.moment (position s)
 
-      go : refused_by (λ (n : ℕ). not (n =? 0)) (as_answer (Err k)) ≡ refused_by (λ (n : ℕ). not (n =? 0)) (as_answer (acceleration_at b setting s.centre s.moment (position s))) → ⊥
+      go : refused_by (λ (n : ℕ). not (n =? 0)) (Err k) ≡ refused_by (λ (n : ℕ). not (n =? 0)) (acceleration_at b setting s.centre s.moment (position s)) → ⊥
       go same =
           let clash : ◌≡◌ {A = Bool} false true = sym (ap (λ (n : ℕ). not (n =? 0)) nought) ∙ same ∙ ok in
           let z : ◌≡◌ {A = ℕ} 0 1 = cc in
           omega arith
 
-  ordered : stored_refusal b setting s ≡ k
-  unfolding stored_refusal
-  ordered = ap (stored_refusal_by s) none
+  ordered : stored_check b setting s ≡ k
+  unfolding stored_check
+  ordered = ap (stored_check_by s) none
 
-  number : (target : ℕ) → is_moment target ≡ true → start_refusal b setting s h target ≡ k
-  unfolding start_refusal inputs_refusal common_refusal
-  number target ends = rw (book, set, centred, begins, ends, finite, ordered) (refuses k (λ (n : ℕ). n) (target_refusal s.moment h target) some)
+  number : (target : ℕ) → is_moment target ≡ true → start_checks b setting s h target ≡ k
+  unfolding start_checks inputs_checks common_checks
+  number target ends = rw (book, set, centred, begins, ends, finite, ordered) (refuses k (λ (n : ℕ). n) (target_checks s.moment h target) some)
 
   -- "at any budget": for every target in range, step length and guesses
   pub refused_at_once_lem : (target budget : ℕ) (given : Guesses) → is_moment target ≡ true → run_answer b setting s h target budget given ≡ refused_at_once k s given
   refused_at_once_lem target budget given ends = go k refl (number target ends)
     where
-      go : (n : ℕ) → k ≡ n → start_refusal b setting s h target ≡ k → run_answer b setting s h target budget given ≡ refused_at_once k s given
+      go : (n : ℕ) → k ≡ n → start_checks b setting s h target ≡ k → run_answer b setting s h target budget given ≡ refused_at_once k s given
       go zero e is = absurd (some e)
       go (suc n) e is = refused_is b setting s h target budget given n (is ∙ e) ∙ ap (λ (j : ℕ). refused_at_once j s given) (sym e)
 

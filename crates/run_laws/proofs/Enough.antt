@@ -5,10 +5,12 @@ use Prim.Native.Nat.{ℕ, zero, ◌+◌, ◌*◌, ◌≤◌}
 use native.Mathlib.Nat.{add-mul, zero-add}
 use native.Mathlib.Omega.{arith}
 use borrow.Author.Tests.{ne_eqb}
+use Rattle.base.specs.declared.Refusal.{Refusal}
+use Rattle.std.specs.Prelude.{Ok}
 use Rattle.state.specs.declared.State.{State}
 use Rattle.state.specs.declared.Setting.{Setting}
 use Rattle.run.specs.Step.{step}
-use Rattle.run_checks.specs.Start.{start_refusal}
+use Rattle.run_checks.specs.Start.{start_checks}
 use Rattle.run.specs.Run.{run_to, with_guesses, run_answer}
 use Rattle.run.specs.declared.Outcome.{Outcome}
 use Rattle.run.specs.declared.Outcome.TheVariants.{Arrived, Going, Refused}
@@ -51,7 +53,7 @@ module _ (b : List ℕ) (setting : Setting) (h target : ℕ) where
     gone_on is =
         moment_of ∙ (run_from b setting h target s call.budget p).time ∙ ap (λ (n : ℕ). s.moment + n * h) (tells_as Going is).1
 
-    stuck_at : (k : ℕ) → (answer s call).outcome ≡ Refused k → Stuck b setting h target k (answer s call).state
+    stuck_at : (k : Refusal) → (answer s call).outcome ≡ Refused k → Stuck b setting h target k (answer s call).state
     unfolding answer
     stuck_at k is = is_stuck b setting h target s call.budget call.guesses k (passes_all b setting s h target p) is
 
@@ -64,12 +66,12 @@ module _ (b : List ℕ) (setting : Setting) (h target : ℕ) where
         let reach = r.reach in
         (tells_as Going is).0 (omega arith)
 
-  pub after_stuck : (k : ℕ) (s : State) (calls : List Call) → Stuck b setting h target k s → after b setting h target s calls ≡ s
+  pub after_stuck : (k : Refusal) (s : State) (calls : List Call) → Stuck b setting h target k s → after b setting h target s calls ≡ s
   after_stuck k s [] stuck = refl
   after_stuck k s (call ∷ calls) stuck = rw (again b setting h target k s call stuck) (after_stuck k s calls stuck)
 
   -- a call with a budget is refused again
-  met_with : (k : ℕ) (s : State) (call : Call) → Stuck b setting h target k s → 1 ≤ call.budget → (answer s call).outcome ≡ Refused k
+  met_with : (k : Refusal) (s : State) (call : Call) → Stuck b setting h target k s → 1 ≤ call.budget → (answer s call).outcome ≡ Refused k
   unfolding answer
   met_with k s call stuck some = rw (again b setting h target k s call stuck, ne_eqb call.budget 0 (λ z. absurd (omega arith)))
 
@@ -106,7 +108,7 @@ module _ (b : List ℕ) (setting : Setting) (h target : ℕ) where
           omega arith
 
   -- calls whose budgets together are enough: the last one, which has a budget, is at the target, or its next step is refused
-  pub enough : (calls : List Call) (injection : State) (last : Call) → start_refusal b setting injection h target ≡ 0
+  pub enough : (calls : List Call) (injection : State) (last : Call) → start_checks b setting injection h target ≡ Ok tt
       → target ≤ injection.moment + (budgets calls + last.budget) * h → 1 ≤ last.budget
       → Over (step b setting h) target (run_answer b setting (after b setting h target injection calls) h target last.budget last.guesses)
   unfolding answer

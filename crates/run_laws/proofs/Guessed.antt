@@ -11,18 +11,18 @@ use Rattle.state.specs.State.{used, looked_up}
 use Rattle.state.specs.declared.State.{State}
 use Rattle.state.specs.declared.Setting.{Setting}
 use Rattle.book.specs.Lookup.{lookup}
-use Rattle.gravity.specs.Sight.{found_of, found_in, refusal_in, sights}
+use Rattle.gravity.specs.Sight.{found_of, found_in, all_found, sights}
 use Rattle.gravity.specs.declared.Guesses.{Guesses}
 use Rattle.gravity.proofs.Under.{all_clear}
 use Rattle.run.specs.Step.{step}
 use Rattle.run.specs.Run.{run_to, guess_at, guesses_at, run_answer}
-use Rattle.run_checks.specs.Start.{start_refusal}
+use Rattle.run_checks.specs.Start.{start_checks}
 use Rattle.run_checks.proofs.Passed.{passed}
 use Rattle.run_laws.specs.Guessed.{Guess, AllGuessed}
 use Rattle.run_laws.proofs.Answers.{answer_is, refused_is, run_from, checks_stay}
 
 -- a body that was seen
-one : (b : List ℕ) (number : ℕ) (m : Float) (lit : Bool) (t given : ℕ) → (found_of b number m lit t).refusal ≡ 0
+one : (b : List ℕ) (number : ℕ) (m : Float) (lit : Bool) (t given : ℕ) → (found_of b number m lit t).checked ≡ Ok tt
     → Guess b t number m lit given (guess_at b t number m lit given)
 unfolding found_of
 one b number m lit t given clear =
@@ -32,8 +32,8 @@ one b number m lit t given clear =
     by u (Some i) e = rw (u, e)
     by u None e = let six : ◌≡◌ {A = ℕ} 6 0 = rw (u, e) at clear in absurd (omega arith)
 
-all : (b : List ℕ) (s : Setting) (c t : ℕ) (given : Guesses) → (sights b s c t).refusal ≡ 0 → AllGuessed b s t given (guesses_at b s t given)
-unfolding sights found_in refusal_in guesses_at
+all : (b : List ℕ) (s : Setting) (c t : ℕ) (given : Guesses) → (sights b s c t).checked ≡ Ok tt → AllGuessed b s t given (guesses_at b s t given)
+unfolding sights found_in all_found guesses_at
 all b s c t given clear =
     let seen = all_clear _ clear in
     record {
@@ -48,9 +48,9 @@ module _ (b : List ℕ) (setting : Setting) (s : State) (h target budget : ℕ) 
   -- "If steps were done"
   pub guessed : 1 ≤ (run_answer b setting s h target budget given).steps
       → AllGuessed b setting (run_answer b setting s h target budget given).state.moment given (run_answer b setting s h target budget given).guesses
-  guessed = go (start_refusal b setting s h target) refl
+  guessed = go (start_checks b setting s h target) refl
     where
-      go : (k : ℕ) → start_refusal b setting s h target ≡ k → 1 ≤ (run_answer b setting s h target budget given).steps
+      go : (k : ℕ) → start_checks b setting s h target ≡ k → 1 ≤ (run_answer b setting s h target budget given).steps
           → AllGuessed b setting (run_answer b setting s h target budget given).state.moment given (run_answer b setting s h target budget given).guesses
       go zero e =
           rw (answer_is b setting s h target budget given e)
@@ -64,9 +64,9 @@ module _ (b : List ℕ) (setting : Setting) (s : State) (h target budget : ℕ) 
 
   -- if no step was done, every guess comes back as given
   pub unmoved : (run_answer b setting s h target budget given).steps ≡ 0 → (run_answer b setting s h target budget given).guesses ≡ given
-  unmoved none = go (start_refusal b setting s h target) refl none
+  unmoved none = go (start_checks b setting s h target) refl none
     where
-      go : (k : ℕ) → start_refusal b setting s h target ≡ k → (run_answer b setting s h target budget given).steps ≡ 0
+      go : (k : ℕ) → start_checks b setting s h target ≡ k → (run_answer b setting s h target budget given).steps ≡ 0
           → (run_answer b setting s h target budget given).guesses ≡ given
       go zero e = rw (answer_is b setting s h target budget given e) (λ z. rw (eq-eqb _ _ z))
       go (suc k) e = rw (refused_is b setting s h target budget given k e) (λ z. refl)

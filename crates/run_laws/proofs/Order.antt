@@ -4,6 +4,7 @@ use mathlib.Core.List.{List}
 use mathlib.Core.Path.{◌≡◌, refl, sym, ap, ◌∙◌}
 use Prim.Native.Nat.{ℕ, zero, suc}
 use native.Mathlib.Omega.{arith}
+use Rattle.std.specs.Prelude.{Ok}
 use Rattle.state.specs.State.{bare}
 use Rattle.state.specs.declared.State.{State}
 use Rattle.state.specs.declared.Setting.{Setting}
@@ -11,7 +12,7 @@ use Rattle.gravity.specs.declared.Guesses.{Guesses}
 use Rattle.gravity_stored.specs.Injection.{stored_is_rule, launched}
 use Rattle.gravity_stored.proofs.Launched.{launched_itself}
 use Rattle.gravity_stored.proofs.Stored.{only_stored}
-use Rattle.run_checks.specs.Start.{start_refusal}
+use Rattle.run_checks.specs.Start.{start_checks}
 use Rattle.run_checks.proofs.Passed.{Passed, passed}
 use Rattle.run.specs.Run.{run_to, run_answer}
 use Rattle.run.specs.Step.{step}
@@ -20,19 +21,19 @@ use Rattle.run_laws.proofs.Answers.{Left, answer_is, refused_is, moves, leaves, 
 
 module _ (b : List ℕ) (setting : Setting) (s : State) (h target budget : ℕ) (given : Guesses) where
   -- a run whose checks pass was given such a state
-  pub starts_in_order : start_refusal b setting s h target ≡ 0 → stored_is_rule b setting s ≡ true
+  pub starts_in_order : start_checks b setting s h target ≡ Ok tt → stored_is_rule b setting s ≡ true
   starts_in_order e = only_stored b setting s (passed b setting s h target e).ordered
 
   -- and returns one, at any step at which it stops
-  pub ends_in_order : start_refusal b setting s h target ≡ 0 → stored_is_rule b setting (run_answer b setting s h target budget given).state ≡ true
+  pub ends_in_order : start_checks b setting s h target ≡ Ok tt → stored_is_rule b setting (run_answer b setting s h target budget given).state ≡ true
   ends_in_order e =
       rw (answer_is b setting s h target budget given e)
       (only_stored b setting (run_to (step b setting h) target budget s).state (checks_stay b setting h target s budget (passed b setting s h target e)).ordered)
 
   pub run_in_order : stored_is_rule b setting s ≡ true → stored_is_rule b setting (run_answer b setting s h target budget given).state ≡ true
-  run_in_order ok = go (start_refusal b setting s h target) refl
+  run_in_order ok = go (start_checks b setting s h target) refl
     where
-      go : (k : ℕ) → start_refusal b setting s h target ≡ k → stored_is_rule b setting (run_answer b setting s h target budget given).state ≡ true
+      go : (k : ℕ) → start_checks b setting s h target ≡ k → stored_is_rule b setting (run_answer b setting s h target budget given).state ≡ true
       go zero e = ends_in_order e
       go (suc k) e = rw (refused_is b setting s h target budget given k e) ok
 
@@ -52,9 +53,9 @@ module _ (b : List ℕ) (setting : Setting) (h target : ℕ) where
 
   pub run_launched : (s : State) (budget : ℕ) (given : Guesses) → launched b setting (bare s) ≡ s
       → launched b setting (bare (run_answer b setting s h target budget given).state) ≡ (run_answer b setting s h target budget given).state
-  run_launched s budget given self = go (start_refusal b setting s h target) refl
+  run_launched s budget given self = go (start_checks b setting s h target) refl
     where
-      go : (k : ℕ) → start_refusal b setting s h target ≡ k
+      go : (k : ℕ) → start_checks b setting s h target ≡ k
           → launched b setting (bare (run_answer b setting s h target budget given).state) ≡ (run_answer b setting s h target budget given).state
       go zero e =
           rw (answer_is b setting s h target budget given e)

@@ -4,12 +4,14 @@ use mathlib.Core.Path.{◌≡◌, refl, sym, ap, ◌∙◌}
 use Prim.Native.Nat.{ℕ, zero, suc, ◌+◌, ◌*◌, ◌≤◌, ◌<◌}
 use native.Mathlib.Nat.{zero-mul, add-suc, add-mul}
 use native.Mathlib.Omega.{arith}
+use Rattle.base.specs.declared.Refusal.{Refusal}
+use Rattle.std.specs.Prelude.{Ok, Err}
 use Rattle.state.specs.declared.State.{State}
 use Rattle.state.specs.declared.Setting.{Setting}
 use Rattle.gravity.specs.declared.Guesses.{Guesses}
-use Rattle.run.specs.Step.{Moved, On, Off, step}
+use Rattle.run.specs.Step.{Moved, step}
 use Rattle.run.specs.Walk.{walk}
-use Rattle.run_checks.specs.Start.{start_refusal}
+use Rattle.run_checks.specs.Start.{start_checks}
 use Rattle.run.specs.Run.{run_to, with_guesses, run_answer}
 use Rattle.run.specs.declared.Outcome.{Outcome}
 use Rattle.run.specs.declared.Outcome.TheVariants.{Arrived, Going, Refused}
@@ -25,23 +27,23 @@ use Rattle.run_laws.proofs.Answers.{answer_is, refused_is, run_from, checks_stay
 -- two outcomes that differ
 data Differ : Outcome → Outcome → Type 0 where
   arrived_going : Differ Arrived Going
-  arrived_refused : (k : ℕ) → Differ Arrived (Refused k)
-  going_refused : (k : ℕ) → Differ Going (Refused k)
+  arrived_refused : (k : Refusal) → Differ Arrived (Refused k)
+  going_refused : (k : Refusal) → Differ Going (Refused k)
 
 never_equal : {o o' : Outcome} → Differ o o' → (o ≡ o' → ⊥) × (o' ≡ o → ⊥)
 never_equal arrived_going = (λ e. let z : ◌≡◌ {A = ℕ} 0 1 = cc in omega arith, λ e. let z : ◌≡◌ {A = ℕ} 0 1 = cc in omega arith)
 never_equal (arrived_refused k) = (λ e. let z : ◌≡◌ {A = ℕ} 0 1 = cc in omega arith, λ e. let z : ◌≡◌ {A = ℕ} 0 1 = cc in omega arith)
 never_equal (going_refused k) = (λ e. let z : ◌≡◌ {A = ℕ} 0 1 = cc in omega arith, λ e. let z : ◌≡◌ {A = ℕ} 0 1 = cc in omega arith)
 
-same_number : (f : State → Moved) (injection : State) (n j k : ℕ) → walk f (suc n) injection ≡ Off j → Refused j ≡ Refused k
-    → walk f (suc n) injection ≡ Off k
-same_number f injection n j k w e = let same : j ≡ k = cc in w ∙ ap Off same
+same_number : (f : State → Moved) (injection : State) (n : ℕ) (j k : Refusal) → walk f (suc n) injection ≡ Err j → Refused j ≡ Refused k
+    → walk f (suc n) injection ≡ Err k
+same_number f injection n j k w e = let same : j ≡ k = cc in w ∙ ap Err same
 
-one_number : (f : State → Moved) (injection : State) (n j k : ℕ) → walk f (suc n) injection ≡ Off j → walk f (suc n) injection ≡ Off k
+one_number : (f : State → Moved) (injection : State) (n : ℕ) (j k : Refusal) → walk f (suc n) injection ≡ Err j → walk f (suc n) injection ≡ Err k
     → Refused j ≡ Refused k
-one_number f injection n j k w w' = let same : Off j ≡ Off k = sym w ∙ w' in let number : j ≡ k = cc in ap Refused number
+one_number f injection n j k w w' = let same : Err j ≡ Err k = sym w ∙ w' in let number : j ≡ k = cc in ap Refused number
 
-module _ (f : State → Moved) (injection : State) (h target n budget : ℕ) (r : RunAnswer) (walked : walk f n injection ≡ On r.state)
+module _ (f : State → Moved) (injection : State) (h target n budget : ℕ) (r : RunAnswer) (walked : walk f n injection ≡ Ok r.state)
     (clock : r.state.moment ≡ injection.moment + n * h) (within : r.state.moment ≤ target) (spent : r.steps ≤ budget) where
   holds_by : (o : Outcome) → r.outcome ≡ o → Tells f injection target n budget r.steps r.state o → Holds f injection h target n budget r
   holds_by Arrived is at =
@@ -84,7 +86,7 @@ module _ (f : State → Moved) (injection : State) (h target n budget : ℕ) (r 
 -- ---- the calls of a journey
 
 module _ (b : List ℕ) (setting : Setting) (h target : ℕ) (injection : State) where
-  tells_from : (n : ℕ) (s : State) (m budget : ℕ) (last : State) (o : Outcome) → walk (step b setting h) n injection ≡ On s
+  tells_from : (n : ℕ) (s : State) (m budget : ℕ) (last : State) (o : Outcome) → walk (step b setting h) n injection ≡ Ok s
       → Tells (step b setting h) s target m budget m last o → Tells (step b setting h) injection target (n + m) budget m last o
   tells_from n s m budget last Arrived w t = t
   tells_from n s m budget last Going w t = t
@@ -94,7 +96,7 @@ module _ (b : List ℕ) (setting : Setting) (h target : ℕ) (injection : State)
     ap (λ (j : ℕ). walk (step b setting h) j injection) (sym (add-suc n m)) ∙ walk_more (step b setting h) n (suc m) injection s w ∙ t.2,
   )
 
-  holds_from : (n : ℕ) (s : State) (budget : ℕ) (given : Guesses) → walk (step b setting h) n injection ≡ On s
+  holds_from : (n : ℕ) (s : State) (budget : ℕ) (given : Guesses) → walk (step b setting h) n injection ≡ Ok s
       → s.moment ≡ injection.moment + n * h → Passed b setting s h target
       → Holds (step b setting h) injection h target (n + (run_to (step b setting h) target budget s).steps) budget
       (with_guesses b setting given (run_to (step b setting h) target budget s))
@@ -110,7 +112,7 @@ module _ (b : List ℕ) (setting : Setting) (h target : ℕ) (injection : State)
       refl
       (tells_from n s q.steps budget q.state q.outcome w r.tells)
 
-  onward_from : (n : ℕ) (s : State) (calls : List Call) → walk (step b setting h) n injection ≡ On s → s.moment ≡ injection.moment + n * h
+  onward_from : (n : ℕ) (s : State) (calls : List Call) → walk (step b setting h) n injection ≡ Ok s → s.moment ≡ injection.moment + n * h
       → Passed b setting s h target → AllHold (step b setting h) injection h target n calls (journey b setting h target s calls)
   onward_from n s [] w t p = tt
   onward_from n s (call ∷ calls) w t p =
@@ -120,7 +122,7 @@ module _ (b : List ℕ) (setting : Setting) (h target : ℕ) (injection : State)
       (first, onward_from (n + q.steps) q.state calls first.walked first.clock (checks_stay b setting h target s call.budget p))
 
   -- demand 3
-  pub portions : (calls : List Call) → start_refusal b setting injection h target ≡ 0
+  pub portions : (calls : List Call) → start_checks b setting injection h target ≡ Ok tt
       → AllHold (step b setting h) injection h target 0 calls (journey b setting h target injection calls)
   portions calls e =
       onward_from 0 injection calls (walk_none (step b setting h) injection) (let z = zero-mul h in omega arith) (passed b setting injection h target e)
@@ -130,9 +132,9 @@ module _ (b : List ℕ) (setting : Setting) (h target : ℕ) (injection : State)
 -- returned moment = given moment + count·h
 pub clock_always : (b : List ℕ) (setting : Setting) (s : State) (h target budget : ℕ) (given : Guesses)
     → (run_answer b setting s h target budget given).state.moment ≡ s.moment + (run_answer b setting s h target budget given).steps * h
-clock_always b setting s h target budget given = go (start_refusal b setting s h target) refl
+clock_always b setting s h target budget given = go (start_checks b setting s h target) refl
   where
-    go : (k : ℕ) → start_refusal b setting s h target ≡ k
+    go : (k : ℕ) → start_checks b setting s h target ≡ k
         → (run_answer b setting s h target budget given).state.moment ≡ s.moment + (run_answer b setting s h target budget given).steps * h
     go zero e = rw (answer_is b setting s h target budget given e) (run_from b setting h target s budget (passed b setting s h target e)).time
     go (suc k) e = rw (refused_is b setting s h target budget given k e) (let z = zero-mul h in omega arith)
@@ -140,9 +142,9 @@ clock_always b setting s h target budget given = go (start_refusal b setting s h
 -- no call does more steps than its budget
 pub spent_always : (b : List ℕ) (setting : Setting) (s : State) (h target budget : ℕ) (given : Guesses)
     → (run_answer b setting s h target budget given).steps ≤ budget
-spent_always b setting s h target budget given = go (start_refusal b setting s h target) refl
+spent_always b setting s h target budget given = go (start_checks b setting s h target) refl
   where
-    go : (k : ℕ) → start_refusal b setting s h target ≡ k → (run_answer b setting s h target budget given).steps ≤ budget
+    go : (k : ℕ) → start_checks b setting s h target ≡ k → (run_answer b setting s h target budget given).steps ≤ budget
     go zero e = rw (answer_is b setting s h target budget given e) (run_from b setting h target s budget (passed b setting s h target e)).spent
     go (suc k) e = rw (refused_is b setting s h target budget given k e) (omega arith)
 
@@ -154,9 +156,9 @@ pub record SameButGuesses (r r' : RunAnswer) : Type 0 where
 
 pub guess_free : (b : List ℕ) (setting : Setting) (s : State) (h target budget : ℕ) (given other : Guesses)
     → SameButGuesses (run_answer b setting s h target budget given) (run_answer b setting s h target budget other)
-guess_free b setting s h target budget given other = go (start_refusal b setting s h target) refl
+guess_free b setting s h target budget given other = go (start_checks b setting s h target) refl
   where
-    go : (k : ℕ) → start_refusal b setting s h target ≡ k
+    go : (k : ℕ) → start_checks b setting s h target ≡ k
         → SameButGuesses (run_answer b setting s h target budget given) (run_answer b setting s h target budget other)
     go zero e =
         rw (answer_is b setting s h target budget given e, answer_is b setting s h target budget other e)

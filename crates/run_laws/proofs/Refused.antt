@@ -20,19 +20,19 @@ use Rattle.gravity.specs.declared.Guesses.{Guesses}
 use Rattle.base.specs.Checks.{refused_by}
 use Rattle.base.proofs.Bools.{or_right}
 use Rattle.state_checks.proofs.Numbers.{common_meets}
-use Rattle.gravity.proofs.Refused.{as_answer, rule_refused}
-use Rattle.gravity_stored.specs.Injection.{rule_at, kept_by, stored_refusal_by, stored_refusal}
-use Rattle.run_target.specs.Target.{target_refusal}
-use Rattle.run_checks.specs.Start.{step_allowed, within_steps, inputs_refusal, start_refusal}
-use Rattle.run.specs.Step.{Moved, On, Off, and_then, along, weighed, half, sixth, step_h, arrive, moved_by, keeping, step}
+use Rattle.gravity.proofs.Refused.{rule_refused}
+use Rattle.gravity_stored.specs.Injection.{rule_at, kept_by, stored_check_by, stored_check}
+use Rattle.run_target.specs.Target.{target_checks}
+use Rattle.run_checks.specs.Start.{step_allowed, within_steps, inputs_checks, start_checks}
+use Rattle.run.specs.Step.{Moved, and_then, along, weighed, half, sixth, step_h, arrive, keeping, step}
 use Rattle.run.specs.Stages.{velocity2, velocity3, velocity4, lastly, stage2, stage3, stage4}
 use Rattle.run.specs.Run.{Reached, at_target, afterwards, run_to, with_guesses, refused_at_once, run_answer}
 use Rattle.run.specs.declared.Outcome.{Outcome}
 use Rattle.run.specs.declared.Outcome.TheVariants as outcome
 
 abbrev pub off_by : (ℕ → Bool) → Moved → Bool
-off_by ok (On s) = true
-off_by ok (Off k) = ok k
+off_by ok (Ok s) = true
+off_by ok (Err k) = ok k
 
 -- an outcome whose refusal, if it is one, meets the test
 abbrev pub outcome_by : (ℕ → Bool) → Outcome → Bool
@@ -40,16 +40,16 @@ outcome_by ok outcome.Arrived = true
 outcome_by ok outcome.Going = true
 outcome_by ok (outcome.Refused k) = ok k
 
-module _ (ok : ℕ → Bool) (six : ok 6 ≡ true) (seven : ok 7 ≡ true) where
-  then_off : (a : Result Vector Refusal) (next : Vector → Moved) → refused_by ok (as_answer a) ≡ true → ((v : Vector) → off_by ok (next v) ≡ true) → off_by ok (and_then a next) ≡ true
+module _ (ok : Refusal → Bool) (six : ok Refusal.Cover ≡ true) (seven : ok Refusal.NotFinite ≡ true) where
+  then_off : (a : Result Vector Refusal) (next : Vector → Moved) → refused_by ok a ≡ true → ((v : Vector) → off_by ok (next v) ≡ true) → off_by ok (and_then a next) ≡ true
   then_off (Ok v) next first rest = rest v
   then_off (Err k) next first rest = first
 
-  kept_off : (i : Injection) (a : Result Vector Refusal) → refused_by ok (as_answer a) ≡ true → off_by ok (moved_by (kept_by i a)) ≡ true
+  kept_off : (i : Injection) (a : Result Vector Refusal) → refused_by ok a ≡ true → off_by ok (kept_by i a) ≡ true
   kept_off i (Ok a) e = refl
   kept_off i (Err k) e = e
 
-  module _ (acc : ℕ → Vector → Result Vector Refusal) (each : (t : ℕ) (P : Vector) → refused_by ok (as_answer (acc t P)) ≡ true) (h : ℕ) (s : State) where
+  module _ (acc : ℕ → Vector → Result Vector Refusal) (each : (t : ℕ) (P : Vector) → refused_by ok (acc t P) ≡ true) (h : ℕ) (s : State) where
     arrive_off : (t c : ℕ) (p v : Vector) → off_by ok (arrive (keeping acc) t c p v) ≡ true
     arrive_off t c p v = by_if (off_by ok) (finite_vector p && finite_vector v) (kept_off (injection_at t c p v) (acc t p) (each t p)) seven
 
@@ -79,8 +79,8 @@ module _ (ok : ℕ → Bool) (six : ok 6 ≡ true) (seven : ok 7 ≡ true) where
   module _ (f : State → Moved) (steps : (s : State) → off_by ok (f s) ≡ true) (target : ℕ) where
     after_off : (rest : State → Reached) (s : State) (m : Moved) → ((next : State) → outcome_by ok (rest next).outcome ≡ true) → off_by ok m ≡ true
         → outcome_by ok (afterwards rest s m).outcome ≡ true
-    after_off rest s (On next) later here = later next
-    after_off rest s (Off k) later here = here
+    after_off rest s (Ok next) later here = later next
+    after_off rest s (Err k) later here = here
 
     run_off : (budget : ℕ) (s : State) → outcome_by ok (run_to f target budget s).outcome ≡ true
     unfolding run_to
@@ -89,24 +89,24 @@ module _ (ok : ℕ → Bool) (six : ok 6 ≡ true) (seven : ok 7 ≡ true) where
         by_if (λ (r : Reached). outcome_by ok r.outcome) (at_target target s) refl
         (after_off (run_to f target budget) s (f s) (run_off budget) (steps s))
 
-  module _ (one : ok 1 ≡ true) (four : ok 4 ≡ true) (fourteen : ok 14 ≡ true) (three : ok 3 ≡ true) (fifteen : ok 15 ≡ true) (two : ok 2 ≡ true)
-      (five : ok 5 ≡ true) where
-    stored_by_off : (s : State) (a : Result Vector Refusal) → refused_by ok (as_answer a) ≡ true → ((stored_refusal_by s a =? 0) || ok (stored_refusal_by s a)) ≡ true
+  module _ (one : ok Refusal.Book ≡ true) (four : ok Refusal.Setting ≡ true) (fourteen : ok Refusal.Centre ≡ true) (three : ok Refusal.Moment ≡ true) (fifteen : ok Refusal.Stored ≡ true) (two : ok Refusal.Step ≡ true)
+      (five : ok Refusal.Target ≡ true) where
+    stored_by_off : (s : State) (a : Result Vector Refusal) → refused_by ok a ≡ true → ((stored_check_by s a =? 0) || ok (stored_check_by s a)) ≡ true
     stored_by_off s (Ok a) e = let p : ℕ → Bool = λ k. (k =? 0) || ok k in by_if p (same_vector a (acceleration s)) refl fifteen
     stored_by_off s (Err k) e = or_right (k =? 0) (ok k) e
 
-    stored_off : (b : List ℕ) (setting : Setting) (s : State) → ((stored_refusal b setting s =? 0) || ok (stored_refusal b setting s)) ≡ true
-    unfolding stored_refusal
+    stored_off : (b : List ℕ) (setting : Setting) (s : State) → ((stored_check b setting s =? 0) || ok (stored_check b setting s)) ≡ true
+    unfolding stored_check
     stored_off b setting s = stored_by_off s (rule_at b setting (bare s)) (rule_refused ok six seven b setting s.centre s.moment (position s))
 
     -- 0, or a number of the checks
     start_off : (b : List ℕ) (setting : Setting) (s : State) (h target : ℕ)
-        → ((start_refusal b setting s h target =? 0) || ok (start_refusal b setting s h target)) ≡ true
-    unfolding start_refusal inputs_refusal target_refusal
+        → ((start_checks b setting s h target =? 0) || ok (start_checks b setting s h target)) ≡ true
+    unfolding start_checks inputs_checks target_checks
     start_off b setting s h target =
         let p : ℕ → Bool = λ k. (k =? 0) || ok k in
         common_meets p (λ k. k) _ one four fourteen three seven
-        (by_if p (stored_refusal b setting s =? 0)
+        (by_if p (stored_check b setting s =? 0)
         (by_if p (not (step_allowed h)) two (by_if p (not (within_steps s.moment h target)) five refl))
         (stored_off b setting s))
         b setting (centre_allowed setting s.centre) (is_moment s.moment && is_moment target) (finite_state s)
@@ -115,16 +115,16 @@ module _ (ok : ℕ → Bool) (six : ok 6 ≡ true) (seven : ok 7 ≡ true) where
     pub run_refused_lem : (b : List ℕ) (setting : Setting) (s : State) (h target budget : ℕ) (given : Guesses)
         → outcome_by ok (run_answer b setting s h target budget given).outcome ≡ true
     unfolding run_answer
-    run_refused_lem b setting s h target budget given = go (start_refusal b setting s h target =? 0) (start_off b setting s h target)
+    run_refused_lem b setting s h target budget given = go (start_checks b setting s h target =? 0) (start_off b setting s h target)
       where
-        go : (none : Bool) → (none || ok (start_refusal b setting s h target)) ≡ true
+        go : (none : Bool) → (none || ok (start_checks b setting s h target)) ≡ true
             → outcome_by ok (if none then with_guesses b setting given (run_to (step b setting h) target budget s)
-            otherwise refused_at_once (start_refusal b setting s h target) s given).outcome ≡ true
+            otherwise refused_at_once (start_checks b setting s h target) s given).outcome ≡ true
         go true e = run_off (step b setting h) (step_off b setting h) target budget s
         go false e = e
 
 -- "refused by 6 or 7 alone"
-pub six_or_seven : (b : List ℕ) (setting : Setting) (h k : ℕ) (s : State) → step b setting h s ≡ Off k → (k ≡ 6) ⊎ (k ≡ 7)
+pub six_or_seven : (b : List ℕ) (setting : Setting) (h : ℕ) (k : Refusal) (s : State) → step b setting h s ≡ Err k → (k ≡ Refusal.Cover) ⊎ (k ≡ Refusal.NotFinite)
 six_or_seven b setting h k s e = go (k =? 6) refl (k =? 7) refl
   where
     holds : ((k =? 6) || (k =? 7)) ≡ true

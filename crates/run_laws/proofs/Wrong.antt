@@ -4,6 +4,7 @@ use mathlib.Core.Path.{◌≡◌, refl, sym, ap, ◌∙◌}
 use Prim.Native.Nat.{ℕ, ◌+◌, ◌*◌}
 use native.Mathlib.Omega.{arith}
 use lib.Ieee.{Float, neg, add, sub, mul, div, lt, eq, of_bits, to_bits, of_int}
+use Rattle.std.specs.Prelude.{Ok, Err}
 use Rattle.base.specs.Floats.{whole}
 use Rattle.state.specs.State.{setting_allowed, coefficients_allowed, terms_allowed, coefficient_of, centre_allowed, same_vector, n}
 use Rattle.state.specs.declared.Vector.{Vector}
@@ -15,12 +16,12 @@ use Rattle.root.specs.Root.{root_of}
 use Rattle.gravity.specs.Pull.{g, sound, r3}
 use Rattle.gravity.specs.Acceleration.{sky, acceleration_at}
 use Rattle.gravity.specs.declared.Guesses.{Guesses}
-use Rattle.gravity_stored.specs.Injection.{stored_refusal}
-use Rattle.state_checks.specs.Common.{common_refusal}
-use Rattle.run_checks.specs.Start.{inputs_refusal, start_refusal}
-use Rattle.run.specs.Step.{Moved, On, Off, step_h, along, weighed, half, sixth, step}
+use Rattle.gravity_stored.specs.Injection.{stored_check}
+use Rattle.state_checks.specs.Common.{common_checks}
+use Rattle.run_checks.specs.Start.{inputs_checks, start_checks}
+use Rattle.run.specs.Step.{Moved, step_h, along, weighed, half, sixth, step}
 use Rattle.run.specs.Run.{ended, counted, run_to, with_guesses, run_answer}
-use Rattle.run_target.specs.Target.{target_refusal}
+use Rattle.run_target.specs.Target.{target_checks}
 use Rattle.run.specs.declared.Outcome.TheVariants.{Arrived, Going, Refused}
 use Rattle.run.specs.declared.RunAnswer.{RunAnswer}
 use Rattle.run.proofs.OneStep.{done}
@@ -32,17 +33,17 @@ use Rattle.run_laws.proofs.Answers.{answer_is}
 use Rattle.run_laws.proofs.Portions.{clock_always}
 
 -- the example is in order
-ordered : stored_refusal example_book example_setting example_state ≡ 0
-unfolding stored_refusal same_vector acceleration_at coefficient_of sky g sound r3 n root_of neg add sub mul div lt eq of_bits of_int to_bits
+ordered : stored_check example_book example_setting example_state ≡ Ok tt
+unfolding stored_check same_vector acceleration_at coefficient_of sky g sound r3 n root_of neg add sub mul div lt eq of_bits of_int to_bits
 ordered = refl
 
 -- it passes the checks, with the target at its own moment, one step on and two steps on
-passes_here : start_refusal example_book example_setting example_state example_h 0 ≡ 0
-unfolding start_refusal inputs_refusal target_refusal common_refusal passes setting_allowed coefficients_allowed terms_allowed centre_allowed coefficient_of u16_at u32_at u64_at lt of_bits of_int
+passes_here : start_checks example_book example_setting example_state example_h 0 ≡ Ok tt
+unfolding start_checks inputs_checks target_checks common_checks passes setting_allowed coefficients_allowed terms_allowed centre_allowed coefficient_of u16_at u32_at u64_at lt of_bits of_int
 passes_here = rw ordered
 
-passes_there : start_refusal example_book example_setting example_state example_h 2000 ≡ 0
-unfolding start_refusal inputs_refusal target_refusal common_refusal passes setting_allowed coefficients_allowed terms_allowed centre_allowed coefficient_of u16_at u32_at u64_at lt of_bits of_int
+passes_there : start_checks example_book example_setting example_state example_h 2000 ≡ Ok tt
+unfolding start_checks inputs_checks target_checks common_checks passes setting_allowed coefficients_allowed terms_allowed centre_allowed coefficient_of u16_at u32_at u64_at lt of_bits of_int
 passes_there = rw ordered
 
 abbrev f : State → Moved
@@ -63,12 +64,12 @@ abbrev low : State → Bool
 low s = lt s.y (whole 5)
 
 abbrev goes_on : Moved → Bool
-goes_on (On second) = not (low second)
-goes_on (Off k) = false
+goes_on (Ok second) = not (low second)
+goes_on (Err k) = false
 
 abbrev two_steps : Moved → Bool
-two_steps (On first) = low first && goes_on (f first)
-two_steps (Off k) = false
+two_steps (Ok first) = low first && goes_on (f first)
+two_steps (Err k) = false
 
 both_taken : two_steps (f example_state) ≡ true
 unfolding step step_h along weighed half sixth acceleration_at coefficient_of sky g sound r3 n root_of neg add sub mul div lt eq of_bits of_int
@@ -127,7 +128,7 @@ module _ (call : RunCall) (promised : Promised call) where
   not_only_the_clock only = go (f example_state) refl both_taken
     where
       -- the answer to two steps of the example is the second step's state
-      answer : (first second : State) → f example_state ≡ On first → f first ≡ On second
+      answer : (first second : State) → f example_state ≡ Ok first → f first ≡ Ok second
           → call example_book example_setting example_state example_h 2000 2 no_guesses
           ≡ with_guesses example_book example_setting no_guesses (counted (counted (ended Arrived second)))
       answer first second one two =
@@ -139,7 +140,7 @@ module _ (call : RunCall) (promised : Promised call) where
           (run_on f 2000 example_state (λ e. absurd (omega arith)) 1 first one
           ∙ ap counted (run_on f 2000 first (λ e. absurd (omega arith)) 0 second two ∙ ap counted (run_arrived f 2000 second 0 (omega arith))))
 
-      clash : (first second : State) → f example_state ≡ On first → f first ≡ On second → low first ≡ true → not (low second) ≡ true → ⊥
+      clash : (first second : State) → f example_state ≡ Ok first → f first ≡ Ok second → low first ≡ true → not (low second) ≡ true → ⊥
       clash first second one two before after =
           let is = answer first second one two in
           let frozen = (only example_book example_setting example_state first example_h 2000 2 no_guesses one (rw is (omega arith))).0 in
@@ -147,11 +148,11 @@ module _ (call : RunCall) (promised : Promised call) where
           let still : low second ≡ true = ap (λ (y : Float). lt y (whole 5)) same ∙ before in
           true≢false (sym after ∙ ap not still)
 
-      second_step : (first : State) (m : Moved) → f example_state ≡ On first → f first ≡ m → (low first && goes_on m) ≡ true → ⊥
-      second_step first (On second) one two e =
+      second_step : (first : State) (m : Moved) → f example_state ≡ Ok first → f first ≡ m → (low first && goes_on m) ≡ true → ⊥
+      second_step first (Ok second) one two e =
           clash first second one two (left (low first) (not (low second)) e) (right (low first) (not (low second)) e)
-      second_step first (Off k) one two e = true≢false (sym (right (low first) false e))
+      second_step first (Err k) one two e = true≢false (sym (right (low first) false e))
 
       go : (m : Moved) → f example_state ≡ m → two_steps m ≡ true → ⊥
-      go (On first) one e = second_step first (f first) one refl e
-      go (Off k) one e = true≢false (sym e)
+      go (Ok first) one e = second_step first (f first) one refl e
+      go (Err k) one e = true≢false (sym e)

@@ -1,10 +1,11 @@
 -- Demand 3: a journey of several calls with any budgets and any guesses, each call continuing from the last, compared with the plain walk.
-use Rattle.std.specs.Prelude.{List, [], ◌∷◌, ◌↔◌, ◌≡◌, ℕ, suc, ◌+◌, ◌*◌, ◌<◌, ◌≤◌}
+use Rattle.base.specs.declared.Refusal.{Refusal}
+use Rattle.std.specs.Prelude.{List, [], ◌∷◌, ◌↔◌, ◌≡◌, ℕ, suc, ◌+◌, ◌*◌, ◌<◌, ◌≤◌, Ok, Err}
 use Rattle.base.specs.Choice.{if◌then◌otherwise◌, ◌=?◌}
 use Rattle.state.specs.declared.State.{State}
 use Rattle.state.specs.declared.Setting.{Setting}
 use Rattle.gravity.specs.declared.Guesses.{Guesses}
-use Rattle.run.specs.Step.{Moved, On, Off}
+use Rattle.run.specs.Step.{Moved}
 use Rattle.run.specs.Walk.{walk}
 use Rattle.run.specs.Run.{run_answer}
 use Rattle.run.specs.declared.Outcome.TheVariants.{Arrived, Going, Refused}
@@ -36,7 +37,7 @@ budgets (call ∷ calls) = call.budget + budgets calls
 -- One answer of a call with this budget, after n steps of the walk f from the injection in all.
 pub record Holds (f : State → Moved) (injection : State) (h target n budget : ℕ) (r : RunAnswer) : Type 0 where
   -- "The state equals, to the bit, the plain walk from the injection"
-  pub walked : walk f n injection ≡ On r.state
+  pub walked : walk f n injection ≡ Ok r.state
   pub clock : r.state.moment ≡ injection.moment + n * h
   pub within : r.state.moment ≤ target
   pub spent : r.steps ≤ budget
@@ -46,7 +47,7 @@ pub record Holds (f : State → Moved) (injection : State) (h target n budget : 
   pub going : r.outcome ≡ Going ↔ (r.state.moment < target) × (r.steps ≡ budget)
   -- "A refusal exactly when, short of the target, the call has budget left and the walk's next step cannot be taken; it carries that
   -- walk's number"
-  pub refused : (k : ℕ) → r.outcome ≡ Refused k ↔ (r.state.moment < target) × (r.steps < budget) × (walk f (suc n) injection ≡ Off k)
+  pub refused : (k : Refusal) → r.outcome ≡ Refused k ↔ (r.state.moment < target) × (r.steps < budget) × (walk f (suc n) injection ≡ Err k)
 
 -- every answer of a journey, one for each call, after n steps before them
 abbrev pub AllHold : (State → Moved) → State → ℕ → ℕ → ℕ → List Call → List RunAnswer → Type 0
@@ -65,4 +66,4 @@ met_again k s call =
 -- an answer that ends a journey: arrived at the target, or refused with the number of the step that cannot be taken
 pub data Over (f : State → Moved) (target : ℕ) (r : RunAnswer) : Type 0 where
   there : r.outcome ≡ Arrived → r.state.moment ≡ target → Over f target r
-  off : (k : ℕ) → r.outcome ≡ Refused k → f r.state ≡ Off k → Over f target r
+  off : (k : Refusal) → r.outcome ≡ Refused k → f r.state ≡ Err k → Over f target r

@@ -1,14 +1,15 @@
 -- Document 01, "What the desk may hold each call to": "Try these against the promises". The six wrong runs that it names, each defined by
 -- its answer to every input.
-use Rattle.std.specs.Prelude.{List, [], ◌∷◌, ◌≡◌, ℕ, ◌+◌, ◌*◌, ◌≤◌}
+use Rattle.base.specs.declared.Refusal.{Refusal}
+use Rattle.std.specs.Prelude.{List, [], ◌∷◌, ◌≡◌, ℕ, ◌+◌, ◌*◌, ◌≤◌, Ok}
 use Rattle.std.specs.Float.Ieee.{neg}
 use Rattle.base.specs.Floats.{whole}
 use Rattle.state.specs.State.{position, velocity}
 use Rattle.state.specs.declared.State.{State}
 use Rattle.state.specs.declared.Setting.{Setting}
 use Rattle.gravity.specs.declared.Guesses.{Guesses}
-use Rattle.run_checks.specs.Start.{start_refusal}
-use Rattle.run.specs.Step.{On, step}
+use Rattle.run_checks.specs.Start.{start_checks}
+use Rattle.run.specs.Step.{step}
 use Rattle.run.specs.Run.{handed_back, run_answer}
 use Rattle.run.specs.declared.Outcome.TheVariants.{Arrived, Going, Refused}
 use Rattle.run.specs.declared.RunAnswer.{RunAnswer}
@@ -27,7 +28,7 @@ Promised call =
 abbrev pub RefusesEverything : RunCall → Type 0
 RefusesEverything call =
     (b : List ℕ) (setting : Setting) (s : State) (h target budget : ℕ) (given : Guesses)
-    → (k : ℕ) × ((call b setting s h target budget given).outcome ≡ Refused k)
+    → (k : Refusal) × ((call b setting s h target budget given).outcome ≡ Refused k)
 
 -- "one answering a constant"
 abbrev pub AnswersAConstant : RunCall → Type 0
@@ -38,20 +39,20 @@ AnswersAConstant call =
 -- "one handing its state back as 'arrived'", whenever the checks pass
 abbrev pub OwnStateAsArrived : RunCall → Type 0
 OwnStateAsArrived call =
-    (b : List ℕ) (setting : Setting) (s : State) (h target budget : ℕ) (given : Guesses) → start_refusal b setting s h target ≡ 0
+    (b : List ℕ) (setting : Setting) (s : State) (h target budget : ℕ) (given : Guesses) → start_checks b setting s h target ≡ Ok tt
     → call b setting s h target budget given ≡ handed_back Arrived 0 s given
 
 -- "and one handing it back as 'going'"
 abbrev pub OwnStateAsGoing : RunCall → Type 0
 OwnStateAsGoing call =
-    (b : List ℕ) (setting : Setting) (s : State) (h target budget : ℕ) (given : Guesses) → start_refusal b setting s h target ≡ 0
+    (b : List ℕ) (setting : Setting) (s : State) (h target budget : ℕ) (given : Guesses) → start_checks b setting s h target ≡ Ok tt
     → call b setting s h target budget given ≡ handed_back Going 0 s given
 
 -- "one that walks its first step and afterwards only moves the clock": after two steps or more, position and velocity are those after the
 -- first
 abbrev pub OnlyTheClock : RunCall → Type 0
 OnlyTheClock call =
-    (b : List ℕ) (setting : Setting) (s first : State) (h target budget : ℕ) (given : Guesses) → step b setting h s ≡ On first
+    (b : List ℕ) (setting : Setting) (s first : State) (h target budget : ℕ) (given : Guesses) → step b setting h s ≡ Ok first
     → 1 ≤ (call b setting s h target budget given).steps
     → (position (call b setting s h target budget given).state ≡ position first)
     × (velocity (call b setting s h target budget given).state ≡ velocity first)

@@ -1,15 +1,17 @@
 -- The last two checks: steps of an allowed length have a length. Assumes nothing.
-use mathlib.Core.Bool.{Bool, true, false, not, ◌&&◌}
+use mathlib.Core.Bool.{Bool, true, false, ◌&&◌}
 use mathlib.Core.Path.{◌≡◌, refl}
 use Prim.Native.Nat.{ℕ, ◌≤◌}
 use native.Mathlib.Omega.{arith}
 use borrow.Author.Tests.{le-leb}
-use Rattle.base.specs.Choice.{if◌then◌otherwise◌, ◌≤?◌}
+use Rattle.base.specs.Choice.{◌≤?◌}
+use Rattle.base.specs.Checks.{Checked, require, ◌before◌}
+use Rattle.base.specs.declared.Refusal.{Refusal}
 use Rattle.run_target.specs.Target.{step_allowed, within_steps}
 use Rattle.run_target.proofs.Allowed.{long_enough}
 
-abbrev two_checks : Bool → Bool → ℕ
-two_checks length reaches = if not length then 2 otherwise if not reaches then 5 otherwise 0
+abbrev two_checks : Bool → Bool → Checked
+two_checks length reaches = require length Refusal.Step before require reaches Refusal.Target
 
 pub last_two : (t h target : ℕ) → two_checks (step_allowed h) ((1 ≤? h) && within_steps t h target) ≡ two_checks (step_allowed h) (within_steps t h target)
 last_two t h target = go (step_allowed h) refl

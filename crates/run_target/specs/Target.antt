@@ -1,6 +1,8 @@
 -- Document 01, "The step and the run" and "Refusal numbers": the length of a step and the way to the target, 2 and 5.
-use Rattle.std.specs.Prelude.{Bool, not, ◌&&◌, ℕ, ◌-◌, ◌%◌}
-use Rattle.base.specs.Choice.{if◌then◌otherwise◌, ◌≤?◌, ◌=?◌}
+use Rattle.std.specs.Prelude.{Bool, ◌&&◌, ℕ, ◌-◌, ◌%◌}
+use Rattle.base.specs.Choice.{◌≤?◌, ◌=?◌}
+use Rattle.base.specs.Checks.{Checked, require, ◌before◌}
+use Rattle.base.specs.declared.Refusal.{Refusal}
 
 -- "Step h is an even number of ms, 2 to 86,400,000"
 abbrev pub step_allowed : ℕ → Bool
@@ -11,5 +13,5 @@ abbrev pub within_steps : ℕ → ℕ → ℕ → Bool
 within_steps t h target = (t ≤? target) && ((target - t) % h =? 0)
 
 -- the last group of a run's checks, as the code makes them
-unfoldable pub target_refusal : ℕ → ℕ → ℕ → ℕ
-target_refusal t h target = if not (step_allowed h) then 2 otherwise if not (within_steps t h target) then 5 otherwise 0
+unfoldable pub target_checks : ℕ → ℕ → ℕ → Checked
+target_checks t h target = require (step_allowed h) Refusal.Step before require (within_steps t h target) Refusal.Target

@@ -4,9 +4,9 @@
 
 ghost use Rattle.std.specs.Prelude.{◌≡◌, ◌&&◌};
 ghost use Rattle.base.specs.Choice.{◌≤?◌};
-ghost use Rattle.run_target.specs.Target.{step_allowed, within_steps, target_refusal};
+ghost use Rattle.run_target.specs.Target.{step_allowed, within_steps, target_checks};
 
-use base::unless;
+use base::{Refusal, require};
 
 const LONGEST_STEP: u32 = 86_400_000;
 
@@ -36,11 +36,10 @@ fn is_within_steps(moment: u64, h: u32, target: u64) -> bool
 }
 
 // The checks of step length and target, 2 and 5.
-pub fn target_refusal(moment: u64, h: u32, target: u64) -> u64
-    ensures { result ≡ target_refusal moment h target }
+#[tactic(auto, using(crate::proofs::Order::last_two), unfolding(crate::specs::Target::target_checks))]
+pub fn target_checks(moment: u64, h: u32, target: u64) -> Result<(), Refusal>
+    ensures { result ≡ target_checks moment h target }
 {
-    let length = step_is_allowed(h);
-    let reaches = is_within_steps(moment, h, target);
-    let after_length = unless(reaches, 5, 0);
-    unless(length, 2, after_length)
+    require(step_is_allowed(h), Refusal::Step)?;
+    require(is_within_steps(moment, h, target), Refusal::Target)
 }

@@ -9,6 +9,7 @@ use lib.Ieee.{Float, fits, binary64}
 use lib.Ieee.Scale.{finite}
 use lib.Ieee.Fits.{add-fits}
 use lib.Ieee.Bits.{of_bits-fits}
+use Rattle.base.specs.declared.Refusal.{Refusal}
 use Rattle.std.specs.Prelude.{Result, Ok, Err, Option, Some, None}
 use Rattle.base.specs.Choice.{if◌then◌otherwise◌, ◌=?◌}
 use Rattle.base.specs.Limits.{is_moment, is_dut}
@@ -24,14 +25,14 @@ use Rattle.book.specs.Position.{body_at, place_or6, finite_place, finite_velocit
 use Rattle.book_series.specs.declared.Place.{Place}
 use Rattle.book.specs.declared.Motion.{Motion}
 use Rattle.gravity.specs.Pull.{minus, sound}
-use Rattle.gravity.specs.Acceleration.{all_sound, Body, Sky, Bodies, Refusal, Listed, standing, nowhere, at_rest, stands, seen, sky_of, sky, others}
+use Rattle.gravity.specs.Acceleration.{all_sound, Body, Sky, Listed, standing, nowhere, at_rest, stands, seen, sky_of, sky, others}
 use Rattle.gravity.specs.Acceleration.{place_of, rule, view_from, seen_then, acceleration_at, acceleration_answer}
 use Rattle.gravity.proofs.SoFar.{from_centre}
 use Rattle.base.specs.Checks.{or_later}
 use Rattle.state_checks.proofs.Numbers.{check_by_check}
-use Rattle.run_target.specs.Target.{target_refusal}
-use Rattle.run_checks.specs.Start.{inputs_refusal, start_refusal}
-use Rattle.gravity_stored.specs.Injection.{stored_refusal}
+use Rattle.run_target.specs.Target.{target_checks}
+use Rattle.run_checks.specs.Start.{inputs_checks, start_checks}
+use Rattle.gravity_stored.specs.Injection.{stored_check}
 use Rattle.base.proofs.Bools.{left, right}
 use Rattle.run_unchanged.specs.Acceleration.{rule_before, without_terms, bodies_before, acceleration_before, answer_before, start_before}
 use Rattle.run_unchanged.proofs.LessZero.{less_zero}
@@ -76,11 +77,11 @@ answer_fits b number t = by (lookup b number t)
 one_more : (body : Listed) (p : Result Motion Refusal) (later : Sky) → (body.number =? 1) ≡ false → used body.m ≡ true → FitsAt p
     → from_centre 1 nowhere later ≡ later → from_centre 1 nowhere (seen body p later) ≡ seen body p later
 one_more body (Err k) later far u f e = refl
-one_more body (Ok M) (Refusal k) far u f e = refl
-one_more body (Ok M) (Bodies bs) far u f e =
+one_more body (Ok M) (Err k) far u f e = refl
+one_more body (Ok M) (Ok bs) far u f e =
     let rest : others 1 nowhere bs ≡ bs = cc in
     rw (far, u)
-    (λ i. Bodies (record { number = body.number; m = body.m; R = itself M.place f i } ∷ rest i))
+    (λ i. Ok (record { number = body.number; m = body.m; R = itself M.place f i } ∷ rest i))
 
 -- what is looked up and not lit pulls
 pulls : (u lit : Bool) → lit ≡ false → (u || lit) ≡ true → u ≡ true
@@ -108,8 +109,8 @@ by_all b t (body ∷ rest) far = by_list_lem b t body rest far.0 far.1 (by_all b
 
 -- the Earth itself is left out
 left_out : (body : Listed) (M : Motion) (later : Sky) → (body.number =? 1) ≡ true → from_centre 1 nowhere (seen body (Ok M) later) ≡ from_centre 1 nowhere later
-left_out body M (Bodies bs) near = rw near
-left_out body M (Refusal k) near = refl
+left_out body M (Ok bs) near = rw near
+left_out body M (Err k) near = refl
 
 module _ (b : List ℕ) (s : Setting) (t : ℕ) where
   as_before : from_centre 1 nowhere (sky_of b t (bodies_before s)) ≡ sky_of b t (bodies_before s)
@@ -131,12 +132,12 @@ module _ (b : List ℕ) (s : Setting) (t : ℕ) where
 module _ (s : Setting) (flat : used s.j ≡ false) (dark : used s.k ≡ false) where
   no_terms : (c : ℕ) (C sun P : Vector) (bodies : Sky)
       → seen_then (λ bodies. rule s (view_from s c C sun bodies) P) bodies ≡ seen_then (λ bodies. rule_before (coefficient_of s c) P (others c C bodies)) bodies
-  no_terms c C sun P (Bodies bodies) = rw (flat, dark, and-true (sound P && all_sound P (others c C bodies)))
-  no_terms c C sun P (Refusal k) = refl
+  no_terms c C sun P (Ok bodies) = rw (flat, dark, and-true (sound P && all_sound P (others c C bodies)))
+  no_terms c C sun P (Err k) = refl
 
   from_centre_lem : (f : List Body → Result Vector Refusal) (c : ℕ) (C : Vector) (bodies : Sky) → seen_then (λ bodies. f (others c C bodies)) bodies ≡ seen_then f (from_centre c C bodies)
-  from_centre_lem f c C (Bodies bodies) = refl
-  from_centre_lem f c C (Refusal k) = refl
+  from_centre_lem f c C (Ok bodies) = refl
+  from_centre_lem f c C (Err k) = refl
 
   -- about any centre the rule is what it was before R-7
   pub switched_off : (b : List ℕ) (c t : ℕ) (P : Vector) → acceleration_at b s c t P ≡ without_terms b s c t P
@@ -197,10 +198,10 @@ both_moments false q k rest = refl
 
 -- a state about the Earth that is in order starts as it did
 module _ (b : List ℕ) (setting : Setting) (s : State) (h : ℕ) (earth : s.centre ≡ 1) where
-  pub start_as_before : stored_refusal b setting s ≡ 0 → (target : ℕ) → start_refusal b setting s h target ≡ start_before b setting s h target
-  unfolding start_refusal inputs_refusal target_refusal start_before
+  pub start_as_before : stored_check b setting s ≡ Ok tt → (target : ℕ) → start_checks b setting s h target ≡ start_before b setting s h target
+  unfolding start_checks inputs_checks target_checks start_before
   start_as_before ordered target =
-      check_by_check (λ k. k) (or_later (stored_refusal b setting s) (target_refusal s.moment h target)) b setting (centre_allowed setting s.centre)
+      check_by_check (λ k. k) (or_later (stored_check b setting s) (target_checks s.moment h target)) b setting (centre_allowed setting s.centre)
       (is_moment s.moment && is_moment target) (finite_state s)
       ∙ rw (ordered, earth)
       (ap (λ (k : ℕ). if not (passes b) then 1 otherwise k)

@@ -12,7 +12,7 @@ use Rattle.state.specs.declared.Vector.{Vector}
 use Rattle.state.specs.declared.State.{State}
 use Rattle.state.specs.declared.Setting.{Setting}
 use Rattle.gravity.specs.Acceleration.{acceleration_at}
-use Rattle.run.specs.Step.{Moved, Off, and_then, along, weighed, half, sixth, step_h, arrive, keeping, step}
+use Rattle.run.specs.Step.{Moved, and_then, along, weighed, half, sixth, step_h, arrive, keeping, step}
 use Rattle.run.specs.Stages.{velocity2, velocity3, velocity4, lastly, stage2, stage3, stage4}
 use Rattle.run_unchanged.specs.Acceleration.{acceleration_before}
 use Rattle.run_unchanged.specs.Step.{stage1, unkept, step_before, kept_after}
@@ -30,7 +30,7 @@ module _ (acc : ℕ → Vector → Result Vector Refusal) where
   end : (t c : ℕ) (p v : Vector) → arrive (keeping acc) t c p v ≡ kept (arrive (unkept acc) t c p v)
   end t c p v = go (finite_vector p && finite_vector v)
     where
-      go : (ok : Bool) → (if ok then keeping acc (injection_at t c p v) otherwise Off Refusal.NotFinite) ≡ kept (if ok then unkept acc (injection_at t c p v) otherwise Off Refusal.NotFinite)
+      go : (ok : Bool) → (if ok then keeping acc (injection_at t c p v) otherwise Err Refusal.NotFinite) ≡ kept (if ok then unkept acc (injection_at t c p v) otherwise Err Refusal.NotFinite)
       go true = refl
       go false = refl
 

@@ -15,8 +15,8 @@ use Rattle.gravity.specs.Acceleration.{acceleration_at}
 use Rattle.gravity.specs.declared.Guesses.{Guesses}
 use Rattle.gravity_stored.specs.Injection.{kept_by}
 use Rattle.gravity_stored.proofs.Stored.{carries_rule, stored_passes}
-use Rattle.run_checks.specs.Start.{start_refusal}
-use Rattle.run.specs.Step.{Moved, On, Off, and_then, moved_by, step}
+use Rattle.run_checks.specs.Start.{start_checks}
+use Rattle.run.specs.Step.{Moved, and_then, step}
 use Rattle.run.specs.Stages.{stage2}
 use Rattle.run.specs.Walk.{onward, walk}
 use Rattle.run.specs.Run.{Reached, counted, run_to, run_answer}
@@ -69,7 +69,7 @@ module _ (b : List ℕ) (setting : Setting) (flat : used setting.j ≡ false) (d
   unread s a = refl
 
   -- a state without an acceleration has no step before
-  no_step : (s : State) (k : ℕ) → acc s.moment (position s) ≡ Err k → old s ≡ Off k
+  no_step : (s : State) (k : Refusal) → acc s.moment (position s) ≡ Err k → old s ≡ Err k
   no_step s k e = ap (λ (q : Result Vector Refusal). and_then q (stage2 acc (unkept acc) h s)) e
 
   step_is : (s : State) → Carries s → now s ≡ kept_after acc (old s)
@@ -81,27 +81,27 @@ module _ (b : List ℕ) (setting : Setting) (flat : used setting.j ≡ false) (d
   -- has none
   pub walk_as_before : (n : ℕ) (s : State) → Carries s → walk now n s ≡ kept_after acc (walk old n s)
   unfolding walk
-  walk_as_before zero s c = sym (ap (λ (q : Result Vector Refusal). moved_by (kept_by (bare s) q)) (rule_before_lem s c))
+  walk_as_before zero s c = sym (ap (λ (q : Result Vector Refusal). kept_by (bare s) q) (rule_before_lem s c))
   walk_as_before (suc n) s c = go (walk old n s) refl (walk_as_before n s c)
     where
-      by : (x : State) (q : Result Vector Refusal) → acc x.moment (position x) ≡ q → walk now n s ≡ moved_by (kept_by (bare x) q)
-          → onward now (moved_by (kept_by (bare x) q)) ≡ kept_after acc (old x)
+      by : (x : State) (q : Result Vector Refusal) → acc x.moment (position x) ≡ q → walk now n s ≡ kept_by (bare x) q
+          → onward now (kept_by (bare x) q) ≡ kept_after acc (old x)
       by x (Ok a) e w =
           let centre : x.centre ≡ 1 = centre_stays b setting h 0 n s (carrying (bare x) a) w ∙ c.earth in
           step_is (carrying (bare x) a) (carries x a centre e) ∙ ap (kept_after acc) (unread x a)
       by x (Err k) e w = sym (ap (kept_after acc) (no_step x k e))
 
       go : (m : Moved) → walk old n s ≡ m → walk now n s ≡ kept_after acc (walk old n s) → onward now (walk now n s) ≡ kept_after acc (onward old (walk old n s))
-      go (On x) e w =
+      go (Ok x) e w =
           ap (onward now) (w ∙ ap (kept_after acc) e)
           ∙ by x (acc x.moment (position x)) refl (w ∙ ap (kept_after acc) e)
           ∙ sym (ap (λ (m : Moved). kept_after acc (onward old m)) e)
-      go (Off k) e w = ap (onward now) (w ∙ ap (kept_after acc) e) ∙ sym (ap (λ (m : Moved). kept_after acc (onward old m)) e)
+      go (Err k) e w = ap (onward now) (w ∙ ap (kept_after acc) e) ∙ sym (ap (λ (m : Moved). kept_after acc (onward old m)) e)
 
   -- ---- the run
 
   -- a run before, from a state without an acceleration, stays there
-  stuck : (target budget : ℕ) (x : State) (k : ℕ) → acc x.moment (position x) ≡ Err k
+  stuck : (target budget : ℕ) (x : State) (k : Refusal) → acc x.moment (position x) ≡ Err k
       → ((run_to old target budget x).steps ≡ 0) × ((run_to old target budget x).state ≡ x)
   stuck target budget x k e = go (ℕ_discrete x.moment target) budget
     where
@@ -124,16 +124,16 @@ module _ (b : List ℕ) (setting : Setting) (flat : used setting.j ≡ false) (d
       go (no short) = rw (run_going now target s short, run_going old target (carrying (bare s) v) short) (same refl refl refl)
   run_from_lem target (suc budget) s v c = go (ℕ_discrete s.moment target) (old s) refl (run_from_lem target budget)
     where
-      stepped : (s.moment ≡ target → ⊥) → (next : State) → old s ≡ On next → (q : Result Vector Refusal) → acc next.moment (position next) ≡ q
+      stepped : (s.moment ≡ target → ⊥) → (next : State) → old s ≡ Ok next → (q : Result Vector Refusal) → acc next.moment (position next) ≡ q
           → ((s : State) (v : Vector) → Carries s → AsBefore b setting (run_to now target budget s) (run_to old target budget (carrying (bare s) v)))
           → AsBefore b setting (run_to now target (suc budget) s) (counted (run_to old target budget next))
       stepped short next on (Ok a) e later =
           let y = carrying (bare next) a in
-          let goes : now s ≡ On y = step_is s c ∙ ap (kept_after acc) on ∙ ap (λ (q : Result Vector Refusal). moved_by (kept_by (bare next) q)) e in
+          let goes : now s ≡ Ok y = step_is s c ∙ ap (kept_after acc) on ∙ ap (λ (q : Result Vector Refusal). kept_by (bare next) q) e in
           rw (run_on now target s short budget y goes)
           (counts _ _ (later y (acceleration next) (carries next a ((done b setting h s y goes).centre ∙ c.earth) e)))
       stepped short next on (Err k) e later =
-          let ends : now s ≡ Off k = step_is s c ∙ ap (kept_after acc) on ∙ ap (λ (q : Result Vector Refusal). moved_by (kept_by (bare next) q)) e in
+          let ends : now s ≡ Err k = step_is s c ∙ ap (kept_after acc) on ∙ ap (λ (q : Result Vector Refusal). kept_by (bare next) q) e in
           let there = stuck target budget next k e in
           rw (run_refused now target s short budget k ends)
           (without k refl (ap (λ (n : ℕ). n + 1) there.0) (ap (λ (x : State). acc x.moment (position x)) there.1 ∙ e))
@@ -142,9 +142,9 @@ module _ (b : List ℕ) (setting : Setting) (flat : used setting.j ≡ false) (d
           → ((s : State) (v : Vector) → Carries s → AsBefore b setting (run_to now target budget s) (run_to old target budget (carrying (bare s) v)))
           → AsBefore b setting (run_to now target (suc budget) s) (run_to old target (suc budget) (carrying (bare s) v))
       go (yes at) m e later = rw (run_arrived now target s (suc budget) at, run_arrived old target (carrying (bare s) v) (suc budget) at) (same refl refl refl)
-      go (no short) (On next) e later =
+      go (no short) (Ok next) e later =
           rw (run_on old target (carrying (bare s) v) short budget next e) (stepped short next e (acc next.moment (position next)) refl later)
-      go (no short) (Off k) e later =
+      go (no short) (Err k) e later =
           rw (run_refused now target s short budget k (step_is s c ∙ ap (kept_after acc) e), run_refused old target (carrying (bare s) v) short budget k e)
           (same refl refl refl)
 
@@ -152,12 +152,12 @@ module _ (b : List ℕ) (setting : Setting) (flat : used setting.j ≡ false) (d
   -- has no acceleration: it is refused at that step.
   pub run_as_before : (s : State) (target budget : ℕ) (given : Guesses) → Carries s
       → AsBefore b setting (reached_by (run_answer b setting s h target budget given)) (run_before b setting s h target budget)
-  run_as_before s target budget given c = go (start_refusal b setting s h target) refl
+  run_as_before s target budget given c = go (start_checks b setting s h target) refl
     where
-      checks : start_refusal b setting s h target ≡ start_before b setting s h target
+      checks : start_checks b setting s h target ≡ start_before b setting s h target
       checks = start_as_before b setting s h c.earth (stored_passes b setting s (carries_rule b setting s c.rule)) target
 
-      go : (k : ℕ) → start_refusal b setting s h target ≡ k
+      go : (k : ℕ) → start_checks b setting s h target ≡ k
           → AsBefore b setting (reached_by (run_answer b setting s h target budget given)) (run_before b setting s h target budget)
       go zero e = rw (answer_is b setting s h target budget given e, sym checks ∙ e) (run_from_lem target budget s (acceleration s) c)
       go (suc k) e = rw (refused_is b setting s h target budget given k e, sym checks ∙ e, eqb-suc-zero) (same refl refl refl)

@@ -1,5 +1,6 @@
 -- Document 01's run before document 02's R-6, R-7 and R-8, without its guesses: about the Earth, from the moment, the position and the
 -- velocity only.
+use Rattle.base.specs.declared.Refusal.{Refusal}
 use Rattle.std.specs.Prelude.{List, ◌≡◌, ℕ, ◌+◌, Err}
 use Rattle.base.specs.Choice.{if◌then◌otherwise◌, ◌=?◌}
 use Rattle.state.specs.State.{position, bare}
@@ -24,5 +25,5 @@ reached_by r = record { outcome = r.outcome; steps = r.steps; state = r.state }
 -- refused at that step". Before R-8 the step after it was refused.
 pub data AsBefore (b : List ℕ) (setting : Setting) (r q : Reached) : Type 0 where
   same : r.outcome ≡ q.outcome → r.steps ≡ q.steps → bare r.state ≡ bare q.state → AsBefore b setting r q
-  without : (k : ℕ) → r.outcome ≡ Refused k → q.steps ≡ r.steps + 1
+  without : (k : Refusal) → r.outcome ≡ Refused k → q.steps ≡ r.steps + 1
       → acceleration_before b setting q.state.moment (position q.state) ≡ Err k → AsBefore b setting r q

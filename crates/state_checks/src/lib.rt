@@ -10,6 +10,7 @@ use state::Setting;
 
 // The first check that fails refuses. The caller says whether its centres are allowed, its moments in range and its
 // figures finite.
+#[tactic(auto, unfolding(crate::specs::Common::common_checks))]
 pub fn common_checks(
     book: &[u8],
     setting: Setting,

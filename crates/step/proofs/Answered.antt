@@ -16,12 +16,11 @@ use Rattle.gravity.specs.declared.Sights.{Sights}
 use Rattle.gravity.specs.declared.Guesses.{Guesses}
 use Rattle.gravity_stored.specs.Injection.{kept_by}
 use Rattle.gravity.proofs.Under.{under_is}
-use Rattle.step.specs.Step.{Moved, Off, and_then, along, weighed, sixth, arrive, moved_by, keeping}
+use Rattle.step.specs.Step.{Moved, and_then, along, weighed, sixth, arrive, keeping}
 use Rattle.step.specs.Stages.{velocity2, velocity3, velocity4, lastly}
 use Rattle.step_end.specs.Kept.{kept, keeping_under}
 use Rattle.step.specs.Entries.{entries_after}
 use Rattle.step_end.specs.declared.Stepped.{Stepped}
-use Rattle.step_end.specs.declared.Stepped.TheVariants as stepped
 
 -- p is the stage's position P, bodies the bodies at its moment, r what the acceleration under them answered
 pub answered : (b : List ℕ) (s : Setting) (c : ℕ) → centre_allowed s c ≡ true → (t : ℕ) (P p : Vector) (bodies : Sights) (r x : Result Vector Refusal)
@@ -33,12 +32,12 @@ answered b s c ok t P p bodies r x place seen by is =
     ∙ sym by
     ∙ is
 
-pub goes_on : (q : Result Vector Refusal) (a : Vector) (next : Vector → Moved) (entries : Guesses) (r : Stepped)
+pub goes_on : (q : Result Vector Refusal) (a : Vector) (next : Vector → Moved) (entries : Guesses) (r : Result Stepped Refusal)
     → q ≡ Ok a → r ≡ kept entries (next a) → r ≡ kept entries (and_then q next)
 goes_on q a next entries r e h = h ∙ sym (ap (λ (x : Result Vector Refusal). kept entries (and_then x next)) e)
 
 pub leaves : (q : Result Vector Refusal) (k : ℕ) (next : Vector → Moved) (entries : Guesses)
-    → q ≡ Err k → stepped.Off k ≡ kept entries (and_then q next)
+    → q ≡ Err k → Err k ≡ kept entries (and_then q next)
 leaves q k next entries e = sym (ap (λ (x : Result Vector Refusal). kept entries (and_then x next)) e)
 
 -- the new state's acceleration under the bodies known at its moment is document 02's
@@ -46,7 +45,7 @@ ended : (b : List ℕ) (s : Setting) (c : ℕ) → centre_allowed s c ≡ true �
     → (p v : Vector) → kept bodies.entries (arrive (keeping_under bodies s) t c p v) ≡ kept (sights b s c t).entries (arrive (keeping (acceleration_at b s c)) t c p v)
 ended b s c ok t bodies seen p v =
     ap (λ (k : Sights). kept k.entries (arrive (keeping_under k s) t c p v)) seen
-    ∙ ap (λ (q : Result Vector Refusal). kept (sights b s c t).entries (if finite_vector p && finite_vector v then moved_by (kept_by (injection_at t c p v) q) otherwise Off Refusal.NotFinite))
+    ∙ ap (λ (q : Result Vector Refusal). kept (sights b s c t).entries (if finite_vector p && finite_vector v then kept_by (injection_at t c p v) q otherwise Err Refusal.NotFinite))
     (under_is b s t p c ok)
 
 pub ended_lastly : (b : List ℕ) (setting : Setting) (s : State) → centre_allowed setting s.centre ≡ true → (h : ℕ) (bodies : Sights)

@@ -17,7 +17,7 @@ use Rattle.gravity.specs.Acceleration.{acceleration_at}
 use Rattle.gravity.specs.Sight.{sights}
 use Rattle.gravity.proofs.Under.{under_is, is_clear}
 use Rattle.gravity_stored.specs.Injection.{kept_by}
-use Rattle.step.specs.Step.{Moved, On, Off, and_then, arrive, along, weighed, step_h, half, sixth, moved_by, keeping, step}
+use Rattle.step.specs.Step.{Moved, and_then, arrive, along, weighed, step_h, half, sixth, keeping, step}
 use Rattle.step.specs.Stages.{velocity2, velocity3, velocity4, lastly, stage3, stage4}
 
 pub record Done (b : List ℕ) (setting : Setting) (h : ℕ) (s next : State) : Type 0 where
@@ -25,34 +25,34 @@ pub record Done (b : List ℕ) (setting : Setting) (h : ℕ) (s next : State) : 
   pub centre : next.centre ≡ s.centre
   pub finite : finite_state next ≡ true
   pub rule : acceleration_at b setting next.centre next.moment (position next) ≡ Ok (acceleration next)
-  pub clear : centre_allowed setting s.centre ≡ true → (sights b setting s.centre (s.moment + h)).refusal ≡ 0
+  pub clear : centre_allowed setting s.centre ≡ true → (sights b setting s.centre (s.moment + h)).checked ≡ Ok tt
 
 -- a stage that led to a state had an acceleration
 pub record Through (q : Result Vector Refusal) (rest : Vector → Moved) (next : State) : Type 0 where
   pub a : Vector
   pub is : q ≡ Ok a
-  pub on : rest a ≡ On next
+  pub on : rest a ≡ Ok next
 
-through : (q : Result Vector Refusal) (rest : Vector → Moved) (next : State) → and_then q rest ≡ On next → Through q rest next
+through : (q : Result Vector Refusal) (rest : Vector → Moved) (next : State) → and_then q rest ≡ Ok next → Through q rest next
 through (Ok a) rest next e = record { a = a; is = refl; on = e }
 through (Err k) rest next e = let z : ◌≡◌ {A = ℕ} 0 1 = cc in absurd (omega arith)
 
 -- an end that led to a state had finite components
-arrived : (ends : Injection → Moved) (t c : ℕ) (p v : Vector) (next : State) → arrive ends t c p v ≡ On next
-    → ((finite_vector p && finite_vector v) ≡ true) × (ends (injection_at t c p v) ≡ On next)
+arrived : (ends : Injection → Moved) (t c : ℕ) (p v : Vector) (next : State) → arrive ends t c p v ≡ Ok next
+    → ((finite_vector p && finite_vector v) ≡ true) × (ends (injection_at t c p v) ≡ Ok next)
 arrived ends t c p v next = go (finite_vector p && finite_vector v) refl
   where
-    go : (ok : Bool) → (finite_vector p && finite_vector v) ≡ ok → (if ok then ends (injection_at t c p v) otherwise Off Refusal.NotFinite) ≡ On next
-        → ((finite_vector p && finite_vector v) ≡ true) × (ends (injection_at t c p v) ≡ On next)
+    go : (ok : Bool) → (finite_vector p && finite_vector v) ≡ ok → (if ok then ends (injection_at t c p v) otherwise Err Refusal.NotFinite) ≡ Ok next
+        → ((finite_vector p && finite_vector v) ≡ true) × (ends (injection_at t c p v) ≡ Ok next)
     go true f e = (f, e)
     go false f e = let z : ◌≡◌ {A = ℕ} 0 1 = cc in absurd (omega arith)
 
 -- and the rule gave it an acceleration, which it carries
-keeps : (q : Result Vector Refusal) (i : Injection) (next : State) → moved_by (kept_by i q) ≡ On next → (a : Vector) × (q ≡ Ok a) × (next ≡ carrying i a)
+keeps : (q : Result Vector Refusal) (i : Injection) (next : State) → kept_by i q ≡ Ok next → (a : Vector) × (q ≡ Ok a) × (next ≡ carrying i a)
 keeps (Ok a) i next e = (a, refl, cc)
 keeps (Err k) i next e = let z : ◌≡◌ {A = ℕ} 0 1 = cc in absurd (omega arith)
 
-pub done : (b : List ℕ) (setting : Setting) (h : ℕ) (s next : State) → step b setting h s ≡ On next → Done b setting h s next
+pub done : (b : List ℕ) (setting : Setting) (h : ℕ) (s next : State) → step b setting h s ≡ Ok next → Done b setting h s next
 unfolding step
 done b setting h s next e =
     let acc = acceleration_at b setting s.centre in

@@ -11,16 +11,16 @@ use Rattle.gravity.specs.Acceleration.{acceleration_at}
 use Rattle.gravity_stored.specs.Injection.{kept_by}
 pub use Rattle.step_sums.specs.Slopes.{weigh}
 unfoldable pub use Rattle.step_sums.specs.Slopes.{step_h, along, weighed, half, sixth}
-pub use Rattle.step_end.specs.Arrival.{Moved, On, Off, arrive, moved_by}
+pub use Rattle.step_end.specs.Arrival.{Moved, arrive}
 
 -- an acceleration continues the step, a refusal ends it with its number
 abbrev pub and_then : Result Vector Refusal → (Vector → Moved) → Moved
 and_then (Ok a) next = next a
-and_then (Err k) next = Off k
+and_then (Err k) next = Err k
 
 -- R-8: step "must keep it equal to the rule at that state"
 abbrev pub keeping : (ℕ → Vector → Result Vector Refusal) → Injection → Moved
-keeping acc i = moved_by (kept_by i (acc i.moment (starting_position i)))
+keeping acc i = kept_by i (acc i.moment (starting_position i))
 
 -- "The four stages, in order, stand at t, t + h/2, t + h/2 and t + h". The slope of a stage is its velocity and its acceleration: k1 is v
 -- and a1, k2 is v2 and a2, k3 is v3 and a3, k4 is v4 and a4. A stage is at "base + (H·0.5)·slope" of the one before it, the fourth at "base

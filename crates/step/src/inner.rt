@@ -11,6 +11,7 @@ ghost use Rattle.step.specs.Step.{keeping, step};
 ghost use Rattle.step.specs.Stages.{stage2, stage3, stage4};
 ghost use Rattle.step.specs.Entries.{entries_after, MayStep};
 
+use base::Refusal;
 use gravity::inner::{acceleration_by, acceleration_under, seen_at};
 use gravity::{Guesses, Sights};
 use state::{Setting, State, Vector};
@@ -27,7 +28,7 @@ fn fourth_stage(
     calm: bool,
     a2: Vector,
     a3: Vector,
-) -> Stepped
+) -> Result<Stepped, Refusal>
     requires { (Ready book.now calm) × (MayStep setting s) }
     ensures { result ≡ kept (entries_after book.now setting h s) (stage4 (acceleration_at book.now setting s.centre)
         (keeping (acceleration_at book.now setting s.centre)) h s (acceleration s) a2 a3) }
@@ -37,11 +38,8 @@ fn fourth_stage(
     let seen = seen_at(book, setting, s.centre, s.moment + h as u64, g, calm, p4);
     let bodies = seen.bodies;
     let roots = seen.roots;
-    let answer = acceleration_by(bodies, setting, p4, roots);
-    match answer {
-        Ok(a4) => finish(setting, s, h, bodies, a2, a3, a4),
-        Err(k) => Stepped::Off(k),
-    }
+    let a4 = acceleration_by(bodies, setting, p4, roots)?;
+    finish(setting, s, h, bodies, a2, a3, a4)
 }
 
 fn third_stage(
@@ -53,7 +51,7 @@ fn third_stage(
     calm: bool,
     bodies: Sights,
     a2: Vector,
-) -> Stepped
+) -> Result<Stepped, Refusal>
     requires ready { (Ready book.now calm) × (MayStep setting s) }
     requires bodies_value { bodies ≡ sights book.now setting s.centre (s.moment + h / 2) }
     ensures { result ≡ kept (entries_after book.now setting h s) (stage3 (acceleration_at book.now setting s.centre)
@@ -62,16 +60,13 @@ fn third_stage(
     let half = half_of(h);
     let v2 = toward(state::velocity_of(s), half, state::acceleration_of(s));
     let p3 = toward(state::position_of(s), half, v2);
-    let answer = acceleration_under(bodies, setting, p3);
-    match answer {
-        Ok(a3) => fourth_stage(book, setting, s, h, g, calm, a2, a3),
-        Err(k) => Stepped::Off(k),
-    }
+    let a3 = acceleration_under(bodies, setting, p3)?;
+    fourth_stage(book, setting, s, h, g, calm, a2, a3)
 }
 
 // The acceleration of the first stage is the stored one. The two middle stages are at the same moment, so its bodies
 // are looked up once.
-fn second_stage(book: &[u8], setting: Setting, s: State, h: u32, g: Guesses, calm: bool) -> Stepped
+fn second_stage(book: &[u8], setting: Setting, s: State, h: u32, g: Guesses, calm: bool) -> Result<Stepped, Refusal>
     requires { (Ready book.now calm) × (MayStep setting s) }
     ensures { result ≡ kept (entries_after book.now setting h s) (stage2 (acceleration_at book.now setting s.centre)
         (keeping (acceleration_at book.now setting s.centre)) h s (acceleration s)) }
@@ -88,14 +83,12 @@ fn second_stage(book: &[u8], setting: Setting, s: State, h: u32, g: Guesses, cal
     );
     let bodies = seen.bodies;
     let roots = seen.roots;
-    let answer = acceleration_by(bodies, setting, p2, roots);
-    match answer {
-        Ok(a2) => third_stage(book, setting, s, h, g, calm, bodies, a2),
-        Err(k) => Stepped::Off(k),
-    }
+    let a2 = acceleration_by(bodies, setting, p2, roots)?;
+    third_stage(book, setting, s, h, g, calm, bodies, a2)
 }
 
 // One step from s. `calm` may be true only for a book in which no velocity can overflow.
+#[tactic(auto, unfolding(crate::specs::Step::step))]
 pub fn step_under(
     book: &[u8],
     setting: Setting,
@@ -103,7 +96,7 @@ pub fn step_under(
     h: u32,
     g: Guesses,
     calm: bool,
-) -> Stepped
+) -> Result<Stepped, Refusal>
     requires { (Ready book.now calm) × (MayStep setting s) }
     ensures { result ≡ kept (entries_after book.now setting h s) (step book.now setting h s) }
 {

@@ -8,14 +8,13 @@ use Rattle.state.specs.declared.State.{State}
 use Rattle.state.specs.declared.Injection.{Injection}
 use Rattle.step_sums.specs.Slopes.{step_h, along, weighed, half, sixth}
 
--- the result of a step: the new state, or the number of its refusal
-pub data Moved : Type 0 where
-  On : State → Moved
-  Off : ℕ → Moved
+-- the result of a step: the new state, or its refusal
+abbrev pub Moved : Type 0
+Moved = Result State Refusal
 
 -- "A new component that is not finite gives 7"; `ends` computes the result from the new position and velocity
 abbrev pub arrive : (Injection → Moved) → ℕ → ℕ → Vector → Vector → Moved
-arrive ends t centre p v = if finite_vector p && finite_vector v then ends (injection_at t centre p v) otherwise Off Refusal.NotFinite
+arrive ends t centre p v = if finite_vector p && finite_vector v then ends (injection_at t centre p v) otherwise Err Refusal.NotFinite
 
 -- The velocity of a stage, from the acceleration of the stage before it. The slope of a position is the stage's velocity, that of a
 -- velocity the stage's acceleration.
@@ -34,8 +33,3 @@ lastly ends h s a1 a2 a3 a4 =
     arrive ends (s.moment + h) s.centre
     (along (position s) (sixth h) (weighed (velocity s) (velocity2 h s a1) (velocity3 h s a2) (velocity4 h s a3)))
     (along (velocity s) (sixth h) (weighed a1 a2 a3 a4))
-
--- R-8: step "must keep it equal to the rule at that state", "and a step whose new state has none is refused at that step"
-abbrev pub moved_by : Result State Refusal → Moved
-moved_by (Ok s) = On s
-moved_by (Err k) = Off k

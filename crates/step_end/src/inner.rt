@@ -4,7 +4,7 @@
 ghost use Rattle.std.specs.Prelude.{◌≡◌, ◌<◌};
 ghost use Rattle.base.specs.Limits.{end_of_time};
 ghost use Rattle.state.specs.State.{acceleration};
-ghost use Rattle.step_end.specs.Arrival.{moved_by, arrive, lastly};
+ghost use Rattle.step_end.specs.Arrival.{arrive, lastly};
 ghost use Rattle.step_end.specs.Kept.{kept, keeping_under};
 
 use base::Refusal;
@@ -14,15 +14,6 @@ use gravity_stored::inner::kept_under;
 use state::{Injection, Setting, State, Vector};
 use step_sums::{half_of, seconds, sixth_of, toward, weigh_all};
 
-fn stepped_by(answer: Result<State, Refusal>, entries: Guesses) -> Stepped
-    ensures { result ≡ kept entries (moved_by answer) }
-{
-    match answer {
-        Ok(next) => Stepped::On(next, entries),
-        Err(k) => Stepped::Off(k),
-    }
-}
-
 // The new state, with its own acceleration by the bodies at its moment.
 fn arrived(
     setting: Setting,
@@ -31,7 +22,7 @@ fn arrived(
     centre: u64,
     p: Vector,
     v: Vector,
-) -> Stepped
+) -> Result<Stepped, Refusal>
     ensures { result ≡ kept bodies.entries (arrive (keeping_under bodies setting) moment centre p v) }
 {
     if state::vector_is_finite(p) {
@@ -46,11 +37,12 @@ fn arrived(
                 vy: v.y,
                 vz: v.z,
             };
-            let answer = kept_under(bodies, setting, reached);
-            return stepped_by(answer, bodies.entries);
+            let state = kept_under(bodies, setting, reached)?;
+            let entries = bodies.entries;
+            return Ok(Stepped { state, entries });
         }
     }
-    Stepped::Off(Refusal::NotFinite)
+    Err(Refusal::NotFinite)
 }
 
 // The weighted sum of the slopes of the four stages.
@@ -62,7 +54,7 @@ pub fn finish(
     a2: Vector,
     a3: Vector,
     a4: Vector,
-) -> Stepped
+) -> Result<Stepped, Refusal>
     requires { s.moment < end_of_time }
     ensures { result ≡ kept bodies.entries (lastly (keeping_under bodies setting) h s (acceleration s) a2 a3 a4) }
 {

@@ -7,9 +7,9 @@ pub mod inner;
 use gravity::Guesses;
 use state::State;
 
-// A step done, with the entries of the bodies at its end, or the number of its refusal.
+// A step done: the new state, and the entries of the bodies at its moment.
 #[derive(Clone, Copy)]
-pub enum Stepped {
-    On(State, Guesses),
-    Off(u64),
+pub struct Stepped {
+    pub state: State,
+    pub entries: Guesses,
 }

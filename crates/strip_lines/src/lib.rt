@@ -11,7 +11,7 @@
 mod telling;
 
 ghost use Rattle.std.specs.Prelude.{◌≡◌, ◌≤◌, length};
-ghost use Rattle.run_checks.specs.Start.{start_refusal};
+ghost use Rattle.run_checks.specs.Start.{start_checks};
 ghost use Rattle.listing_write.specs.Course.{OnCourse};
 
 use listing_write::Course;
@@ -87,7 +87,7 @@ fn print_listing(
     h: u32,
     target: u64,
 )
-    requires { start_refusal book.now setting from h target ≡ 0 }
+    requires { start_checks book.now setting from h target ≡ 0 }
 {
     let mut buffer = [0u8; 65_536];
     let out: &mut [u8] = &mut buffer;
@@ -101,7 +101,7 @@ fn print_listing(
 fn print_order(rt: &(impl Print + Eprint), form: Form, book: &[u8], order: Order) {
     let setting = order.setting;
     let from = gravity_stored::launch(book, setting, order.injection);
-    let refusal = run_checks::start_refusal(book, setting, from, order.h, order.target);
+    let refusal = run_checks::start_checks(book, setting, from, order.h, order.target);
     if refusal == 0 {
         print_listing(rt, form, book, setting, from, order.h, order.target);
     } else {

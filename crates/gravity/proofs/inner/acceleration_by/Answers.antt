@@ -1,10 +1,10 @@
 -- `gravity::inner::acceleration_by` meets its contract. Assumes nothing.
 use mathlib.Core.Path.{sym}
-use Rattle.gravity.proofs.Under.{clear, refused}
+use Rattle.gravity.proofs.Under.{clear}
 use Rattle.gravity.proofs.inner.acceleration_by.Goals as goal
 
-pub returns-then-bodies-eq0 : goal.returns-then-bodies-eq0
-returns-then-bodies-eq0 c = let x = c.args in
+pub returns : goal.returns
+returns c = let x = c.args in
     rw (
       c.settle.ensures,
       c.sunlit_sum.ensures,
@@ -14,7 +14,4 @@ returns-then-bodies-eq0 c = let x = c.args in
       c.less_by-with_third.ensures,
       c.near_sum_by-near.ensures,
     )
-    (sym (clear x.bodies x.setting x.p c.if-bodies-eq0.true))
-
-pub returns : goal.returns
-returns c = let x = c.args in sym (refused x.bodies x.setting x.p c.if-bodies-eq0.false)
+    (sym (clear x.bodies x.setting x.p c.in_ok-bodies.was))

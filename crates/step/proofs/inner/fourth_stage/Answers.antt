@@ -9,8 +9,8 @@ use Rattle.step.specs.Entries.{entries_after}
 use Rattle.step.proofs.Answered.{answered, goes_on, leaves, ended_lastly}
 use Rattle.step.proofs.inner.fourth_stage.Goals as goal
 
-pub returns-in-Ok : goal.returns-in-Ok
-returns-in-Ok c = let x = c.args in
+pub returns : goal.returns
+returns c = let x = c.args in
     let b = x.book.now in
     let acc = acceleration_at b x.setting x.s.centre in
     let P4 = along (position x.s) (step_h x.h) (velocity3 x.h x.s x.a2) in
@@ -18,14 +18,14 @@ returns-in-Ok c = let x = c.args in
     (answered b x.setting x.s.centre
     c.requires.1.1 (x.s.moment + x.h) P4 _ _ _ _ (rw
     (c.toward-p4.ensures, c.seconds.ensures, c.position_of.ensures, c.toward-v3.ensures, c.half_of.ensures, c.velocity_of.ensures))
-    c.seen_at-seen.ensures.0 c.acceleration_by-answer.ensures c.in-Ok.is)
+    c.seen_at-seen.ensures.0 c.acceleration_by.ensures c.in_ok-a4.was)
     (c.finish.ensures ∙ ended_lastly b x.setting x.s
     c.requires.1.1 x.h _
     c.seen_at-seen.ensures.0 (acceleration
-    x.s) x.a2 x.a3 c.in-Ok.a4)
+    x.s) x.a2 x.a3 c.in_ok-a4.field-0)
 
-pub returns-in-Err : goal.returns-in-Err
-returns-in-Err c = let x = c.args in
+pub returns-in_err-a4 : goal.returns-in_err-a4
+returns-in_err-a4 c = let x = c.args in
     let b = x.book.now in
     let acc = acceleration_at b x.setting x.s.centre in
     let P4 = along (position x.s) (step_h x.h) (velocity3 x.h x.s x.a2) in
@@ -33,4 +33,4 @@ returns-in-Err c = let x = c.args in
     (answered b x.setting x.s.centre
     c.requires.1.1 (x.s.moment + x.h) P4 _ _ _ _ (rw
     (c.toward-p4.ensures, c.seconds.ensures, c.position_of.ensures, c.toward-v3.ensures, c.half_of.ensures, c.velocity_of.ensures))
-    c.seen_at-seen.ensures.0 c.acceleration_by-answer.ensures c.in-Err.is)
+    c.seen_at-seen.ensures.0 c.acceleration_by.ensures c.in_err-a4.was)

@@ -8,8 +8,8 @@ use Rattle.step.specs.Entries.{entries_after}
 use Rattle.step.proofs.Answered.{answered, goes_on, leaves}
 use Rattle.step.proofs.inner.second_stage.Goals as goal
 
-pub returns-in-Ok : goal.returns-in-Ok
-returns-in-Ok c = let x = c.args in
+pub returns : goal.returns
+returns c = let x = c.args in
     let b = x.book.now in
     let acc = acceleration_at b x.setting x.s.centre in
     let P2 = along (position x.s) (half x.h) (velocity x.s) in
@@ -17,11 +17,11 @@ returns-in-Ok c = let x = c.args in
     (answered b x.setting x.s.centre
     c.requires.1.1 (x.s.moment + x.h / 2) P2 _ _ _ _ (rw
     (c.toward-p2.ensures, c.velocity_of.ensures, c.half_of.ensures, c.position_of.ensures))
-    c.seen_at-seen.ensures.0 c.acceleration_by-answer.ensures c.in-Ok.is)
+    c.seen_at-seen.ensures.0 c.acceleration_by.ensures c.in_ok-a2.was)
     c.third_stage.ensures
 
-pub returns-in-Err : goal.returns-in-Err
-returns-in-Err c = let x = c.args in
+pub returns-in_err-a2 : goal.returns-in_err-a2
+returns-in_err-a2 c = let x = c.args in
     let b = x.book.now in
     let acc = acceleration_at b x.setting x.s.centre in
     let P2 = along (position x.s) (half x.h) (velocity x.s) in
@@ -29,4 +29,4 @@ returns-in-Err c = let x = c.args in
     (answered b x.setting x.s.centre c.requires.1.1
     (x.s.moment + x.h / 2) P2 _ _ _ _ (rw
     (c.toward-p2.ensures, c.velocity_of.ensures, c.half_of.ensures, c.position_of.ensures))
-    c.seen_at-seen.ensures.0 c.acceleration_by-answer.ensures c.in-Err.is)
+    c.seen_at-seen.ensures.0 c.acceleration_by.ensures c.in_err-a2.was)

@@ -8,8 +8,8 @@ use Rattle.step.specs.Entries.{entries_after}
 use Rattle.step.proofs.Answered.{answered, goes_on, leaves}
 use Rattle.step.proofs.inner.third_stage.Goals as goal
 
-pub returns-in-Ok : goal.returns-in-Ok
-returns-in-Ok c = let x = c.args in
+pub returns : goal.returns
+returns c = let x = c.args in
     let b = x.book.now in
     let acc = acceleration_at b x.setting x.s.centre in
     let P3 = along (position x.s) (half x.h) (velocity2 x.h x.s (acceleration x.s)) in
@@ -17,11 +17,11 @@ returns-in-Ok c = let x = c.args in
     (answered b x.setting x.s.centre
     c.requires.ready.1.1 (x.s.moment + x.h / 2) P3 _ _ _ _ (rw
     (c.toward-p3.ensures, c.position_of.ensures, c.toward-v2.ensures, c.acceleration_of.ensures, c.velocity_of.ensures, c.half_of-half.ensures))
-    c.requires.bodies_value c.acceleration_under-answer.ensures c.in-Ok.is)
+    c.requires.bodies_value c.acceleration_under.ensures c.in_ok-a3.was)
     c.fourth_stage.ensures
 
-pub returns-in-Err : goal.returns-in-Err
-returns-in-Err c = let x = c.args in
+pub returns-in_err-a3 : goal.returns-in_err-a3
+returns-in_err-a3 c = let x = c.args in
     let b = x.book.now in
     let acc = acceleration_at b x.setting x.s.centre in
     let P3 = along (position x.s) (half x.h) (velocity2 x.h x.s (acceleration x.s)) in
@@ -29,4 +29,4 @@ returns-in-Err c = let x = c.args in
     (answered b x.setting x.s.centre c.requires.ready.1.1
     (x.s.moment + x.h / 2) P3 _ _ _ _ (rw
     (c.toward-p3.ensures, c.position_of.ensures, c.toward-v2.ensures, c.acceleration_of.ensures, c.velocity_of.ensures, c.half_of-half.ensures))
-    c.requires.bodies_value c.acceleration_under-answer.ensures c.in-Err.is)
+    c.requires.bodies_value c.acceleration_under.ensures c.in_err-a3.was)
