@@ -1,6 +1,7 @@
 -- Laws of checks in an order. Assumes nothing.
 use mathlib.Core.Bool.{Bool, true, false}
-use mathlib.Core.Path.{◌≡◌, refl}
+use mathlib.Core.Path.{◌≡◌, refl, ap}
+use Rattle.std.specs.Result.{IsErrAnd}
 use Rattle.std.specs.Prelude.{Result, Ok, Err}
 use Rattle.base.specs.Checks.{Checked, require, ◌before◌, checked}
 use Rattle.base.specs.declared.Refusal.{Refusal}
@@ -29,3 +30,8 @@ pub last_meets : {A : Type 0} (p : A → Bool) (refused : Refusal → A) (x : A)
     → p x ≡ true → p (checked (require good k) x refused) ≡ true
 last_meets p refused x true k number rest = rest
 last_meets p refused x false k number rest = number
+
+-- what `?` returns for a refusal
+pub turned_away : {A : Type 0} (r : Result A Refusal) (k : Refusal) → IsErrAnd r (λ (e : Refusal). e ≡ k) → r ≡ Err k
+turned_away (Ok x) k h = absurd h
+turned_away (Err e) k h = ap Err h

@@ -23,6 +23,7 @@ pub struct Orbit {
 }
 
 // A figure that may be zero.
+#[tactic(auto, unfolding(crate::specs::Refusal::fit))]
 fn fit(x: f64) -> Result<(), Refusal>
     ensures { result ≡ fit x }
 {
@@ -30,14 +31,16 @@ fn fit(x: f64) -> Result<(), Refusal>
 }
 
 // A figure that may not be zero: its own refusal if it is.
+#[tactic(auto, unfolding(crate::specs::Refusal::fit_nonzero))]
 fn fit_nonzero(x: f64, own: Refusal) -> Result<(), Refusal>
     ensures { result ≡ fit_nonzero x own }
 {
     fit(x)?;
-    require(x != 0.0, own)
+    if x == 0.0 { Err(own) } else { Ok(()) }
 }
 
 // Every figure, in the order of their tests.
+#[tactic(auto, unfolding(crate::specs::Refusal::orbit_checks))]
 pub fn orbit_checks(o: Orbit) -> Result<(), Refusal>
     ensures { result ≡ orbit_checks o }
 {

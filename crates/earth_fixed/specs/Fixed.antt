@@ -1,7 +1,8 @@
 -- Document 01, "Earth-fixed turn and conic", and document 02, R-2, R-6 and R-9: a state in coordinates that turn with the Earth.
 use Rattle.base.specs.declared.Refusal.{Refusal}
-use Rattle.std.specs.Prelude.{Bool, not, ◌&&◌, ℕ, Result, Ok, Err}
-use Rattle.base.specs.Choice.{if◌then◌otherwise◌, ◌=?◌}
+use Rattle.std.specs.Prelude.{Bool, ◌&&◌, ℕ, Result, Ok, Err}
+use Rattle.base.specs.Choice.{◌=?◌}
+use Rattle.base.specs.Checks.{require, ◌before◌}
 use Rattle.base.specs.Floats.{◌⊕◌, ◌⊖◌, ◌⊗◌}
 use Rattle.base.specs.Limits.{is_dut}
 use Rattle.state.specs.declared.State.{State}
@@ -32,9 +33,9 @@ finite_fixed f =
 unfoldable pub finite_answer : ℕ → ℕ → State → Result EarthFixed Refusal
 finite_answer rule dut state =
     let fixed = turned (rotation rule state.moment dut) state in
-    if not (finite_state state) then Err Refusal.NotFinite otherwise
-    if not (finite_fixed fixed) then Err Refusal.NotFinite otherwise
-    Ok fixed
+    require (finite_state state) Refusal.NotFinite
+    before require (finite_fixed fixed) Refusal.NotFinite
+    before Ok fixed
 
 -- an answer after the refusals of the hour angle
 abbrev pub after_hour : Result ℕ Refusal → Result EarthFixed Refusal → Result EarthFixed Refusal
@@ -45,7 +46,7 @@ after_hour (Err number) answer = Err number
 -- directly after 4. After that the hour angle can only refuse with 3.
 unfoldable pub fixed_answer : ℕ → ℕ → State → Result EarthFixed Refusal
 fixed_answer rule dut state =
-    if not (is_dut dut) then Err Refusal.Setting otherwise
-    if not (is_rule rule) then Err Refusal.Setting otherwise
-    if not (state.centre =? 1) then Err Refusal.Centre otherwise
-    after_hour (sidereal_answer rule state.moment dut) (finite_answer rule dut state)
+    require (is_dut dut) Refusal.Setting
+    before require (is_rule rule) Refusal.Setting
+    before require (state.centre =? 1) Refusal.Centre
+    before after_hour (sidereal_answer rule state.moment dut) (finite_answer rule dut state)

@@ -4,9 +4,9 @@
 
 ghost use Rattle.std.specs.Prelude.{◌≡◌};
 ghost use Rattle.hour.specs.Hour.{sidereal_answer};
-ghost use Rattle.earth_fixed.specs.Fixed.{turned, finite_fixed, finite_answer, after_hour, fixed_answer};
+ghost use Rattle.earth_fixed.specs.Fixed.{turned, finite_fixed, finite_answer, fixed_answer};
 
-use base::Refusal;
+use base::{Refusal, require};
 use earth_rotation::inner::{rate_on, table_on, table_times};
 use state::{State, Vector};
 
@@ -20,6 +20,8 @@ pub struct EarthFixed {
     pub vy: f64,
     pub vz: f64,
 }
+
+#[tactic(auto, unfolding(crate::specs::Fixed::turned))]
 
 fn turned_state(table: [[f64; 3]; 3], w: f64, state: State) -> EarthFixed
     ensures { result ≡ turned (record { table = table; w = w }) state }
@@ -55,42 +57,28 @@ fn fixed_is_finite(f: EarthFixed) -> bool
     false
 }
 
+#[tactic(auto, unfolding(crate::specs::Fixed::finite_answer))]
+
 fn fixed_at(rule: u64, dut: u32, state: State, parts: u64) -> Result<EarthFixed, Refusal>
     requires { sidereal_answer rule state.moment dut ≡ Ok parts }
     ensures { result ≡ finite_answer rule dut state }
 {
-    if state::state_is_finite(state) {
-        let table = table_on(rule, state.moment, dut, parts);
-        let w = rate_on(rule, state.moment, dut, parts);
-        let fixed = turned_state(table, w, state);
-        if fixed_is_finite(fixed) {
-            return Ok(fixed);
-        }
-    }
-    Err(Refusal::NotFinite)
+    require(state::state_is_finite(state), Refusal::NotFinite)?;
+    let table = table_on(rule, state.moment, dut, parts);
+    let w = rate_on(rule, state.moment, dut, parts);
+    let fixed = turned_state(table, w, state);
+    require(fixed_is_finite(fixed), Refusal::NotFinite)?;
+    Ok(fixed)
 }
 
 // (02, R-6) Only a state about the Earth has Earth-fixed coordinates.
+#[tactic(auto, unfolding(crate::specs::Fixed::fixed_answer))]
 pub fn earth_fixed(rule: u64, dut: u32, state: State) -> Result<EarthFixed, Refusal>
     ensures { result ≡ fixed_answer rule dut state }
 {
-    if base::LONGEST_DUT < dut {
-        return Err(Refusal::Setting);
-    }
-    if hour::LAST_RULE < rule {
-        return Err(Refusal::Setting);
-    }
-    if state.centre == 1 {
-        return after_hour(rule, dut, state);
-    }
-    Err(Refusal::Centre)
-}
-
-fn after_hour(rule: u64, dut: u32, state: State) -> Result<EarthFixed, Refusal>
-    ensures { result ≡ after_hour (sidereal_answer rule state.moment dut) (finite_answer rule dut state) }
-{
-    match hour::sidereal(rule, state.moment, dut) {
-        Ok(parts) => fixed_at(rule, dut, state, parts),
-        Err(number) => Err(number),
-    }
+    require(dut <= base::LONGEST_DUT, Refusal::Setting)?;
+    require(rule <= hour::LAST_RULE, Refusal::Setting)?;
+    require(state.centre == 1, Refusal::Centre)?;
+    let parts = hour::sidereal(rule, state.moment, dut)?;
+    fixed_at(rule, dut, state, parts)
 }

@@ -1,3 +1,2 @@
 pub mod Angles
-pub mod Checks
 pub mod OneAnswer

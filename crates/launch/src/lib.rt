@@ -111,6 +111,8 @@ fn fixed_velocity(s: Sphere) -> Vector
     relative_velocity(f, t, horizontal_velocity(s.speed, g, z))
 }
 
+#[tactic(auto, unfolding(crate::specs::Sphere::injected))]
+
 fn injected_state(s: Sphere, rule: u64, moment: u64, dut: u32, parts: u64) -> Injection
     requires { (sidereal_answer rule moment dut ≡ Ok parts) × (angles_allowed s ≡ true) }
     ensures { result ≡ injected s rule moment dut }
@@ -122,6 +124,8 @@ fn injected_state(s: Sphere, rule: u64, moment: u64, dut: u32, parts: u64) -> In
     returned_state(moment, table, w, place, velocity)
 }
 
+#[tactic(auto, unfolding(crate::specs::Sphere::injection_answer))]
+
 fn injection(s: Sphere, rule: u64, moment: u64, dut: u32, parts: u64) -> Result<Injection, Refusal>
     requires { sidereal_answer rule moment dut ≡ Ok parts }
     ensures { result ≡ injection_answer s rule moment dut }
@@ -132,6 +136,8 @@ fn injection(s: Sphere, rule: u64, moment: u64, dut: u32, parts: u64) -> Result<
     require(state::injection_is_finite(state), Refusal::NotFinite)?;
     Ok(state)
 }
+
+#[tactic(auto, unfolding(crate::specs::Sphere::sphere_answer))]
 
 pub fn from_sphere(s: Sphere, rule: u64, moment: u64, dut: u32) -> Result<Injection, Refusal>
     ensures { result ≡ sphere_answer s rule moment dut }

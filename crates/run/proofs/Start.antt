@@ -1,18 +1,18 @@
 -- What a run that passed its start checks may rely on, and its answer if the state is past the end of time. Assumes nothing.
-use mathlib.Core.Bool.{Bool, true, false, not}
+use mathlib.Core.Bool.{Bool, true, false}
 use mathlib.Core.List.{List}
 use mathlib.Core.Path.{◌≡◌, refl}
 use Prim.Native.Nat.{ℕ, ◌≤◌}
 use borrow.Author.Tests.{ltb-true, le-ltb}
 use Rattle.std.specs.Prelude.{Ok}
-use Rattle.base.specs.Choice.{if◌then◌otherwise◌, ◌=?◌}
 use Rattle.base.specs.Limits.{end_of_time}
-use Rattle.state.specs.State.{setting_allowed, centre_allowed}
+use Rattle.state.specs.State.{finite_state, setting_allowed, centre_allowed}
 use Rattle.state.specs.declared.State.{State}
 use Rattle.state.specs.declared.Setting.{Setting}
 use Rattle.book.specs.Passes.{passes}
 use Rattle.gravity.specs.declared.Guesses.{Guesses}
-use Rattle.base.specs.Checks.{or_later}
+use Rattle.base.specs.Checks.{Checked, require, checked, ◌before◌}
+use Rattle.base.specs.declared.Refusal.{Refusal}
 use Rattle.state_checks.specs.Common.{common_checks}
 use Rattle.run_checks.specs.Start.{inputs_checks, start_checks}
 use Rattle.run.specs.Run.{Reached, with_guesses, refused_at_once, run_answer}
@@ -28,19 +28,19 @@ may_walk b setting s h target e =
 
 -- past the end of time the target does not matter
 module _ (b : List ℕ) (setting : Setting) (s : State) (given : Guesses) where
-  answer_by : ℕ → Reached → RunAnswer
-  answer_by k r = if k =? 0 then with_guesses b setting given r otherwise refused_at_once k s given
+  answer_by : Checked → Reached → RunAnswer
+  answer_by checks r = checked checks (with_guesses b setting given r) (λ k. refused_at_once k s given)
 
-  same_late : (p q c : Bool) (k1 k2 : ℕ) (r1 r2 : Reached)
-      → answer_by (or_later (if p then 1 otherwise if q then 4 otherwise if c then 14 otherwise 3) k1) r1
-      ≡ answer_by (or_later (if p then 1 otherwise if q then 4 otherwise if c then 14 otherwise 3) k2) r2
+  same_late : (p q c f1 f2 : Bool) (k1 k2 : Checked) (r1 r2 : Reached)
+      → answer_by ((require p Refusal.Book before require q Refusal.Setting before require c Refusal.Centre before require false Refusal.Moment before require f1 Refusal.NotFinite) before k1) r1
+      ≡ answer_by ((require p Refusal.Book before require q Refusal.Setting before require c Refusal.Centre before require false Refusal.Moment before require f2 Refusal.NotFinite) before k2) r2
   unfolding answer_by
-  same_late true q c k1 k2 r1 r2 = refl
-  same_late false true c k1 k2 r1 r2 = refl
-  same_late false false true k1 k2 r1 r2 = refl
-  same_late false false false k1 k2 r1 r2 = refl
+  same_late false q c f1 f2 k1 k2 r1 r2 = refl
+  same_late true false c f1 f2 k1 k2 r1 r2 = refl
+  same_late true true false f1 f2 k1 k2 r1 r2 = refl
+  same_late true true true f1 f2 k1 k2 r1 r2 = refl
 
   pub late : (h t1 t2 budget : ℕ) → end_of_time ≤ s.moment → run_answer b setting s h t1 budget given ≡ run_answer b setting s h t2 budget given
   unfolding run_answer start_checks inputs_checks common_checks answer_by
   late h t1 t2 budget e =
-      rw (le-ltb _ _ e) (same_late (not (passes b)) (not (setting_allowed setting)) (not (centre_allowed setting s.centre)) _ _ _ _)
+      rw (le-ltb _ _ e) (same_late (passes b) (setting_allowed setting) (centre_allowed setting s.centre) (finite_state s) (finite_state s) _ _ _ _)

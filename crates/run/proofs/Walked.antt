@@ -18,6 +18,7 @@ use Rattle.gravity.proofs.Under.{all_clear, seen_entry}
 use Rattle.step.specs.Step.{Moved, step}
 use Rattle.run.specs.Run.{ended, run_to, guesses_at, handed_back, with_guesses}
 use Rattle.step_end.specs.Kept.{kept}
+use Rattle.step_end.specs.declared.Stepped.{Stepped}
 use Rattle.step.specs.Entries.{entries_after, MayStep}
 use Rattle.run.specs.Kept.{guesses_from, counted_by, MayWalk, Walking}
 use Rattle.run.specs.declared.Outcome.{Outcome}
@@ -53,9 +54,11 @@ pub record HandedOn (entries : Guesses) (m : Moved) (next : State) (seen : Guess
   pub on : m ≡ Ok next
   pub at : seen ≡ entries
 
-pub handed_on : (entries : Guesses) (m : Moved) (next : State) (seen : Guesses) → Ok next seen ≡ kept entries m → HandedOn entries m next seen
-handed_on entries (Ok s) next seen e = record { on = cc; at = cc }
-handed_on entries (Err k) next seen e = let z : ◌≡◌ {A = ℕ} 0 1 = cc in absurd (omega arith)
+pub handed_on : (entries : Guesses) (m : Moved) (there : Stepped) → Ok there ≡ kept entries m → HandedOn entries m there.state there.entries
+handed_on entries (Ok s) there e =
+    let same : there ≡ record { state = s; entries = entries } = cc in
+    record { on = ap (λ (x : Stepped). Ok x.state) (sym same); at = ap (λ (x : Stepped). x.entries) same }
+handed_on entries (Err k) there e = let z : ◌≡◌ {A = ℕ} 0 1 = cc in absurd (omega arith)
 
 pub handed_off : (entries : Guesses) (m : Moved) (k : Refusal) → Err k ≡ kept entries m → m ≡ Err k
 handed_off entries (Ok s) k e = let z : ◌≡◌ {A = ℕ} 0 1 = cc in absurd (omega arith)
@@ -84,11 +87,12 @@ module _ (b : List ℕ) (setting : Setting) (start : State) (h target budget : �
         (ap (with_guesses b setting given) (w.rest ∙ ap (counted_by n) e ∙ count_ended n (ended o now) refl)
         ∙ ap (handed_back o n now) (sym w.guess))
 
-    pub walk_goes_on : (next : State) (seen : Guesses) → n < budget → (now.moment ≡ target → ⊥)
-        → Ok next seen ≡ kept (entries_after b setting h now) (step b setting h now)
-        → Walking b setting start h target budget given next (guesses_from setting seen given) (n + 1)
-    walk_goes_on next seen room short e =
-        let handed = handed_on (entries_after b setting h now) (step b setting h now) next seen e in
+    pub walk_goes_on : (there : Stepped) → n < budget → (now.moment ≡ target → ⊥)
+        → Ok there ≡ kept (entries_after b setting h now) (step b setting h now)
+        → Walking b setting start h target budget given there.state (guesses_from setting there.entries given) (n + 1)
+    walk_goes_on there room short e =
+        let next = there.state in
+        let handed = handed_on (entries_after b setting h now) (step b setting h now) there e in
         let did = done b setting h now next handed.on in
         let k = one_less now.moment h w.left target short w.reach in
         record {

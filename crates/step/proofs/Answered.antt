@@ -1,4 +1,4 @@
--- From the acceleration under the looked_up_lem bodies to document 01's acceleration, stage by stage. Assumes nothing.
+-- From the acceleration under the bodies looked up to document 01's acceleration, stage by stage. Assumes nothing.
 use mathlib.Core.Bool.{true, ◌&&◌}
 use mathlib.Core.List.{List}
 use mathlib.Core.Path.{◌≡◌, sym, ap, ◌∙◌}
@@ -36,7 +36,7 @@ pub goes_on : (q : Result Vector Refusal) (a : Vector) (next : Vector → Moved)
     → q ≡ Ok a → r ≡ kept entries (next a) → r ≡ kept entries (and_then q next)
 goes_on q a next entries r e h = h ∙ sym (ap (λ (x : Result Vector Refusal). kept entries (and_then x next)) e)
 
-pub leaves : (q : Result Vector Refusal) (k : ℕ) (next : Vector → Moved) (entries : Guesses)
+pub leaves : (q : Result Vector Refusal) (k : Refusal) (next : Vector → Moved) (entries : Guesses)
     → q ≡ Err k → Err k ≡ kept entries (and_then q next)
 leaves q k next entries e = sym (ap (λ (x : Result Vector Refusal). kept entries (and_then x next)) e)
 

@@ -57,7 +57,7 @@ loop-n-preserved c = let x = c.args in
     let b = x.book.now in
     let l = c.loop-n in
     rw c.guesses_from-guesses.ensures
-    (walk_goes_on b x.setting x.start x.h x.target x.budget x.given l.now l.guesses l.n l.invariant _ _
+    (walk_goes_on b x.setting x.start x.h x.target x.budget x.given l.now l.guesses l.n l.invariant _
     c.loop-n-test.true c.if-now-target.false (sym
     c.in-Ok.is ∙ c.step_under-stepped.ensures))
 
