@@ -71,14 +71,7 @@ pub fn floats_below(book: &[u8], at: usize, n: usize, limit: u64) -> bool
     requires { at + 8 * n ≤ length book.now }
     ensures { result ≡ floats_below limit book.now at n }
 {
-    let mut k = 0;
-    while k < n {
-        if !bits_below(u64_at(book, at + 8 * k), limit) {
-            return false;
-        }
-        k += 1;
-    }
-    true
+    (0..n).all(|k| bits_below(u64_at(book, at + 8 * k), limit))
 }
 
 // The bits of an infinity or a NaN are the greatest.
@@ -144,16 +137,14 @@ pub fn entries_pass(book: &[u8], count: usize) -> bool
     ensures { result ≡ passes book.now }
 {
     let mut place = 8 + 24 * count;
-    let mut i = 0;
-    while i < count {
+    for i in 0..count {
         if !entry_holds(book, i, place) {
             return false;
         }
         if !next_in_order(book, i, count) {
             return false;
         }
-        place += 24 * (u16_at(book, 8 + 24 * i + 2) as usize);
-        i += 1;
+        place += 24 * size_of(book, i);
     }
     place == book.len()
 }
