@@ -91,9 +91,7 @@ pub fn series_at(book: &[u8], offset: usize, n: usize, w: f64) -> Place
 {
     let twice = 2.0 * w;
     let mut s = no_sums();
-    let mut k = n;
-    while 1 < k {
-        k -= 1;
+    for k in (1..n).rev() {
         s = turn_of(s, book, offset, n, k, twice);
     }
     place_of(s, book, offset, n, w)
@@ -121,18 +119,13 @@ pub fn two_series_at(
     let twice2 = 2.0 * w2;
     let mut a = no_sums();
     let mut b = no_sums();
-    let mut k = n;
-    let mut j = n2;
-    while j < k {
-        k -= 1;
+    for k in (n2..n).rev() {
         a = turn_of(a, book, offset, n, k, twice);
     }
-    while k < j {
-        j -= 1;
+    for j in (n..n2).rev() {
         b = turn_of(b, book, offset2, n2, j, twice2);
     }
-    while 1 < k {
-        k -= 1;
+    for k in (1..n.min(n2)).rev() {
         a = turn_of(a, book, offset, n, k, twice);
         b = turn_of(b, book, offset2, n2, k, twice2);
     }
@@ -180,9 +173,7 @@ pub fn slopes_at(book: &[u8], offset: usize, n: usize, w: f64, span: f64) -> Vel
     let mut x = no_turn();
     let mut y = no_turn();
     let mut z = no_turn();
-    let mut k = n;
-    while 1 < k {
-        k -= 1;
+    for k in (1..n).rev() {
         x = one_turn(x, w, float_at(book, offset + 8 * k));
         y = one_turn(y, w, float_at(book, offset + 8 * (n + k)));
         z = one_turn(z, w, float_at(book, offset + 8 * (2 * n + k)));
