@@ -119,13 +119,14 @@ pub fn two_series_at(
     let twice2 = 2.0 * w2;
     let mut a = no_sums();
     let mut b = no_sums();
-    for k in (n2..n).rev() {
+    let shared = n.min(n2);
+    for k in (shared..n).rev() {
         a = turn_of(a, book, offset, n, k, twice);
     }
-    for j in (n..n2).rev() {
+    for j in (shared..n2).rev() {
         b = turn_of(b, book, offset2, n2, j, twice2);
     }
-    for k in (1..n.min(n2)).rev() {
+    for k in (1..shared).rev() {
         a = turn_of(a, book, offset, n, k, twice);
         b = turn_of(b, book, offset2, n2, k, twice2);
     }
