@@ -39,15 +39,12 @@ pub fn reach(first: &[u8], i: usize, second: &[u8], j: usize) -> usize
     ensures { Reached second.now result first.now i }
 {
     let count = u32_at(second, 4) as usize;
-    let mut next = j;
-    while next < count {
-        if comes_before(second, next, first, i) {
-            next += 1;
-        } else {
+    for next in j..count {
+        if !comes_before(second, next, first, i) {
             return next;
         }
     }
-    next
+    count
 }
 
 fn same_fields(first: &[u8], i: usize, second: &[u8], j: usize) -> bool
@@ -73,15 +70,7 @@ fn same_bits(first: &[u8], at: usize, second: &[u8], place: usize, n: usize) -> 
     requires { (at + 8 * n ≤ length first.now) × (place + 8 * n ≤ length second.now) }
     ensures { Tells result (SameBits first.now at second.now place n) }
 {
-    let mut k = 0;
-    while k < n {
-        if u64_at(second, place + 8 * k) == u64_at(first, at + 8 * k) {
-            k += 1;
-        } else {
-            return false;
-        }
-    }
-    true
+    second[place..place + 8 * n] == first[at..at + 8 * n]
 }
 
 fn same_entry(first: &[u8], i: usize, second: &[u8], j: usize) -> bool

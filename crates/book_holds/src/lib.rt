@@ -27,13 +27,10 @@ fn walk(first: &[u8], second: &[u8]) -> HoldsAnswer
     ensures { result ≡ answer_of (first_missing first.now second.now) }
 {
     let count = u32_at(first, 4) as usize;
-    let mut i = 0;
     let mut j = 0;
-    while i < count {
+    for i in 0..count {
         j = reach(first, i, second, j);
-        if held_at(first, i, second, j) {
-            i += 1;
-        } else {
+        if !held_at(first, i, second, j) {
             return HoldsAnswer::Missing(i);
         }
     }
