@@ -40,10 +40,9 @@ fn walk(first: &[u8], second: &[u8]) -> HoldsAnswer
 pub fn book_holds(first: &[u8], second: &[u8]) -> HoldsAnswer
     ensures { result ≡ holds_answer first.now second.now }
 {
-    if book_passes(first) {
-        if book_passes(second) {
-            return walk(first, second);
-        }
+    if book_passes(first) && book_passes(second) {
+        walk(first, second)
+    } else {
+        HoldsAnswer::Refused(1)
     }
-    HoldsAnswer::Refused(1)
 }
