@@ -16,15 +16,8 @@ fn comes_before(second: &[u8], j: usize, first: &[u8], i: usize) -> bool
 {
     let entry = 8 + 24 * j;
     let other = 8 + 24 * i;
-    let body = u16_at(second, entry);
-    let other_body = u16_at(first, other);
-    if body < other_body {
-        return true;
-    }
-    if other_body < body {
-        return false;
-    }
-    u64_at(second, entry + 8) < u64_at(first, other + 8)
+    let place = (u16_at(second, entry), u64_at(second, entry + 8));
+    place < (u16_at(first, other), u64_at(first, other + 8))
 }
 
 // The first entry of the second book, from j on, that does not come before entry i of the first.
