@@ -1,14 +1,14 @@
 -- In a calm book every velocity is finite: a bound goes through each operation of the series and its slope. Assumes nothing.
-use Prim.Native.Nat.{ℕ, zero, suc, ◌+◌, ◌-◌, ◌*◌, ◌/◌, ◌%◌, ◌^◌, ◌≤◌, ◌<◌}
+use Prim.Native.Nat.{ℕ, zero, suc, ◌+◌, ◌*◌, ◌/◌, ◌%◌, ◌^◌, ◌≤◌, ◌<◌}
 use mathlib.Core.Bool.{Bool, true, false, true≢false}
 use mathlib.Core.List.{List, [], ◌∷◌}
 use mathlib.Core.Path.{◌≡◌, refl, sym, ap, ◌∙◌}
 use native.Mathlib.Nat.{le_trans, le_of_eq, mul-one, mul-le-mul}
 use native.Mathlib.Omega.{arith}
-use lib.Dec.{T, ltb, eqb, lit≤}
+use lib.Dec.{lit≤}
 use lib.IntN.{ℤ, pos, negsuc}
 use lib.Pow.{pow-add, pow_mono}
-use lib.Ieee.{Float, binary64, of_bits, of_fields, of_int, odd, hid, low, neg, sub, round}
+use lib.Ieee.{Float, binary64, of_bits, of_fields, of_int, odd, hid, neg, sub, round}
 use lib.Ieee.Exact.{odd_sign}
 use lib.Ieee.Scale.{finite}
 use borrow.Author.Tests.{ne_eqb, ltb-true}

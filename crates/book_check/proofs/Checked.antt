@@ -1,20 +1,20 @@
 -- The check goes entry by entry and compares each entry with the next one only. These laws prove that it decides document 01's conditions.
 -- Assumes nothing.
-use Prim.Native.Nat.{ℕ, zero, suc, ◌+◌, ◌*◌, ◌<◌, ◌≤◌}
+use Prim.Native.Nat.{ℕ, zero, suc, ◌+◌, ◌<◌, ◌≤◌}
 use mathlib.Core.Bool.{Bool, true, false, ◌&&◌}
 use mathlib.Core.List.{List}
-use mathlib.Core.Logic.{◌⊎◌, ⊎_elim}
+use mathlib.Core.Logic.{⊎_elim}
 use native.Mathlib.Nat.{eq-or-lt_of_le, le_of_suc-le-suc, not-suc-le-zero}
 use native.Mathlib.Numerals.{add-one}
 use borrow.Author.Count.{below_more}
-use mathlib.Core.Path.{◌≡◌, refl, sym, subst, ◌∙◌}
+use mathlib.Core.Path.{◌≡◌, refl, sym, ◌∙◌}
 use lib.Dec.{ltb, leb, eqb}
 use lib.ListN.{length}
 use borrow.Author.Tests.{ltb-true, leb-true, eqb-true, eqb-false, lt-ltb, le-leb, eq-eqb}
 use native.Mathlib.Omega.{arith}
-use Rattle.book_check.specs.Contents.{stated_total, entry_count, size_of, offset_of, block_length}
+use Rattle.book_check.specs.Contents.{stated_total, entry_count, offset_of, block_length}
 use Rattle.book_check.specs.Passes.{fields_allowed, block_place, coefficients_finite, passes}
-use Rattle.book_check.specs.Check.{floats_finite, entry_holds, next_in_order}
+use Rattle.book_check.specs.Check.{entry_holds, next_in_order}
 use Rattle.base.proofs.Bools.{both, left, right, is_false}
 use Rattle.book_check.proofs.Passing.{Allowed, InOrder, Passing, passing, passing_back, allowed_of, allowed_back, in_order_lem, in_order_back, block_inside}
 
@@ -70,15 +70,6 @@ module _ (b : List ℕ) (i place : ℕ) where
 
   pub held_back : Held b i place → entry_holds b i place ≡ true
   held_back t = both (both (both t.fields (eq-eqb _ _ t.placed)) (le-leb _ _ t.inside)) t.finites
-
-  -- if all else holds, the coefficients decide
-  pub held_by_floats : fields_allowed b i ≡ true → offset_of b i ≡ place → place + block_length b i ≤ length b → floats_finite b place (3 * size_of b i) ≡ entry_holds b i place
-  held_by_floats f p inside =
-      subst
-      (λ (q : ℕ). q + block_length b i ≤ length b → floats_finite b q (3 * size_of b i) ≡ entry_holds b i q)
-      p
-      (λ l. simp (f, eq-eqb (offset_of b i) (offset_of b i) refl, le-leb (offset_of b i + block_length b i) (length b) l))
-      inside
 
 module _ (b : List ℕ) where
   pub passing_holds : Passing b → (i : ℕ) → i < entry_count b → entry_holds b i (block_place b i) ≡ true

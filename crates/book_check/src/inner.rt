@@ -13,22 +13,13 @@ use base_bytes::inner::{u16_at, u32_at, u64_at};
 fn within(x: u16, low: u16, high: u16) -> bool
     ensures { result ≡ ((low ≤? x) && (x ≤? high)) }
 {
-    if x < low {
-        return false;
-    }
-    x <= high
+    (low..=high).contains(&x)
 }
 
 fn times_allowed(start: u64, span: u64) -> bool
     ensures { result ≡ ((1 ≤? span) && (start + span ≤? end_of_time)) }
 {
-    if span < 1 {
-        return false;
-    }
-    if END_OF_TIME < start {
-        return false;
-    }
-    span <= END_OF_TIME - start
+    1 <= span && start <= END_OF_TIME && span <= END_OF_TIME - start
 }
 
 pub fn fields_allowed(book: &[u8], i: usize) -> bool
@@ -36,12 +27,9 @@ pub fn fields_allowed(book: &[u8], i: usize) -> bool
     ensures { result ≡ fields_allowed book.now i }
 {
     let entry = 8 + 24 * i;
-    if within(u16_at(book, entry), 2, 6) {
-        if within(u16_at(book, entry + 2), 2, 16) {
-            return times_allowed(u64_at(book, entry + 8), u64_at(book, entry + 16));
-        }
-    }
-    false
+    within(u16_at(book, entry), 2, 6)
+        && within(u16_at(book, entry + 2), 2, 16)
+        && times_allowed(u64_at(book, entry + 8), u64_at(book, entry + 16))
 }
 
 // Without the sign, the bits of floats are in the order of their sizes.
@@ -71,17 +59,11 @@ pub fn floats_below(book: &[u8], at: usize, n: usize, limit: u64) -> bool
     requires { at + 8 * n ≤ length book.now }
     ensures { result ≡ floats_below limit book.now at n }
 {
-    let mut k = 0;
-    while k < n {
-        if !bits_below(u64_at(book, at + 8 * k), limit) {
-            return false;
-        }
-        k += 1;
-    }
-    true
+    (0..n).all(|k| bits_below(u64_at(book, at + 8 * k), limit))
 }
 
 // The bits of an infinity or a NaN are the greatest.
+#[tactic(auto, using(crate::proofs::Below::finite_below))]
 pub fn floats_finite(book: &[u8], at: usize, n: usize) -> bool
     requires { at + 8 * n ≤ length book.now }
     ensures { result ≡ floats_finite book.now at n }
@@ -97,12 +79,7 @@ fn entry_holds(book: &[u8], i: usize, place: usize) -> bool
         return false;
     }
     let n = size_of(book, i);
-    if offset_of(book, i) == place {
-        if place + 24 * n <= book.len() {
-            return floats_finite(book, place, 3 * n);
-        }
-    }
-    false
+    offset_of(book, i) == place && place + 24 * n <= book.len() && floats_finite(book, place, 3 * n)
 }
 
 fn in_order(book: &[u8], i: usize, j: usize) -> bool
@@ -112,15 +89,8 @@ fn in_order(book: &[u8], i: usize, j: usize) -> bool
 {
     let entry = 8 + 24 * i;
     let next = 8 + 24 * j;
-    let body = u16_at(book, entry);
-    let next_body = u16_at(book, next);
-    if body < next_body {
-        return true;
-    }
-    if next_body < body {
-        return false;
-    }
-    u64_at(book, entry + 8) + u64_at(book, entry + 16) <= u64_at(book, next + 8)
+    let end = u64_at(book, entry + 8) + u64_at(book, entry + 16);
+    (u16_at(book, entry), end) <= (u16_at(book, next), u64_at(book, next + 8))
 }
 
 // If all neighbours are in order, all entries are.
@@ -130,11 +100,7 @@ fn next_in_order(book: &[u8], i: usize, count: usize) -> bool
     ensures { result ≡ next_in_order book.now i count }
 {
     let next = i + 1;
-    if next < count {
-        in_order(book, i, next)
-    } else {
-        true
-    }
+    next == count || in_order(book, i, next)
 }
 
 // For a book of the stated length whose contents lie inside it.
@@ -144,16 +110,14 @@ pub fn entries_pass(book: &[u8], count: usize) -> bool
     ensures { result ≡ passes book.now }
 {
     let mut place = 8 + 24 * count;
-    let mut i = 0;
-    while i < count {
+    for i in 0..count {
         if !entry_holds(book, i, place) {
             return false;
         }
         if !next_in_order(book, i, count) {
             return false;
         }
-        place += 24 * (u16_at(book, 8 + 24 * i + 2) as usize);
-        i += 1;
+        place += 24 * size_of(book, i);
     }
     place == book.len()
 }

@@ -6,80 +6,78 @@ use mathlib.Core.List.{List}
 use mathlib.Core.Path.{◌≡◌, refl, sym, ap}
 use native.Mathlib.Omega.{arith}
 use Rattle.base.specs.declared.Refusal.{Refusal}
-use Rattle.std.specs.Prelude.{Option, Some, None}
+use Rattle.std.specs.Prelude.{Option, Some, None, Result, Ok, Err}
 use Rattle.base.specs.Choice.{if◌then◌otherwise◌}
 use Rattle.book.specs.Passes.{passes}
-use Rattle.book_holds.specs.Answer.{first_missing, answer_of, holds_answer}
+use Rattle.book_holds.specs.Answer.{first_missing, holds_answer}
 use Rattle.book_holds.specs.Laws.{BothPass, Fuller, MissingFirst}
-use Rattle.book_holds.specs.declared.HoldsAnswer.{HoldsAnswer}
-use Rattle.book_holds.specs.declared.HoldsAnswer.TheVariants.{Held, Missing, Refused}
 use Rattle.book_holds.proofs.Copies.{none_missing, none_missing_back, missing_at, missing_at_back}
 
 module _ (b c : List ℕ) where
   -- an answer that is not a refusal means that both books pass, and gives the first missing entry
-  record Told (a : HoldsAnswer) : Type 0 where
+  record Told (a : Result (Option ℕ) Refusal) : Type 0 where
     pass : BothPass b c
-    is : answer_of (first_missing b c) ≡ a
+    is : Ok (first_missing b c) ≡ a
 
-  passing_told : (a : HoldsAnswer) → (Refused Refusal.Book ≡ a → ⊥) → holds_answer b c ≡ a → Told a
+  passing_told : (a : Result (Option ℕ) Refusal) → (Err Refusal.Book ≡ a → ⊥) → holds_answer b c ≡ a → Told a
   unfolding holds_answer
   passing_told a other h = by (passes b) (passes c) refl refl h
     where
-      by : (x y : Bool) → passes b ≡ x → passes c ≡ y → (if x && y then answer_of (first_missing b c) otherwise Refused Refusal.Book) ≡ a → Told a
+      by : (x y : Bool) → passes b ≡ x → passes c ≡ y → (if x && y then Ok (first_missing b c) otherwise Err Refusal.Book) ≡ a → Told a
       by true true p q h = record { pass = record { first = p; second = q }; is = h }
       by true false p q h = absurd (other h)
       by false y p q h = absurd (other h)
 
-  told_back : (a : HoldsAnswer) → BothPass b c → answer_of (first_missing b c) ≡ a → holds_answer b c ≡ a
+  told_back : (a : Result (Option ℕ) Refusal) → BothPass b c → Ok (first_missing b c) ≡ a → holds_answer b c ≡ a
   unfolding holds_answer
   told_back a p h = rw (p.first, p.second) h
 
-  refused_held : Refused Refusal.Book ≡ Held → ⊥
+  refused_held : Err Refusal.Book ≡ Ok None → ⊥
   refused_held h = let z : ◌≡◌ {A = ℕ} 0 1 = cc in omega arith
 
-  refused_missing : (i : ℕ) → Refused Refusal.Book ≡ Missing i → ⊥
+  refused_missing : (i : ℕ) → Err Refusal.Book ≡ Ok (Some i) → ⊥
   refused_missing i h = let z : ◌≡◌ {A = ℕ} 0 1 = cc in omega arith
 
-  -- ---- Held
-  pub held_fuller : holds_answer b c ≡ Held → Fuller b c
+  -- ---- (Ok None)
+  pub held_fuller : holds_answer b c ≡ Ok None → Fuller b c
   held_fuller h =
-      let t = passing_told Held refused_held h in
+      let t = passing_told (Ok None) refused_held h in
       record { pass = t.pass; all_held = none_missing_back b c (by (first_missing b c) t.is) }
     where
-      by : (l : Option ℕ) → answer_of l ≡ Held → l ≡ None
+      by : (l : Option ℕ) → Ok l ≡ Ok None → l ≡ None
       by None h = refl
       by (Some i) h = let z : ◌≡◌ {A = ℕ} 0 1 = cc in absurd (omega arith)
 
-  pub fuller_held : Fuller b c → holds_answer b c ≡ Held
-  fuller_held f = told_back Held f.pass (ap answer_of (none_missing b c f.all_held))
+  pub fuller_held : Fuller b c → holds_answer b c ≡ Ok None
+  fuller_held f = told_back (Ok None) f.pass (ap Ok (none_missing b c f.all_held))
 
   -- ---- Missing
-  pub missing_first : (i : ℕ) → holds_answer b c ≡ Missing i → MissingFirst b c i
+  pub missing_first : (i : ℕ) → holds_answer b c ≡ Ok (Some i) → MissingFirst b c i
   missing_first i h =
-      let t = passing_told (Missing i) (refused_missing i) h in
+      let t = passing_told (Ok (Some i)) (refused_missing i) h in
       let m = missing_at_back b c i (by (first_missing b c) t.is) in
       record { pass = t.pass; inside = m.inside; not_held_lem = m.not_held_lem; held_before = m.held_before }
     where
-      by : (l : Option ℕ) → answer_of l ≡ Missing i → l ≡ Some i
+      by : (l : Option ℕ) → Ok l ≡ Ok (Some i) → l ≡ Some i
       by None h = let z : ◌≡◌ {A = ℕ} 0 1 = cc in absurd (omega arith)
       by (Some k) h = let same : k ≡ i = cc in ap Some same
 
-  pub first_missing_lem : (i : ℕ) → MissingFirst b c i → holds_answer b c ≡ Missing i
-  first_missing_lem i m = told_back (Missing i) m.pass (ap answer_of (missing_at b c i m.inside m.not_held_lem m.held_before))
+  pub first_missing_lem : (i : ℕ) → MissingFirst b c i → holds_answer b c ≡ Ok (Some i)
+  first_missing_lem i m = told_back (Ok (Some i)) m.pass (ap Ok (missing_at b c i m.inside m.not_held_lem m.held_before))
 
   -- ---- Refused: only with 1, and if and only if one of the books does not pass
-  pub refused_by_1 : (k : Refusal) → holds_answer b c ≡ Refused k → (k ≡ Refusal.Book) × ((passes b && passes c) ≡ false)
+  pub refused_by_1 : (k : Refusal) → holds_answer b c ≡ Err k → (k ≡ Refusal.Book) × ((passes b && passes c) ≡ false)
   unfolding holds_answer
   refused_by_1 k h = by (passes b && passes c) refl h
     where
-      no_number : (l : Option ℕ) → answer_of l ≡ Refused k → ⊥
+      no_number : (l : Option ℕ) → Ok l ≡ Err k → ⊥
       no_number None h = let z : ◌≡◌ {A = ℕ} 0 1 = cc in omega arith
       no_number (Some i) h = let z : ◌≡◌ {A = ℕ} 0 1 = cc in omega arith
 
-      by : (x : Bool) → (passes b && passes c) ≡ x → (if x then answer_of (first_missing b c) otherwise Refused Refusal.Book) ≡ Refused k → (k ≡ Refusal.Book) × ((passes b && passes c) ≡ false)
+      by : (x : Bool) → (passes b && passes c) ≡ x → (if x then Ok (first_missing b c) otherwise Err Refusal.Book) ≡ Err k → (k ≡ Refusal.Book) × ((passes b && passes c) ≡ false)
       by true e h = absurd (no_number (first_missing b c) h)
       by false e h = (let same : 1 ≡ k = cc in sym same, e)
 
-  pub not_passing_refused : (passes b && passes c) ≡ false → holds_answer b c ≡ Refused Refusal.Book
+  pub not_passing_refused : (passes b && passes c) ≡ false → holds_answer b c ≡ Err Refusal.Book
   unfolding holds_answer
   not_passing_refused h = rw h refl

@@ -10,7 +10,7 @@ use borrow.Author.Tests.{ltb-true, ltb-false}
 use native.Mathlib.Nat.{eq-or-lt_of_le}
 use native.Mathlib.Omega.{arith}
 use borrow.Author.Count.{below_more}
-use Rattle.base_bytes.specs.Bytes.{u64_at}
+use Rattle.std.specs.Bool.{Decides}
 use Rattle.book.specs.Contents.{entry_count, size_of, offset_of}
 use Rattle.book.proofs.Passing.{Passing}
 use Rattle.book_holds.specs.Holds.{Copied, HasCopy}
@@ -20,7 +20,11 @@ pub tells : (r : Bool) {P Q : Type 0} → (P → Q) → (Q → P) → Tells r P 
 tells true f g t = f t
 tells false f g t = λ q. t (g q)
 
-below_or_not : (k j : ℕ) → (k < j) ⊎ (j ≤ k)
+pub told : (r : Bool) {P : Type 0} → Decides r P → Tells r P
+told true d = d.0 refl
+told false d = λ p. true≢false (sym (d.1 p))
+
+pub below_or_not : (k j : ℕ) → (k < j) ⊎ (j ≤ k)
 below_or_not k j = by (ltb k j) refl
   where
     by : (x : Bool) → ltb k j ≡ x → (k < j) ⊎ (j ≤ k)
@@ -101,11 +105,5 @@ pub no_copy : (b c : List ℕ) (i j : ℕ) → (SameFields b c i j → ⊥) → 
 no_copy b c i j other copy = other (fields_of b c i j copy)
 
 -- ---- one turn of a loop
-pub more_before : (c : List ℕ) (j : ℕ) (b : List ℕ) (i : ℕ) → AllBefore c j b i → Before c j b i → AllBefore c (j + 1) b i
-more_before c j b i all at = below_more (λ k. Before c k b i) j all at
-
-pub more_bits : (b : List ℕ) (at : ℕ) (c : List ℕ) (place k : ℕ) → SameBits b at c place k → u64_at c (place + 8 * k) ≡ u64_at b (at + 8 * k) → SameBits b at c place (k + 1)
-more_bits b at c place k all same = below_more (λ j. u64_at c (place + 8 * j) ≡ u64_at b (at + 8 * j)) k all same
-
 pub more_held : (b c : List ℕ) (i : ℕ) → ((k : ℕ) → k < i → HasCopy b c k) → HasCopy b c i → (k : ℕ) → k < i + 1 → HasCopy b c k
 more_held b c i all held = below_more (λ k. HasCopy b c k) i all held

@@ -1,14 +1,12 @@
 -- Document 02, R-12, as a question: does the second book hold every entry of the first? If not, the answer is the first entry of the first
 -- book that the second does not hold.
 use Rattle.base.specs.declared.Refusal.{Refusal}
-use Rattle.std.specs.Prelude.{ℕ, zero, suc, ◌+◌, ◌*◌, Bool, false, not, ◌&&◌, ◌||◌, List, Option, Some, None}
+use Rattle.std.specs.Prelude.{ℕ, zero, suc, ◌+◌, ◌*◌, Bool, false, not, ◌&&◌, ◌||◌, List, Option, Result, Ok, Err}
 use Rattle.base.specs.Choice.{if◌then◌otherwise◌, ◌=?◌}
 use Rattle.base_bytes.specs.Bytes.{u64_at}
 use Rattle.book.specs.Contents.{entry_count, body_of, size_of, offset_of, start_of, span_of}
 use Rattle.book.specs.Passes.{all_below, passes}
 use Rattle.book.specs.Lookup.{first_below}
-use Rattle.book_holds.specs.declared.HoldsAnswer.{HoldsAnswer}
-use Rattle.book_holds.specs.declared.HoldsAnswer.TheVariants.{Held, Missing, Refused}
 
 -- whether some number below n meets the test
 abbrev pub some_below : ℕ → (ℕ → Bool) → Bool
@@ -35,10 +33,6 @@ holds_entry b c i = some_below (entry_count c) (is_copy b c i)
 unfoldable pub first_missing : List ℕ → List ℕ → Option ℕ
 first_missing b c = first_below (entry_count b) (λ i. not (holds_entry b c i))
 
-abbrev pub answer_of : Option ℕ → HoldsAnswer
-answer_of (Some i) = Missing i
-answer_of None = Held
-
 -- 1: a book that does not pass, the first or the second
-unfoldable pub holds_answer : List ℕ → List ℕ → HoldsAnswer
-holds_answer b c = if passes b && passes c then answer_of (first_missing b c) otherwise Refused Refusal.Book
+unfoldable pub holds_answer : List ℕ → List ℕ → Result (Option ℕ) Refusal
+holds_answer b c = if passes b && passes c then Ok (first_missing b c) otherwise Err Refusal.Book

@@ -16,19 +16,8 @@ fn comes_before(second: &[u8], j: usize, first: &[u8], i: usize) -> bool
 {
     let entry = 8 + 24 * j;
     let other = 8 + 24 * i;
-    let body = u16_at(second, entry);
-    let other_body = u16_at(first, other);
-    if body < other_body {
-        return true;
-    }
-    if other_body < body {
-        return false;
-    }
-    if u64_at(second, entry + 8) < u64_at(first, other + 8) {
-        true
-    } else {
-        false
-    }
+    let place = (u16_at(second, entry), u64_at(second, entry + 8));
+    place < (u16_at(first, other), u64_at(first, other + 8))
 }
 
 // The first entry of the second book, from j on, that does not come before entry i of the first.
@@ -39,15 +28,12 @@ pub fn reach(first: &[u8], i: usize, second: &[u8], j: usize) -> usize
     ensures { Reached second.now result first.now i }
 {
     let count = u32_at(second, 4) as usize;
-    let mut next = j;
-    while next < count {
-        if comes_before(second, next, first, i) {
-            next += 1;
-        } else {
+    for next in j..count {
+        if !comes_before(second, next, first, i) {
             return next;
         }
     }
-    next
+    count
 }
 
 fn same_fields(first: &[u8], i: usize, second: &[u8], j: usize) -> bool
@@ -56,16 +42,10 @@ fn same_fields(first: &[u8], i: usize, second: &[u8], j: usize) -> bool
 {
     let entry = 8 + 24 * i;
     let other = 8 + 24 * j;
-    if u16_at(second, other) == u16_at(first, entry) {
-        if u16_at(second, other + 2) == u16_at(first, entry + 2) {
-            if u64_at(second, other + 8) == u64_at(first, entry + 8) {
-                if u64_at(second, other + 16) == u64_at(first, entry + 16) {
-                    return true;
-                }
-            }
-        }
-    }
-    false
+    u16_at(second, other) == u16_at(first, entry)
+        && u16_at(second, other + 2) == u16_at(first, entry + 2)
+        && u64_at(second, other + 8) == u64_at(first, entry + 8)
+        && u64_at(second, other + 16) == u64_at(first, entry + 16)
 }
 
 // Compares the bits of n coefficients, so that 0.0 and -0.0 differ.
@@ -73,15 +53,7 @@ fn same_bits(first: &[u8], at: usize, second: &[u8], place: usize, n: usize) -> 
     requires { (at + 8 * n ≤ length first.now) × (place + 8 * n ≤ length second.now) }
     ensures { Tells result (SameBits first.now at second.now place n) }
 {
-    let mut k = 0;
-    while k < n {
-        if u64_at(second, place + 8 * k) == u64_at(first, at + 8 * k) {
-            k += 1;
-        } else {
-            return false;
-        }
-    }
-    true
+    second[place..place + 8 * n] == first[at..at + 8 * n]
 }
 
 fn same_entry(first: &[u8], i: usize, second: &[u8], j: usize) -> bool
@@ -89,13 +61,13 @@ fn same_entry(first: &[u8], i: usize, second: &[u8], j: usize) -> bool
     requires i_bound { (i < entry_count first.now) × (j < entry_count second.now) }
     ensures { Tells result (Copied first.now second.now i j) }
 {
-    if same_fields(first, i, second, j) {
-        let n = size_of(first, i);
-        let at = offset_of(first, i);
-        let place = offset_of(second, j);
-        return same_bits(first, at, second, place, 3 * n);
+    if !same_fields(first, i, second, j) {
+        return false;
     }
-    false
+    let n = size_of(first, i);
+    let at = offset_of(first, i);
+    let place = offset_of(second, j);
+    same_bits(first, at, second, place, 3 * n)
 }
 
 // Whether the second book holds entry i of the first. It can only be at the place that the walk has reached.
@@ -104,8 +76,5 @@ pub fn held_at(first: &[u8], i: usize, second: &[u8], j: usize) -> bool
     requires i_bound { (i < entry_count first.now) × Reached second.now j first.now i }
     ensures { Tells result (HasCopy first.now second.now i) }
 {
-    if j < u32_at(second, 4) as usize {
-        return same_entry(first, i, second, j);
-    }
-    false
+    j < u32_at(second, 4) as usize && same_entry(first, i, second, j)
 }

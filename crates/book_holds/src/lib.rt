@@ -7,47 +7,36 @@ mod entry;
 
 ghost use Rattle.std.specs.Prelude.{true, ◌≡◌};
 ghost use Rattle.book.specs.Passes.{passes};
-ghost use Rattle.book_holds.specs.Answer.{answer_of, first_missing, holds_answer};
+ghost use Rattle.book_holds.specs.Answer.{first_missing, holds_answer};
 
-use base::Refusal;
 use crate::entry::{held_at, reach};
+use base::Refusal;
 use base_bytes::inner::u32_at;
 use book::book_passes;
 
-// Missing: the first entry of the first book that the second does not hold, counted from 0.
-#[derive(Clone, Copy)]
-pub enum HoldsAnswer {
-    Held,
-    Missing(usize),
-    Refused(u64),
-}
-
-// For two books that pass.
-fn walk(first: &[u8], second: &[u8]) -> HoldsAnswer
+// For two books that pass: the first entry of the first book that the second does not hold, counted from 0.
+fn walk(first: &[u8], second: &[u8]) -> Option<usize>
     requires { (passes first.now ≡ true) × (passes second.now ≡ true) }
-    ensures { result ≡ answer_of (first_missing first.now second.now) }
+    ensures { result ≡ first_missing first.now second.now }
 {
     let count = u32_at(first, 4) as usize;
-    let mut i = 0;
     let mut j = 0;
-    while i < count {
+    for i in 0..count {
         j = reach(first, i, second, j);
-        if held_at(first, i, second, j) {
-            i += 1;
-        } else {
-            return HoldsAnswer::Missing(i);
+        if !held_at(first, i, second, j) {
+            return Some(i);
         }
     }
-    HoldsAnswer::Held
+    None
 }
 
-pub fn book_holds(first: &[u8], second: &[u8]) -> HoldsAnswer
+// The first entry of the first book that the second does not hold, if there is one.
+pub fn book_holds(first: &[u8], second: &[u8]) -> Result<Option<usize>, Refusal>
     ensures { result ≡ holds_answer first.now second.now }
 {
-    if book_passes(first) {
-        if book_passes(second) {
-            return walk(first, second);
-        }
+    if book_passes(first) && book_passes(second) {
+        Ok(walk(first, second))
+    } else {
+        Err(Refusal::Book)
     }
-    HoldsAnswer::Refused(Refusal::Book)
 }

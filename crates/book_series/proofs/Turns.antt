@@ -5,10 +5,8 @@ use mathlib.Core.List.{List}
 use mathlib.Core.Path.{◌≡◌, ap}
 use lib.Ieee.{Float}
 use lib.Ieee.Scale.{finite}
-use native.Mathlib.Nat.{add-zero}
 use native.Mathlib.Omega.{arith}
 use Rattle.book_check.specs.Contents.{float_of, offset_of, size_of, start_of, span_of}
-use Rattle.base_bytes.specs.Bytes.{float_at}
 use Rattle.book_check.specs.Check.{floats_finite}
 use Rattle.base.specs.Floats.{zero64}
 use Rattle.book_series.specs.Series.{Pair, twice, turn, last_turn, clenshaw, series, listed, block_of, place_by, argument, place}
@@ -67,9 +65,6 @@ module _ (w : Float) (f : ℕ → Float) where
 module _ (b : List ℕ) (offset : ℕ) where
   pub float_finite : (n k : ℕ) → floats_finite b offset n ≡ true → k < n → finite (float_of b offset k) ≡ true
   float_finite n k h l = every n (λ k. finite (float_of b offset k)) h k l
-
-  pub first_float : float_at b offset ≡ float_of b offset 0
-  first_float = rw add-zero
 
 pub place_by_lem : (b : List ℕ) (i t offset n : ℕ) (w : Float) → offset ≡ offset_of b i → n ≡ size_of b i → w ≡ argument (start_of b i) (span_of b i) t →
     place_by (block_of (float_of b offset) n) w ≡ place b i t

@@ -7,8 +7,8 @@ ghost use Rattle.book_series.specs.Series.{argument, InSpan, place_by, velocity_
 ghost use Rattle.book_series.specs.Axis.{axis_none, axis_turn, axis_speed};
 ghost use Rattle.book_series.specs.Sums.{sums_none, sums_turn, sums_place};
 
+use crate::coefficients::Coefficients;
 use crate::{Place, TwoPlaces, Velocity};
-use base_bytes::inner::float_at;
 
 // One axis of the series: b(k), b(k+1) of its value and d(k), d(k+1) of its slope.
 #[derive(Clone, Copy)]
@@ -55,31 +55,28 @@ fn no_sums() -> Sums
 }
 
 // The sums with coefficient k of each axis. `twice` is 2w.
-fn turn_of(s: Sums, book: &[u8], offset: usize, n: usize, k: usize, twice: f64) -> Sums
-    requires n_bound { (n ≤ 16) × (k < n) × (offset + 24 * n ≤ length book.now) }
-    requires n_value { floats_finite book.now offset (3 * n) ≡ true }
-    ensures { result ≡ sums_turn twice (float_of book.now offset) n k s }
+fn turn_of(s: Sums, c: &Coefficients<'_>, k: usize, twice: f64) -> Sums
+    requires { k < c.now.n }
+    ensures { result ≡ sums_turn twice (float_of c.now.book.now c.now.offset) c.now.n k s }
 {
     Sums {
-        x: (twice * s.x - s.x1) + float_at(book, offset + 8 * k),
+        x: (twice * s.x - s.x1) + c.at(k),
         x1: s.x,
-        y: (twice * s.y - s.y1) + float_at(book, offset + 8 * (n + k)),
+        y: (twice * s.y - s.y1) + c.at(c.n + k),
         y1: s.y,
-        z: (twice * s.z - s.z1) + float_at(book, offset + 8 * (2 * n + k)),
+        z: (twice * s.z - s.z1) + c.at(2 * c.n + k),
         z1: s.z,
     }
 }
 
 // The position, from the sums down to coefficient 1.
-fn place_of(s: Sums, book: &[u8], offset: usize, n: usize, w: f64) -> Place
-    requires le_n { (1 ≤ n) × (n ≤ 16) × (offset + 24 * n ≤ length book.now) }
-    requires n_value { floats_finite book.now offset (3 * n) ≡ true }
-    ensures { result ≡ sums_place w (float_of book.now offset) n s }
+fn place_of(s: Sums, c: &Coefficients<'_>, w: f64) -> Place
+    ensures { result ≡ sums_place w (float_of c.now.book.now c.now.offset) c.now.n s }
 {
     Place {
-        x: (w * s.x - s.x1) + float_at(book, offset),
-        y: (w * s.y - s.y1) + float_at(book, offset + 8 * n),
-        z: (w * s.z - s.z1) + float_at(book, offset + 8 * (2 * n)),
+        x: (w * s.x - s.x1) + c.at(0),
+        y: (w * s.y - s.y1) + c.at(c.n),
+        z: (w * s.z - s.z1) + c.at(2 * c.n),
     }
 }
 
@@ -89,14 +86,13 @@ pub fn series_at(book: &[u8], offset: usize, n: usize, w: f64) -> Place
     requires n_value { floats_finite book.now offset (3 * n) ≡ true }
     ensures { result ≡ place_by (block_of (float_of book.now offset) n) w }
 {
+    let c = Coefficients { book, offset, n };
     let twice = 2.0 * w;
     let mut s = no_sums();
-    let mut k = n;
-    while 1 < k {
-        k -= 1;
-        s = turn_of(s, book, offset, n, k, twice);
+    for k in (1..n).rev() {
+        s = turn_of(s, &c, k, twice);
     }
-    place_of(s, book, offset, n, w)
+    place_of(s, &c, w)
 }
 
 // The series of two blocks, each as `series_at` computes it. One turn waits for the turn before it. In the loop that
@@ -117,27 +113,29 @@ pub fn two_series_at(
     ensures first_value { result.first ≡ place_by (block_of (float_of book.now offset) n) w }
     ensures second_value { result.second ≡ place_by (block_of (float_of book.now offset2) n2) w2 }
 {
+    let c = Coefficients { book, offset, n };
+    let c2 = Coefficients {
+        book,
+        offset: offset2,
+        n: n2,
+    };
     let twice = 2.0 * w;
     let twice2 = 2.0 * w2;
     let mut a = no_sums();
     let mut b = no_sums();
-    let mut k = n;
-    let mut j = n2;
-    while j < k {
-        k -= 1;
-        a = turn_of(a, book, offset, n, k, twice);
+    let shared = n.min(n2);
+    for k in (shared..n).rev() {
+        a = turn_of(a, &c, k, twice);
     }
-    while k < j {
-        j -= 1;
-        b = turn_of(b, book, offset2, n2, j, twice2);
+    for j in (shared..n2).rev() {
+        b = turn_of(b, &c2, j, twice2);
     }
-    while 1 < k {
-        k -= 1;
-        a = turn_of(a, book, offset, n, k, twice);
-        b = turn_of(b, book, offset2, n2, k, twice2);
+    for k in (1..shared).rev() {
+        a = turn_of(a, &c, k, twice);
+        b = turn_of(b, &c2, k, twice2);
     }
-    let first = place_of(a, book, offset, n, w);
-    let second = place_of(b, book, offset2, n2, w2);
+    let first = place_of(a, &c, w);
+    let second = place_of(b, &c2, w2);
     TwoPlaces { first, second }
 }
 
@@ -177,15 +175,14 @@ pub fn slopes_at(book: &[u8], offset: usize, n: usize, w: f64, span: f64) -> Vel
     requires n_value { floats_finite book.now offset (3 * n) ≡ true }
     ensures { result ≡ velocity_by (block_of (float_of book.now offset) n) w span }
 {
+    let c = Coefficients { book, offset, n };
     let mut x = no_turn();
     let mut y = no_turn();
     let mut z = no_turn();
-    let mut k = n;
-    while 1 < k {
-        k -= 1;
-        x = one_turn(x, w, float_at(book, offset + 8 * k));
-        y = one_turn(y, w, float_at(book, offset + 8 * (n + k)));
-        z = one_turn(z, w, float_at(book, offset + 8 * (2 * n + k)));
+    for k in (1..n).rev() {
+        x = one_turn(x, w, c.at(k));
+        y = one_turn(y, w, c.at(n + k));
+        z = one_turn(z, w, c.at(2 * n + k));
     }
     Velocity {
         x: speed_of(x, w, span),

@@ -2,6 +2,7 @@
 
 #![tactic(auto)]
 
+mod coefficients;
 pub mod inner;
 
 #[derive(Clone, Copy)]

@@ -8,29 +8,24 @@ use Rattle.calendar_lengths.proofs.Lengths.{next_month, january_starts, december
 use Rattle.calendar.proofs.Dates.{found}
 
 -- the elapsed days of a year reach to a month, or past it, by rest
-pub record Reached (leap : Bool) (elapsed month rest length : ℕ) : Type 0 where
+pub record Reached (leap : Bool) (elapsed month rest : ℕ) : Type 0 where
   pub within : elapsed < year_length leap
   pub month_low : 1 ≤ month
   pub month_high : month ≤ 12
-  pub length_is : length ≡ month_length leap month
   pub days : days_before_month leap month + rest ≡ elapsed
 
-pub start : (leap : Bool) (elapsed length : ℕ) → elapsed < year_length leap → length ≡ month_length leap 1 → Reached leap elapsed 1 elapsed length
-start leap elapsed length h e = omega (arith, january_starts leap)
+pub start : (leap : Bool) (elapsed : ℕ) → elapsed < year_length leap → Reached leap elapsed 1 elapsed
+start leap elapsed h = omega (arith, january_starts leap)
 
-module _ (leap : Bool) (elapsed month rest length : ℕ) (r : Reached leap elapsed month rest length) where
+module _ (leap : Bool) (elapsed month rest : ℕ) (r : Reached leap elapsed month rest) where
+  pub onward : month < 12 → month_length leap month ≤ rest → Reached leap elapsed (month + 1) (rest - month_length leap month)
+  onward l h = omega (arith, next_month leap month r.month_low)
+
   -- past December no day of the year is left
-  pub not_december : length ≤ rest → month < 12
-  not_december h =
-      let no : month ≡ 12 → ⊥ = λ e. omega (arith, ap (λ (m : ℕ). days_before_month leap m + month_length leap m) e, december_ends leap) in
-      omega arith
+  pub in_december : month ≡ 12 → rest < month_length leap month
+  in_december e = omega (arith, ap (λ (m : ℕ). days_before_month leap m + month_length leap m) e, december_ends leap)
 
-  pub onward : (next : ℕ) → length ≤ rest → next ≡ month_length leap (month + 1) → Reached leap elapsed (month + 1) (rest - length) next
-  onward next h e =
-      let l : month < 12 = not_december h in
-      omega (arith, next_month leap month r.month_low)
-
-  pub reached : (year : ℕ) → 1950 ≤ year → leap ≡ is_leap year → rest < length → ymd year month (rest + 1) ≡ date_of (days_before_year year + elapsed)
+  pub reached : (year : ℕ) → 1950 ≤ year → leap ≡ is_leap year → rest < month_length leap month → ymd year month (rest + 1) ≡ date_of (days_before_year year + elapsed)
   reached year low e h =
       let high : rest + 1 ≤ month_length (is_leap year) month = rw (sym e) (omega arith) in
       let days : days_before_month (is_leap year) month + rest ≡ elapsed = rw (sym e) r.days in

@@ -23,17 +23,21 @@ fn date_in_year(year: u64, elapsed: u64) -> Calendar
     ensures { result ≡ date_of (days_before_year year + elapsed) }
 {
     let leap = is_leap(year);
-    let mut month = 1;
     let mut rest = elapsed;
-    let mut length = month_length(leap, 1);
-    while length <= rest {
+    for month in 1..12 {
+        let length = month_length(leap, month);
+        if rest < length {
+            return Calendar {
+                year,
+                month,
+                day: rest + 1,
+            };
+        }
         rest -= length;
-        month += 1;
-        length = month_length(leap, month);
     }
     Calendar {
         year,
-        month,
+        month: 12,
         day: rest + 1,
     }
 }

@@ -1,12 +1,8 @@
 -- `book::calm::book_calm` meets its contract. The invariant: the coefficients of the entries before i are below the limit. Assumes nothing.
-use Prim.Native.Nat.{◌≤◌, ◌-◌}
 use mathlib.Core.Bool.{true}
 use mathlib.Core.Path.{◌≡◌}
 use Rattle.book.proofs.Slow.{calm_before}
 use Rattle.book.proofs.calm.book_calm.Given as goal
 
 abbrev pub invariant-loop-i : goal.invariant-loop-i
-invariant-loop-i l = (l.i ≤ l.count) × (calm_before l.book l.i ≡ true)
-
-abbrev pub decreases-loop-i : goal.decreases-loop-i
-decreases-loop-i l = l.count - l.i
+invariant-loop-i l = calm_before l.book l.i ≡ true

@@ -1,6 +1,5 @@
 -- `book_holds::entry::reach` meets its contract. The invariant: the entries below `next` come before the entry. Assumes nothing.
 use native.Mathlib.Omega.{arith}
-use Prim.Native.Nat.{◌-◌}
 use Rattle.book.proofs.Passing.{passing, contents_inside}
 use Rattle.book_holds.proofs.entry.reach.Goals as goal
 

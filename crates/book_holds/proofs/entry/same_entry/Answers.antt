@@ -19,7 +19,7 @@ pub offset_of-place-requires : goal.offset_of-place-requires
 offset_of-place-requires c = let q = contents_inside _ (passing _ c.requires.first_value.1) in omega arith
 
 pub same_bits-requires : goal.same_bits-requires
-same_bits-requires c = let fields = told_yes _ c.if-same_fields.true c.same_fields.ensures in
+same_bits-requires c = let fields = told_yes _ c.if-not-same_fields.false c.same_fields.ensures in
     let p = passing _ c.requires.first_value.0 in
     let q = passing _ c.requires.first_value.1 in
     let in_first_lem = block_inside _ p _ c.requires.i_bound.0 in

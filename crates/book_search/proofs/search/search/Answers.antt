@@ -1,6 +1,6 @@
 -- `book_search::search::search` meets its contract. The invariant: only entries from low to high can serve. Assumes nothing.
 use native.Mathlib.Omega.{arith}
-use Prim.Native.Nat.{◌+◌, ◌-◌, ◌≤◌, ◌<◌}
+use Prim.Native.Nat.{◌+◌, ◌≤◌, ◌<◌}
 use mathlib.Core.Path.{sym}
 use lib.ListN.{length}
 use Rattle.book_check.specs.Contents.{entry_count, entry_at}

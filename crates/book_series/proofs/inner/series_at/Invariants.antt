@@ -5,6 +5,3 @@ use Rattle.book_series.proofs.inner.series_at.Given as goal
 
 abbrev pub invariant-loop-k : goal.invariant-loop-k
 invariant-loop-k l = Done l.w (float_of l.book l.offset) l.n l.k l.s
-
-abbrev pub decreases-loop-k : goal.decreases-loop-k
-decreases-loop-k l = l.k

@@ -1,11 +1,7 @@
 -- `book_series::inner::slopes_at` meets its contract. The invariant: the coefficients from k on are done, of each axis. Assumes nothing.
-use Prim.Native.Nat.{◌-◌}
 use Rattle.book_check.specs.Contents.{float_of}
 use Rattle.book_series.proofs.Slopes.{Sloped}
 use Rattle.book_series.proofs.inner.slopes_at.Given as goal
 
 abbrev pub invariant-loop-k : goal.invariant-loop-k
 invariant-loop-k l = Sloped l.w (float_of l.book l.offset) l.n l.k l.x l.y l.z
-
-abbrev pub decreases-loop-k : goal.decreases-loop-k
-decreases-loop-k l = l.k

@@ -1,14 +1,14 @@
 -- `book_series::inner::two_series_at` meets its contract. The invariant of each loop: the coefficients of a body from its k on are done, as in
--- `series_at`. Before the third loop k and j are equal. Assumes nothing.
+-- `series_at`. Before the third loop both have come to the smaller n. Assumes nothing.
 use native.Mathlib.Omega.{arith}
 use Rattle.book_series.proofs.Turns.{no_turn, one_turn, last_turn_lem}
 use Rattle.book_series.proofs.inner.two_series_at.Goals as goal
 
 pub loop-k-init : goal.loop-k-init
-loop-k-init c = rw c.no_sums-a.ensures (no_turn _ _ _ c.requires.le_n.0)
+loop-k-init c = (rw c.no_sums-a.ensures (no_turn _ _ _ c.requires.le_n.0), omega arith)
 
 pub loop-k-preserved : goal.loop-k-preserved
-loop-k-preserved c = rw c.turn_of-a.ensures (one_turn _ _ _ _ _ c.loop-k.invariant (omega arith))
+loop-k-preserved c = (rw c.turn_of-a.ensures (one_turn _ _ _ _ _ c.loop-k.invariant.0 (omega arith)), omega arith)
 
 pub loop-j-init : goal.loop-j-init
 loop-j-init c = (rw c.no_sums-b.ensures (no_turn _ _ _ c.requires.le_n2.0), omega arith)
