@@ -23,16 +23,16 @@ kept true h = refl
 kept false h = h
 
 -- ---- some number below n
-pub record Some (n : ℕ) (test : ℕ → Bool) : Type 0 where
+pub record Below (n : ℕ) (test : ℕ → Bool) : Type 0 where
   pub at : ℕ
   pub below : at < n
   pub meets : test at ≡ true
 
-pub some : (n : ℕ) (test : ℕ → Bool) → some_below n test ≡ true → Some n test
+pub some : (n : ℕ) (test : ℕ → Bool) → some_below n test ≡ true → Below n test
 some zero test h = let z : ◌≡◌ {A = ℕ} 0 1 = cc in absurd (omega arith)
 some (suc n) test h = by (test n) refl (some n test) h
   where
-    by : (x : Bool) → test n ≡ x → (some_below n test ≡ true → Some n test) → (some_below n test || x) ≡ true → Some (suc n) test
+    by : (x : Bool) → test n ≡ x → (some_below n test ≡ true → Below n test) → (some_below n test || x) ≡ true → Below (suc n) test
     by true e earlier h = record { at = n; below = omega arith; meets = e }
     by false e earlier h = let s = earlier (kept (some_below n test) h) in record { at = s.at; below = let l = s.below in omega arith; meets = s.meets }
 

@@ -32,21 +32,17 @@ module _ (b c : List ℕ) where
   unfolding holds_answer
   told_back a p h = rw (p.first, p.second) h
 
-  refused_held : Err Refusal.Book ≡ Ok None → ⊥
-  refused_held h = let z : ◌≡◌ {A = ℕ} 0 1 = cc in omega arith
-
-  refused_missing : (i : ℕ) → Err Refusal.Book ≡ Ok (Some i) → ⊥
-  refused_missing i h = let z : ◌≡◌ {A = ℕ} 0 1 = cc in omega arith
+  not_refused : (l : Option ℕ) → ◌≡◌ {A = Result (Option ℕ) Refusal} (Err Refusal.Book) (Ok l) → ⊥
+  not_refused l h = let z : ◌≡◌ {A = ℕ} 0 1 = cc in omega arith
 
   -- ---- (Ok None)
   pub held_fuller : holds_answer b c ≡ Ok None → Fuller b c
   held_fuller h =
-      let t = passing_told (Ok None) refused_held h in
+      let t = passing_told (Ok None) (not_refused None) h in
       record { pass = t.pass; all_held = none_missing_back b c (by (first_missing b c) t.is) }
     where
-      by : (l : Option ℕ) → Ok l ≡ Ok None → l ≡ None
-      by None h = refl
-      by (Some i) h = let z : ◌≡◌ {A = ℕ} 0 1 = cc in absurd (omega arith)
+      by : (l : Option ℕ) → ◌≡◌ {A = Result (Option ℕ) Refusal} (Ok l) (Ok None) → l ≡ None
+      by l h = cc
 
   pub fuller_held : Fuller b c → holds_answer b c ≡ Ok None
   fuller_held f = told_back (Ok None) f.pass (ap Ok (none_missing b c f.all_held))
@@ -54,13 +50,12 @@ module _ (b c : List ℕ) where
   -- ---- Missing
   pub missing_first : (i : ℕ) → holds_answer b c ≡ Ok (Some i) → MissingFirst b c i
   missing_first i h =
-      let t = passing_told (Ok (Some i)) (refused_missing i) h in
+      let t = passing_told (Ok (Some i)) (not_refused (Some i)) h in
       let m = missing_at_back b c i (by (first_missing b c) t.is) in
       record { pass = t.pass; inside = m.inside; not_held_lem = m.not_held_lem; held_before = m.held_before }
     where
-      by : (l : Option ℕ) → Ok l ≡ Ok (Some i) → l ≡ Some i
-      by None h = let z : ◌≡◌ {A = ℕ} 0 1 = cc in absurd (omega arith)
-      by (Some k) h = let same : k ≡ i = cc in ap Some same
+      by : (l : Option ℕ) → ◌≡◌ {A = Result (Option ℕ) Refusal} (Ok l) (Ok (Some i)) → l ≡ Some i
+      by l h = cc
 
   pub first_missing_lem : (i : ℕ) → MissingFirst b c i → holds_answer b c ≡ Ok (Some i)
   first_missing_lem i m = told_back (Ok (Some i)) m.pass (ap Ok (missing_at b c i m.inside m.not_held_lem m.held_before))
@@ -70,13 +65,12 @@ module _ (b c : List ℕ) where
   unfolding holds_answer
   refused_by_1 k h = by (passes b && passes c) refl h
     where
-      no_number : (l : Option ℕ) → Ok l ≡ Err k → ⊥
-      no_number None h = let z : ◌≡◌ {A = ℕ} 0 1 = cc in omega arith
-      no_number (Some i) h = let z : ◌≡◌ {A = ℕ} 0 1 = cc in omega arith
+      no_number : (l : Option ℕ) → ◌≡◌ {A = Result (Option ℕ) Refusal} (Ok l) (Err k) → ⊥
+      no_number l h = let z : ◌≡◌ {A = ℕ} 0 1 = cc in omega arith
 
       by : (x : Bool) → (passes b && passes c) ≡ x → (if x then Ok (first_missing b c) otherwise Err Refusal.Book) ≡ Err k → (k ≡ Refusal.Book) × ((passes b && passes c) ≡ false)
       by true e h = absurd (no_number (first_missing b c) h)
-      by false e h = (let same : 1 ≡ k = cc in sym same, e)
+      by false e h = (let same : Refusal.Book ≡ k = cc in sym same, e)
 
   pub not_passing_refused : (passes b && passes c) ≡ false → holds_answer b c ≡ Err Refusal.Book
   unfolding holds_answer

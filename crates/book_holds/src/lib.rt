@@ -31,6 +31,7 @@ fn walk(first: &[u8], second: &[u8]) -> Option<usize>
 }
 
 // The first entry of the first book that the second does not hold, if there is one.
+#[tactic(auto, unfolding(crate::specs::Answer::holds_answer))]
 pub fn book_holds(first: &[u8], second: &[u8]) -> Result<Option<usize>, Refusal>
     ensures { result ≡ holds_answer first.now second.now }
 {

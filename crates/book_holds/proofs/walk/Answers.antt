@@ -21,8 +21,8 @@ loop-i-preserved c = let at-loop = c.before in
 pub returns-then-not-held_at : goal.returns-then-not-held_at
 returns-then-not-held_at c = let at-loop = c.before in
     let e = at-loop.u32_at-count.ensures in
-    sym ((missing_at _ _ _ (omega arith) (told_no _ c.if-not-held_at.true c.held_at.ensures) at-loop.loop-i.invariant.1))
+    sym (missing_at _ _ _ (omega arith) (told_no _ c.if-not-held_at.true c.held_at.ensures) at-loop.loop-i.invariant.1)
 
 pub returns : goal.returns
 returns c = let e = c.u32_at-count.ensures in
-    sym ((none_missing _ _ (λ k l. c.loop-i.invariant.1 k (omega arith))))
+    sym (none_missing _ _ (λ k l. c.loop-i.invariant.1 k (omega arith)))
