@@ -5,7 +5,7 @@
 ghost use Rattle.std.specs.Prelude.{◌≡◌, not, ◌&&◌};
 ghost use Rattle.std.specs.Float.Ieee.Scale.{finite};
 ghost use Rattle.base.specs.Choice.{if◌then◌otherwise◌};
-ghost use Rattle.base.specs.Refusals.{number_of};
+ghost use Rattle.base.specs.Refusals.{number_of, refusal_of};
 ghost use Rattle.base.specs.Checks.{require};
 
 // Moments are whole milliseconds from 0 up to but not including this.
@@ -29,30 +29,75 @@ pub fn is_finite(x: f64) -> bool
     false
 }
 
-// Why a call refuses its input. Document 01 and document 02 know each refusal by a number.
+// Why a call refuses its input. Documents 01 and 02 know each refusal by a number.
 #[derive(Clone, Copy, PartialEq, Eq)]
 pub enum Refusal {
+    // 1: the book does not pass
     Book,
+    // 2: h not allowed
     Step,
+    // 3: moment or UT out of range
     Moment,
+    // 4: coefficient, DUT, J, A, K or rule not allowed
     Setting,
+    // 5: target before the state, or not a whole number of steps away
     Target,
+    // 6: a used body has no cover
     Cover,
+    // 7: not finite, a given state included
     NotFinite,
+    // 8: no such date within 1950 to 2049, or day above 36,524
     Date,
+    // 9: c3 is zero
     Parabola,
+    // 10: n(C) is zero
     StraightLine,
+    // 11: root of a negative or non-finite float
     Root,
+    // 12: angle of a circle or more, or out of range
     Angle,
+    // 13: a listing that is not of the form
     Listing,
+    // 14: a centre that is no body, or one that the setting does not use
     Centre,
+    // 15: a stored acceleration that is not the rule's
     Stored,
+    // 16: a repair of, or into, fewer than 8 bytes
     Short,
+    // 17: a magnitude of 10^12 or more in a table
     Large,
+    // 18: a state for the pane that is about another centre, or not later
     NotNext,
 }
 
 impl Refusal {
+    // The refusal of a number, if there is one.
+    pub fn from_number(number: u64) -> Option<Refusal>
+        ensures { result ≡ refusal_of number }
+    {
+        match number {
+            1 => Some(Refusal::Book),
+            2 => Some(Refusal::Step),
+            3 => Some(Refusal::Moment),
+            4 => Some(Refusal::Setting),
+            5 => Some(Refusal::Target),
+            6 => Some(Refusal::Cover),
+            7 => Some(Refusal::NotFinite),
+            8 => Some(Refusal::Date),
+            9 => Some(Refusal::Parabola),
+            10 => Some(Refusal::StraightLine),
+            11 => Some(Refusal::Root),
+            12 => Some(Refusal::Angle),
+            13 => Some(Refusal::Listing),
+            14 => Some(Refusal::Centre),
+            15 => Some(Refusal::Stored),
+            16 => Some(Refusal::Short),
+            17 => Some(Refusal::Large),
+            18 => Some(Refusal::NotNext),
+            _ => None,
+        }
+    }
+
     pub fn number(self) -> u64
         ensures { result ≡ number_of self }
     {

@@ -15,7 +15,7 @@ ghost use Rattle.sine.specs.Sine.{sine_cosine_answer};
 ghost use Rattle.book.specs.Passes.{passes};
 ghost use Rattle.book.specs.Position.{position_answer};
 ghost use Rattle.c_answer.specs.Handed.{handed, answered};
-ghost use Rattle.belfry_almanac.specs.Answers.{of_date, of_day, of_julian, of_hour, of_root, of_sine_cosine, of_position};
+ghost use Rattle.belfry_almanac.specs.Answers.{of_date, of_sine_cosine, of_position};
 
 #[unsafe(no_mangle)]
 pub extern "C" fn belfry_date(day: u64, date: &mut [u64; 3]) -> u64
@@ -28,7 +28,7 @@ pub extern "C" fn belfry_date(day: u64, date: &mut [u64; 3]) -> u64
 #[unsafe(no_mangle)]
 pub extern "C" fn belfry_day(year: u64, month: u64, day: u64, count: &mut u64) -> u64
     ensures { handed result count.new ≡ answered count.old
-        (of_day (day_answer year month day)) }
+        (day_answer year month day) }
 {
     belfry_almanac::belfry_day(year, month, day, count)
 }
@@ -36,7 +36,7 @@ pub extern "C" fn belfry_day(year: u64, month: u64, day: u64, count: &mut u64) -
 #[unsafe(no_mangle)]
 pub extern "C" fn belfry_twice_julian_date(day: u64, twice: &mut u64) -> u64
     ensures { handed result twice.new ≡ answered twice.old
-        (of_julian (julian_answer day)) }
+        (julian_answer day) }
 {
     belfry_almanac::belfry_twice_julian_date(day, twice)
 }
@@ -44,7 +44,7 @@ pub extern "C" fn belfry_twice_julian_date(day: u64, twice: &mut u64) -> u64
 #[unsafe(no_mangle)]
 pub extern "C" fn belfry_hour_angle(moment: u64, dut: u32, parts: &mut u64) -> u64
     ensures { handed result parts.new ≡ answered parts.old
-        (of_hour (hour_answer moment dut)) }
+        (hour_answer moment dut) }
 {
     belfry_almanac::belfry_hour_angle(moment, dut, parts)
 }
@@ -52,7 +52,7 @@ pub extern "C" fn belfry_hour_angle(moment: u64, dut: u32, parts: &mut u64) -> u
 #[unsafe(no_mangle)]
 pub extern "C" fn belfry_sidereal(rule: u64, moment: u64, dut: u32, parts: &mut u64) -> u64
     ensures { handed result parts.new ≡ answered parts.old
-        (of_hour (sidereal_answer rule moment dut)) }
+        (sidereal_answer rule moment dut) }
 {
     belfry_almanac::belfry_sidereal(rule, moment, dut, parts)
 }
@@ -60,7 +60,7 @@ pub extern "C" fn belfry_sidereal(rule: u64, moment: u64, dut: u32, parts: &mut 
 #[unsafe(no_mangle)]
 pub extern "C" fn belfry_root(x: f64, value: &mut f64) -> u64
     ensures { handed result value.new ≡ answered value.old
-        (of_root (root_answer x)) }
+        (root_answer x) }
 {
     belfry_almanac::belfry_root(x, value)
 }

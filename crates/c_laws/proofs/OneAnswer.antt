@@ -19,7 +19,7 @@ use Rattle.earth_fixed.specs.Fixed.{fixed_answer}
 use Rattle.launch.specs.Sphere.{sphere_answer}
 use Rattle.conic.specs.Conic.{conic_answer}
 use Rattle.c_answer.specs.Handed.{Handed, handed, answered}
-use Rattle.belfry_almanac.specs.Answers.{of_date, of_day, of_julian, of_hour, of_root, of_sine_cosine, of_position}
+use Rattle.belfry_almanac.specs.Answers.{of_date, of_sine_cosine, of_position}
 use Rattle.c_run.specs.Lent.{setting_of, no_extras, vector_of, injection_of, state_of, unkept_of, guesses_of}
 use Rattle.c_earth.specs.Earth.{sphere_of, of_fixed, of_sphere}
 use Rattle.c_conic.specs.Figures.{Both, both_in, of_conic}
@@ -62,7 +62,7 @@ tell_day κs r after = handed r after.1.1.1.0.now
 pub day_answers_once : OneOutcome day.ended (λ M 𝓤 𝓛. day.clauses 𝓛) (λ κs. Handed (ℕ)) tell_day
 day_answers_once =
     one_outcome (λ κs. Handed (ℕ)) tell_day
-    (λ κs inputs. answered inputs.1.1.1.0.now (of_day (day_answer inputs.0 inputs.1.0 inputs.1.1.0)))
+    (λ κs inputs. answered inputs.1.1.1.0.now (day_answer inputs.0 inputs.1.0 inputs.1.1.0))
     (λ M 𝓤 𝓛 mem run'' κs inputs g r after. refl)
 
 abbrev tell_twice_julian_date : Tell twice_julian_date.ended (λ κs. Handed (ℕ))
@@ -71,7 +71,7 @@ tell_twice_julian_date κs r after = handed r after.1.0.now
 pub twice_julian_date_answers_once : OneOutcome twice_julian_date.ended (λ M 𝓤 𝓛. twice_julian_date.clauses 𝓛) (λ κs. Handed (ℕ)) tell_twice_julian_date
 twice_julian_date_answers_once =
     one_outcome (λ κs. Handed (ℕ)) tell_twice_julian_date
-    (λ κs inputs. answered inputs.1.0.now (of_julian (julian_answer inputs.0)))
+    (λ κs inputs. answered inputs.1.0.now (julian_answer inputs.0))
     (λ M 𝓤 𝓛 mem run'' κs inputs g r after. refl)
 
 abbrev tell_hour_angle : Tell hour_angle.ended (λ κs. Handed (ℕ))
@@ -80,7 +80,7 @@ tell_hour_angle κs r after = handed r after.1.1.0.now
 pub hour_angle_answers_once : OneOutcome hour_angle.ended (λ M 𝓤 𝓛. hour_angle.clauses 𝓛) (λ κs. Handed (ℕ)) tell_hour_angle
 hour_angle_answers_once =
     one_outcome (λ κs. Handed (ℕ)) tell_hour_angle
-    (λ κs inputs. answered inputs.1.1.0.now (of_hour (hour_answer inputs.0 inputs.1.0)))
+    (λ κs inputs. answered inputs.1.1.0.now (hour_answer inputs.0 inputs.1.0))
     (λ M 𝓤 𝓛 mem run'' κs inputs g r after. refl)
 
 abbrev tell_root : Tell root.ended (λ κs. Handed (Float))
@@ -89,7 +89,7 @@ tell_root κs r after = handed r after.1.0.now
 pub root_answers_once : OneOutcome root.ended (λ M 𝓤 𝓛. root.clauses 𝓛) (λ κs. Handed (Float)) tell_root
 root_answers_once =
     one_outcome (λ κs. Handed (Float)) tell_root
-    (λ κs inputs. answered inputs.1.0.now (of_root (root_answer inputs.0)))
+    (λ κs inputs. answered inputs.1.0.now (root_answer inputs.0))
     (λ M 𝓤 𝓛 mem run'' κs inputs g r after. refl)
 
 abbrev tell_sine_cosine : Tell sine_cosine.ended (λ κs. Handed (List Float))
@@ -144,7 +144,7 @@ tell_sidereal κs r after = handed r after.1.1.1.0.now
 pub sidereal_answers_once : OneOutcome sidereal.ended (λ M 𝓤 𝓛. sidereal.clauses 𝓛) (λ κs. Handed (ℕ)) tell_sidereal
 sidereal_answers_once =
     one_outcome (λ κs. Handed (ℕ)) tell_sidereal
-    (λ κs inputs. answered inputs.1.1.1.0.now (of_hour (sidereal_answer inputs.0 inputs.1.0 inputs.1.1.0)))
+    (λ κs inputs. answered inputs.1.1.1.0.now (sidereal_answer inputs.0 inputs.1.0 inputs.1.1.0))
     (λ M 𝓤 𝓛 mem run'' κs inputs g r after. refl)
 
 abbrev tell_turn : Tell turn.ended (λ κs. Handed (List Float))

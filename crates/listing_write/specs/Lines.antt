@@ -1,5 +1,6 @@
 -- Document 01, "strip": the lines that it prints. Each ends in a line feed, and one space separates its parts.
 use Rattle.std.specs.Prelude.{ℕ, List, [], ◌++◌, Float}
+use Rattle.base.specs.Refusals.{number_of}
 use Rattle.state.specs.State.{position, velocity}
 use Rattle.state.specs.declared.Vector.{Vector}
 use Rattle.state.specs.declared.State.{State}
@@ -39,7 +40,7 @@ refused_line k n = refused_word ++ decimal_of k ++ numbered space n
 abbrev pub outcome_line : Outcome → ℕ → List ℕ
 outcome_line Arrived n = arrived_line n
 outcome_line Going n = []
-outcome_line (Refused k) n = refused_line k n
+outcome_line (Refused k) n = refused_line (number_of k) n
 
 -- "only REFUSED and the number"
 unfoldable pub lone_refusal : ℕ → List ℕ

@@ -1,7 +1,8 @@
 -- Document 01, "strip": the text that it prints, from the bytes that it reads. (02, R-7) strip144 has the same definition.
 use Rattle.base.specs.declared.Refusal.{Refusal}
 use Rattle.std.specs.Prelude.{ℕ, zero, suc, ◌-◌, ◌/◌, List, [], ◌∷◌, ◌++◌, drop, Result, Ok, Err}
-use Rattle.base.specs.Choice.{if◌then◌otherwise◌, ◌=?◌}
+use Rattle.base.specs.Checks.{checked}
+use Rattle.base.specs.Refusals.{number_of}
 use Rattle.state.specs.declared.State.{State}
 use Rattle.run.specs.Step.{Moved, step}
 use Rattle.gravity_stored.specs.Injection.{launched}
@@ -39,14 +40,13 @@ steps_to s h target = (target - s.moment) / h
 unfoldable pub order_text : List ℕ → Order → List ℕ
 order_text book o =
     let s = launched book o.setting o.injection in
-    let k = start_checks book o.setting s o.h o.target in
-    if k =? 0
-    then header_line o.h ++ run_text (step book o.setting o.h) o.target (steps_to s o.h o.target) s
-    otherwise lone_refusal k
+    checked (start_checks book o.setting s o.h o.target)
+    (header_line o.h ++ run_text (step book o.setting o.h) o.target (steps_to s o.h o.target) s)
+    (λ k. lone_refusal (number_of k))
 
 abbrev pub answer_text : List ℕ → Result Order Refusal → List ℕ
 answer_text book (Ok o) = order_text book o
-answer_text book (Err k) = lone_refusal k
+answer_text book (Err k) = lone_refusal (number_of k)
 
 -- an order, "then the book, to the end"
 unfoldable pub strip_text : Form → List ℕ → List ℕ

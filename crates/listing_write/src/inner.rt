@@ -8,7 +8,7 @@ use crate::lines::{LONGEST_LINE, put_state};
 use crate::{Course, Portion};
 use gravity::Guesses;
 use run::inner::step_under;
-use run::{Outcome, Stepped};
+use run::Outcome;
 use state::{Setting, State};
 
 // The start of a run with steps of h.
@@ -73,15 +73,15 @@ pub fn portion(book: &[u8], setting: Setting, h: u32, from: Course, out: &mut [u
         // the last entry of each body is the first guess for the next step
         let stepped = step_under(book, setting, now, h, entries, calm);
         match stepped {
-            Stepped::On(next, seen) => {
-                at = put_state(out, at, next);
-                now = next;
-                entries = seen;
+            Ok(next) => {
+                at = put_state(out, at, next.state);
+                now = next.state;
+                entries = next.entries;
                 left -= 1;
                 done += 1;
             }
-            Stepped::Off(k) => {
-                return portion_of(Outcome::Refused(k), now, entries, left, done, at);
+            Err(refusal) => {
+                return portion_of(Outcome::Refused(refusal), now, entries, left, done, at);
             }
         }
     }

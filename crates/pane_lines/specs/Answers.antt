@@ -67,6 +67,11 @@ run_from v o i = record { outcome = o; steps = narrow (number v i); state = stat
 abbrev pub told_taken : Pane → TakeAnswer → Told
 told_taken p a = record { pane = pane.after p a; answer = answer.Taken a }
 
+-- the answer of a refused run, by its number: it changes nothing, and neither does a number of no refusal
+abbrev pub told_refused : Pane → List ℕ → Option Refusal → Told
+told_refused p v (Some k) = told_taken p (pane.feed p (run_from v (outcome.Refused k) 1))
+told_refused p v None = told_taken p taken.Unchanged
+
 abbrev pub told_frame : Pane → ℕ → Told
 told_frame p moment = record { pane = p; answer = answer.Frame (pane.frame_at p moment) }
 
@@ -85,7 +90,7 @@ abbrev pub run_line : Pane → List ℕ → Told
 run_line p line =
     or_else (call_of line arrived_name run_kinds) (λ v. told_taken p (pane.feed p (run_from v outcome.Arrived 0)))
     (or_else (call_of line going_name run_kinds) (λ v. told_taken p (pane.feed p (run_from v outcome.Going 0)))
-    (or_else (call_of line refused_name refused_kinds) (λ v. told_taken p (pane.feed p (run_from v (outcome.Refused (number v 0)) 1)))
+    (or_else (call_of line refused_name refused_kinds) (λ v. told_refused p v (refusal_of (number v 0)))
     (told_unreadable p)))
 
 unfoldable pub answer_to : Pane → List ℕ → Told
@@ -124,13 +129,13 @@ unreadable_word = 85 ∷ 78 ∷ 82 ∷ 69 ∷ 65 ∷ 68 ∷ 65 ∷ 66 ∷ 76 ∷
 abbrev pub taken_items : TakeAnswer → List Item
 taken_items (taken.Taken p) = word ok_word ∷ []
 taken_items taken.Unchanged = word unchanged_word ∷ []
-taken_items (taken.Refused n) = refused_items n
+taken_items (taken.Refused k) = refused_items (number_of k)
 
 abbrev pub frame_items : FrameAnswer → List Item
 frame_items (frame.Current p) = word current_word ∷ real p.x ∷ real p.y ∷ real p.z ∷ []
 frame_items (frame.Late n) = word late_word ∷ whole n ∷ []
 frame_items frame.Empty = word empty_word ∷ []
-frame_items (frame.Refused n) = refused_items n
+frame_items (frame.Refused k) = refused_items (number_of k)
 
 abbrev pub answer_items : Answer → List Item
 answer_items (answer.Taken a) = taken_items a

@@ -5,10 +5,12 @@
 pub mod inner;
 
 ghost use Rattle.std.specs.Prelude.{◌≡◌, ◌+◌, ◌≤◌};
+ghost use Rattle.base.specs.Refusals.{refusal_of};
 ghost use Rattle.pane_live.specs.Pane.{take, feed};
 ghost use Rattle.line_values.specs.Values.{number, state_from};
-ghost use Rattle.pane_lines.specs.Answers.{run_from, told_taken, told_frame, told_clear, told_unreadable, run_line, answer_to};
+ghost use Rattle.pane_lines.specs.Answers.{run_from, told_taken, told_refused, told_frame, told_clear, told_unreadable, run_line, answer_to};
 
+use base::Refusal;
 use line_form::form::{Numbers, reads};
 use line_values::inner::{guesses_from, narrowed, state_from};
 use pane_live::{FrameAnswer, Pane, TakeAnswer};
@@ -91,11 +93,14 @@ fn unreadable_line(pane: Pane) -> Told
     }
 }
 
-// The answer of a refused run has its number before the steps.
+// The answer of a refused run has its number before the steps. A number of no refusal changes the pane no more.
 fn refused_line(pane: Pane, v: &Numbers) -> Told
-    ensures { result ≡ told_taken pane (feed pane (run_from v.now (Outcome.Refused (number v.now 0)) 1)) }
+    ensures { result ≡ told_refused pane v.now (refusal_of (number v.now 0)) }
 {
-    feed_line(pane, v, Outcome::Refused(v[0]), 1)
+    match Refusal::from_number(v[0]) {
+        Some(refusal) => feed_line(pane, v, Outcome::Refused(refusal), 1),
+        None => told_taken(pane, TakeAnswer::Unchanged),
+    }
 }
 
 // feed with the answer of a run as ask's fly gives it. Any other line is not a call and leaves the pane unchanged.

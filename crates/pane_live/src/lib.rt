@@ -24,16 +24,16 @@ pub enum Pane {
 pub enum TakeAnswer {
     Taken(Pane),
     Unchanged,
-    Refused(u64),
+    Refused(Refusal),
 }
 
-// A position, how late in milliseconds, nothing, or the number of a refusal.
+// A position, how late in milliseconds, nothing, or a refusal.
 #[derive(Clone, Copy)]
 pub enum FrameAnswer {
     Current(Vector),
     Late(u64),
     Empty,
-    Refused(u64),
+    Refused(Refusal),
 }
 
 fn is_next(newer: State, s: State) -> bool

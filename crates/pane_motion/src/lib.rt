@@ -19,13 +19,13 @@ pub struct Motion {
     pub velocity: Vector,
 }
 
-// A motion, how late in milliseconds, nothing, or the number of a refusal.
+// A motion, how late in milliseconds, nothing, or a refusal.
 #[derive(Clone, Copy)]
 pub enum FrameMotion {
     Current(Motion),
     Late(u64),
     Empty,
-    Refused(u64),
+    Refused(Refusal),
 }
 
 fn rate_of(d: f64, s: f64, p0: f64, v0: f64, p1: f64, v1: f64) -> f64

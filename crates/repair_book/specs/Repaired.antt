@@ -2,8 +2,9 @@
 -- bytes of the input and the length of the output.
 use Rattle.base.specs.declared.Refusal.{Refusal}
 use Rattle.repair_book.specs.declared.Report.{Report}
-use Rattle.std.specs.Prelude.{ℕ, min, ◌||◌, List, [], length, Result, Ok, Err}
-use Rattle.base.specs.Choice.{if◌then◌otherwise◌, ◌<?◌, ◌=?◌}
+use Rattle.std.specs.Prelude.{ℕ, min, ◌&&◌, List, [], length, Result, Ok, Err}
+use Rattle.base.specs.Choice.{◌≤?◌}
+use Rattle.base.specs.Checks.{Checked, require, checked, ◌before◌}
 use Rattle.book.specs.Passes.{longest_book}
 use Rattle.repair_sort.specs.Reasons.{looked_at, reasons}
 use Rattle.repair_sort.specs.Ordered.{ordered}
@@ -11,11 +12,11 @@ use Rattle.repair_write.specs.Anew.{book_anew, with_text}
 use Rattle.repair_choose.specs.Forward.{Sofar, forward}
 use Rattle.repair_book.specs.Report.{report_of}
 
--- "Refusals: input or output of fewer than 8 bytes is 16, then input above the limit is 1"; 0 if there is none
-abbrev pub repair_refusal : ℕ → ℕ → ℕ
-repair_refusal input output =
-    if (input <? 8) || (output <? 8) then 16 otherwise
-    if longest_book <? input then 1 otherwise 0
+-- "Refusals: input or output of fewer than 8 bytes is 16, then input above the limit is 1"
+abbrev pub repair_checks : ℕ → ℕ → Checked
+repair_checks input output =
+    require ((8 ≤? input) && (8 ≤? output)) Refusal.Short
+    before require (input ≤? longest_book) Refusal.Book
 
 -- "Room is the lent output, at most 61,440 bytes"
 abbrev pub room_of : ℕ → ℕ
@@ -31,16 +32,15 @@ kept_of b room = (repaired b room []).kept
 
 -- the answer, by the length of the output; then the output and the fates afterwards. A refusal leaves both unchanged.
 unfoldable pub repair_answer : List ℕ → ℕ → Result Report Refusal
-repair_answer b output =
-    if repair_refusal (length b) output =? 0 then Ok (report_of b (kept_of b (room_of output))) otherwise Err (repair_refusal (length b) output)
+repair_answer b output = repair_checks (length b) output before Ok (report_of b (kept_of b (room_of output)))
 
 unfoldable pub output_after : List ℕ → List ℕ → List ℕ
 output_after b out =
-    if repair_refusal (length b) (length out) =? 0 then with_text out 0 (book_anew b (kept_of b (room_of (length out)))) otherwise out
+    checked (repair_checks (length b) (length out)) (with_text out 0 (book_anew b (kept_of b (room_of (length out))))) (λ refusal. out)
 
 unfoldable pub fates_after : List ℕ → ℕ → List ℕ → List ℕ
 fates_after b output fates =
-    if repair_refusal (length b) output =? 0 then (repaired b (room_of output) fates).fates otherwise fates
+    checked (repair_checks (length b) output) (repaired b (room_of output) fates).fates (λ refusal. fates)
 
 -- the result of a call for its caller: its answer, and the output and the fates afterwards
 pub record Outcome : Type 0 where

@@ -6,9 +6,9 @@ mod marks;
 
 ghost use Rattle.std.specs.Prelude.{◌≡◌, ◌≤◌, length};
 ghost use Rattle.repair_choose.specs.Sized.{held, Sized};
-ghost use Rattle.repair_book.specs.Repaired.{repair_refusal, room_of, repaired, outcome_of, mended, repair_outcome};
+ghost use Rattle.repair_book.specs.Repaired.{repair_checks, room_of, repaired, outcome_of, mended, repair_outcome};
 
-use base::Refusal;
+use base::{Refusal, require};
 use book::LONGEST_BOOK;
 use marks::report;
 use repair_choose::Kept;
@@ -48,19 +48,11 @@ pub struct Report {
     pub changed: Changed,
 }
 
-fn refusal_of(input: usize, output: usize) -> u64
-    ensures { result ≡ repair_refusal input output }
+fn checks(input: usize, output: usize) -> Result<(), Refusal>
+    ensures { result ≡ repair_checks input output }
 {
-    if input < 8 {
-        return 16;
-    }
-    if output < 8 {
-        return 16;
-    }
-    if LONGEST_BOOK < input {
-        return 1;
-    }
-    0
+    require(8 <= input && 8 <= output, Refusal::Short)?;
+    require(input <= LONGEST_BOOK, Refusal::Book)
 }
 
 fn room_of(output: usize) -> usize
@@ -93,7 +85,7 @@ fn mend_by(
 ) -> Report
     requires in_bounds { (8 ≤ length input.now) × (length input.now ≤ 61_440) × (8 ≤ length output.old) }
     requires in_bounds_2 { (2559 ≤ length fates.old) × (2559 ≤ length order.old) × (2559 ≤ length kept.old) }
-    ensures { outcome_of (Written result) output.new fates.new ≡ mended input.now output.old fates.old }
+    ensures { outcome_of (Ok result) output.new fates.new ≡ mended input.now output.old fates.old }
 {
     let chosen = choose(input, room_of(output.len()), fates, order, kept);
     let count = chosen.count;
@@ -104,7 +96,7 @@ fn mend_by(
 fn mend(input: &[u8], output: &mut [u8], fates: &mut [u16]) -> Report
     requires in_bounds { (8 ≤ length input.now) × (length input.now ≤ 61_440) × (8 ≤ length output.old) }
     requires in_bounds_2 { 2559 ≤ length fates.old }
-    ensures { outcome_of (Written result) output.new fates.new ≡ mended input.now output.old fates.old }
+    ensures { outcome_of (Ok result) output.new fates.new ≡ mended input.now output.old fates.old }
 {
     let mut order = [0u16; MOST_ENTRIES];
     let mut kept = [0u16; MOST_ENTRIES];
@@ -114,9 +106,6 @@ fn mend(input: &[u8], output: &mut [u8], fates: &mut [u16]) -> Report
 pub fn repair(input: &[u8], output: &mut [u8], fates: &mut [u16; MOST_ENTRIES]) -> Result<Report, Refusal>
     ensures { outcome_of result output.new fates.new ≡ repair_outcome input.now output.old fates.old }
 {
-    let refusal = refusal_of(input.len(), output.len());
-    if refusal == 0 {
-        return Ok(mend(input, output, fates));
-    }
-    Err(refusal)
+    checks(input.len(), output.len())?;
+    Ok(mend(input, output, fates))
 }

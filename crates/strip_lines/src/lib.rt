@@ -14,6 +14,7 @@ ghost use Rattle.std.specs.Prelude.{◌≡◌, ◌≤◌, length};
 ghost use Rattle.run_checks.specs.Start.{start_checks};
 ghost use Rattle.listing_write.specs.Course.{OnCourse};
 
+use base::Refusal;
 use listing_write::Course;
 use listing_write::inner::{portion, start};
 use listing_write::lines::{put_header, put_lone_refusal, put_outcome, put_state};
@@ -37,7 +38,7 @@ fn print(rt: &(impl Print + Eprint), form: Form, part: &[u8]) -> bool {
     }
 }
 
-fn print_lone_refusal(rt: &(impl Print + Eprint), form: Form, refusal: u64) {
+fn print_lone_refusal(rt: &(impl Print + Eprint), form: Form, refusal: Refusal) {
     let mut line = [0u8; 128];
     let n = put_lone_refusal(&mut line, 0, refusal);
     print(rt, form, &line[..n]);
@@ -87,7 +88,7 @@ fn print_listing(
     h: u32,
     target: u64,
 )
-    requires { start_checks book.now setting from h target ≡ 0 }
+    requires { start_checks book.now setting from h target ≡ Ok tt }
 {
     let mut buffer = [0u8; 65_536];
     let out: &mut [u8] = &mut buffer;
@@ -101,24 +102,19 @@ fn print_listing(
 fn print_order(rt: &(impl Print + Eprint), form: Form, book: &[u8], order: Order) {
     let setting = order.setting;
     let from = gravity_stored::launch(book, setting, order.injection);
-    let refusal = run_checks::start_checks(book, setting, from, order.h, order.target);
-    if refusal == 0 {
-        print_listing(rt, form, book, setting, from, order.h, order.target);
-    } else {
-        print_lone_refusal(rt, form, refusal);
+    match run_checks::start_checks(book, setting, from, order.h, order.target) {
+        Ok(()) => print_listing(rt, form, book, setting, from, order.h, order.target),
+        Err(refusal) => print_lone_refusal(rt, form, refusal),
     }
 }
 
 fn print_strip(rt: &(impl Print + Eprint), form: Form, input: &[u8]) {
-    let answer = strip_order::read_order(form, input);
-    match answer {
+    match strip_order::read_order(form, input) {
         Ok(order) => {
             let from = strip_order::order_length(form);
             print_order(rt, form, &input[from..], order);
         }
-        Err(refusal) => {
-            print_lone_refusal(rt, form, refusal);
-        }
+        Err(refusal) => print_lone_refusal(rt, form, refusal),
     }
 }
 
