@@ -8,19 +8,17 @@ ghost use Rattle.book_holds.specs.Answer.{holds_answer};
 ghost use Rattle.c_answer.specs.Handed.{handed};
 ghost use Rattle.belfry_book.specs.Lent.{of_holds};
 
-use book_holds::HoldsAnswer;
-
 #[unsafe(no_mangle)]
 pub extern "C" fn belfry_book_holds(first: &[u8], second: &[u8], missing: &mut u64) -> u64
     ensures { handed result missing.new ≡ of_holds missing.old
         (holds_answer first.now second.now) }
 {
     match book_holds::book_holds(first, second) {
-        HoldsAnswer::Held => 0,
-        HoldsAnswer::Missing(i) => {
+        Ok(None) => 0,
+        Ok(Some(i)) => {
             *missing = i as u64;
             104
         }
-        HoldsAnswer::Refused(k) => k,
+        Err(refusal) => refusal.number(),
     }
 }

@@ -13,11 +13,13 @@ ghost use Rattle.earth_fixed.specs.Fixed.{fixed_answer};
 ghost use Rattle.launch.specs.Sphere.{sphere_answer};
 ghost use Rattle.conic.specs.Conic.{conic_answer};
 ghost use Rattle.c_answer.specs.Handed.{handed, answered};
-ghost use Rattle.c_run.specs.Lent.{setting_of, no_extras, vector_of, injection_of, unkept_of, guesses_of};
+ghost use Rattle.c_run.specs.Lent.{setting_of, no_extras, vector_of, injection_of, unkept_of, guesses_of, start_in};
 ghost use Rattle.c_earth.specs.Earth.{sphere_of, of_fixed, of_sphere};
 ghost use Rattle.c_conic.specs.Figures.{both_in, of_conic};
 ghost use Rattle.c_run.specs.Answers.{of_acceleration, run_memory, of_run};
 
+use c_answer::hand_out;
+use c_state::start_in;
 
 #[unsafe(no_mangle)]
 pub extern "C" fn belfry_acceleration(
@@ -130,13 +132,8 @@ pub extern "C" fn belfry_from_sphere(
     ensures { handed result coordinates.new ≡ answered coordinates.old
         (of_sphere (sphere_answer (sphere_of sizes.now angles.now) rule moment dut)) }
 {
-    match launch::from_sphere(c_earth::sphere_of(*sizes, *angles), rule, moment, dut) {
-        Ok(s) => {
-            *coordinates = [s.x, s.y, s.z, s.vx, s.vy, s.vz];
-            0
-        }
-        Err(k) => k,
-    }
+    let answer = launch::from_sphere(c_earth::sphere_of(*sizes, *angles), rule, moment, dut);
+    hand_out(answer.map(start_in), coordinates)
 }
 
 #[unsafe(no_mangle)]

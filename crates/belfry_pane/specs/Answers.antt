@@ -1,6 +1,7 @@
 -- (02, R-14) What a frame returns and writes to the caller's memory.
 use Rattle.std.specs.Prelude.{ℕ, List, [], ◌∷◌, Float}
 use Rattle.std.specs.Float.{nan}
+use Rattle.base.specs.Refusals.{number_of}
 use Rattle.pane_live.specs.declared.FrameAnswer.{FrameAnswer}
 use Rattle.pane_live.specs.declared.FrameAnswer.TheVariants as frame
 use Rattle.pane_motion.specs.declared.Motion.{Motion}
@@ -34,7 +35,7 @@ abbrev pub of_frame : FrameAnswer → FrameMemory
 of_frame (frame.Current p) = framed 0 (vector_in p) 0
 of_frame (frame.Late ms) = framed late nothing ms
 of_frame frame.Empty = framed empty nothing 0
-of_frame (frame.Refused k) = framed k nothing 0
+of_frame (frame.Refused k) = framed (number_of k) nothing 0
 
 -- ---- a frame with velocity
 
@@ -60,4 +61,4 @@ abbrev pub of_motion : FrameMotion → MotionMemory
 of_motion (motion.Current m) = in_motion 0 (six_in m) 0
 of_motion (motion.Late ms) = in_motion late no_motion ms
 of_motion motion.Empty = in_motion empty no_motion 0
-of_motion (motion.Refused k) = in_motion k no_motion 0
+of_motion (motion.Refused k) = in_motion (number_of k) no_motion 0

@@ -48,6 +48,6 @@ pub fn returned_by(shown: FrameAnswer) -> u64
         FrameAnswer::Current(p) => 0,
         FrameAnswer::Late(ms) => LATE,
         FrameAnswer::Empty => EMPTY,
-        FrameAnswer::Refused(k) => k,
+        FrameAnswer::Refused(refusal) => refusal.number(),
     }
 }

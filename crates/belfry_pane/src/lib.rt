@@ -10,9 +10,9 @@ mod moving;
 ghost use Rattle.std.specs.Prelude.{◌≡◌};
 ghost use Rattle.c_answer.specs.Handed.{handed};
 ghost use Rattle.c_run.specs.Lent.{state_of};
-ghost use Rattle.pane_live.specs.Pane.{take, feed, clear, frame_at};
+ghost use Rattle.pane_live.specs.Pane.{take, clear, frame_at};
 ghost use Rattle.pane_motion.specs.Motion.{motion_at};
-ghost use Rattle.c_pane.specs.Lent.{kept_in, pane_of, pane_in, flown_to, left};
+ghost use Rattle.c_pane.specs.Lent.{kept_in, pane_of, pane_in, fed, left};
 ghost use Rattle.belfry_pane.specs.Answers.{framed, of_frame, in_motion, of_motion};
 
 use c_pane::{keep, pane_of};
@@ -57,15 +57,11 @@ pub extern "C" fn belfry_feed(
     places: &mut [f64; 18],
 ) -> u64
     ensures { handed result (kept_in pane.new places.new) ≡ left (kept_in pane.old places.old)
-        (feed (pane_of pane.old places.old) (flown_to answer (state_of moment centre coordinates.now))) }
+        (fed (pane_of pane.old places.old) answer (state_of moment centre coordinates.now)) }
 {
     let before = pane_of(*pane, *places);
     let state = c_run::state_of(moment, centre, *coordinates);
-    keep(
-        pane_live::feed(before, c_pane::flown_to(answer, state)),
-        pane,
-        places,
-    )
+    keep(c_pane::feed(before, answer, state), pane, places)
 }
 
 // Returns 0 and the position; 102 and how late, in milliseconds; 103 for empty; or 7. There is a position only with

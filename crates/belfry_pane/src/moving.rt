@@ -45,6 +45,6 @@ pub fn returned_by(shown: FrameMotion) -> u64
         FrameMotion::Current(m) => 0,
         FrameMotion::Late(ms) => LATE,
         FrameMotion::Empty => EMPTY,
-        FrameMotion::Refused(k) => k,
+        FrameMotion::Refused(refusal) => refusal.number(),
     }
 }

@@ -1,6 +1,7 @@
 -- What the exported repair returns and writes to the caller's memory.
 use Rattle.base.specs.declared.Refusal.{Refusal}
 use Rattle.std.specs.Prelude.{ℕ, Bool, List, [], ◌∷◌, Result, Ok, Err}
+use Rattle.base.specs.Refusals.{number_of}
 use Rattle.base.specs.Choice.{if◌then◌otherwise◌}
 use Rattle.repair_book.specs.Repaired.{Outcome}
 use Rattle.repair_book.specs.declared.Report.{Report}
@@ -27,7 +28,7 @@ repair_memory returned output fates report = record { returned = returned; outpu
 -- 0 and the report if a book was written; otherwise the refusal number, and the report is unchanged
 abbrev pub of_answer : List ℕ → Result Report Refusal → List ℕ → List ℕ → RepairMemory
 of_answer before (Ok r) output fates = repair_memory 0 output fates (report_in r)
-of_answer before (Err k) output fates = repair_memory k output fates before
+of_answer before (Err k) output fates = repair_memory (number_of k) output fates before
 
 abbrev pub of_repair : List ℕ → Outcome → RepairMemory
 of_repair before o = of_answer before o.answer o.output o.fates

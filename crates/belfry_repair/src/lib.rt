@@ -45,6 +45,6 @@ pub extern "C" fn belfry_repair(
             *report = report_in(told);
             0
         }
-        Err(k) => k,
+        Err(refusal) => refusal.number(),
     }
 }

@@ -1,10 +1,10 @@
 -- The layout of a conic in the caller's memory, and what its call writes there.
 use Rattle.base.specs.declared.Refusal.{Refusal}
-use Rattle.std.specs.Prelude.{ℕ, List, [], ◌∷◌, Float, Result, Ok, Err}
+use Rattle.std.specs.Prelude.{ℕ, List, [], ◌∷◌, Float, Result}
 use Rattle.conic.specs.declared.Conic.{Conic}
 use Rattle.conic.specs.declared.Conic.TheVariants.{Ellipse, Hyperbola}
 use Rattle.conic.specs.declared.CentredConic.{CentredConic}
-use Rattle.c_answer.specs.Handed.{Answer, Accepted, Refused}
+use Rattle.c_answer.specs.Handed.{written}
 
 -- written: the number of the centre of a conic, then its kind, 1 for an ellipse and 2 for a hyperbola
 abbrev pub kind_of : Conic → ℕ
@@ -31,6 +31,5 @@ abbrev pub both_in : List ℕ → List Float → Both
 both_in names figures = record { names = names; figures = figures }
 
 -- a conic is written in two places
-abbrev pub of_conic : Result CentredConic Refusal → Answer Both
-of_conic (Ok c) = Accepted (both_in (names_in c) (figures_in c))
-of_conic (Err k) = Refused k
+abbrev pub of_conic : Result CentredConic Refusal → Result Both Refusal
+of_conic answer = written (λ c. both_in (names_in c) (figures_in c)) answer

@@ -47,6 +47,6 @@ pub fn orbit(
             *figures = figures_of(conic);
             0
         }
-        Err(k) => k,
+        Err(refusal) => refusal.number(),
     }
 }

@@ -2,12 +2,12 @@
 -- there. Every array has the length that its type says, so reading an element never gives the defaults nan and 0.
 use Rattle.base.specs.declared.Refusal.{Refusal}
 use Rattle.state.specs.declared.Injection.{Injection}
-use Rattle.std.specs.Prelude.{ℕ, List, [], ◌∷◌, get_or, Float, Result, Ok, Err}
+use Rattle.std.specs.Prelude.{ℕ, List, [], ◌∷◌, get_or, Float, Result}
 use Rattle.std.specs.Float.{nan}
 use Rattle.earth_fixed.specs.declared.EarthFixed.{EarthFixed}
 use Rattle.launch.specs.Signed.{signed_of}
 use Rattle.launch.specs.declared.Sphere.{Sphere}
-use Rattle.c_answer.specs.Handed.{Answer, Accepted, Refused}
+use Rattle.c_answer.specs.Handed.{written}
 use Rattle.c_state.specs.Groups.{start_in}
 
 -- read: radius and speed; latitude, longitude, path angle and azimuth
@@ -25,10 +25,8 @@ sphere_of sizes angles =
 abbrev pub fixed_in : EarthFixed → List Float
 fixed_in f = f.x ∷ f.y ∷ f.z ∷ f.vx ∷ f.vy ∷ f.vz ∷ []
 
-abbrev pub of_sphere : Result Injection Refusal → Answer (List Float)
-of_sphere (Ok i) = Accepted (start_in i)
-of_sphere (Err k) = Refused k
+abbrev pub of_sphere : Result Injection Refusal → Result (List Float) Refusal
+of_sphere answer = written start_in answer
 
-abbrev pub of_fixed : Result EarthFixed Refusal → Answer (List Float)
-of_fixed (Ok f) = Accepted (fixed_in f)
-of_fixed (Err k) = Refused k
+abbrev pub of_fixed : Result EarthFixed Refusal → Result (List Float) Refusal
+of_fixed answer = written fixed_in answer

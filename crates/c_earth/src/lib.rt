@@ -6,9 +6,11 @@ ghost use Rattle.std.specs.Prelude.{◌≡◌};
 ghost use Rattle.earth_fixed.specs.Fixed.{fixed_answer};
 ghost use Rattle.c_answer.specs.Handed.{handed, answered};
 ghost use Rattle.c_state.specs.Groups.{unkept_of};
-ghost use Rattle.c_earth.specs.Earth.{sphere_of, of_fixed};
+ghost use Rattle.c_earth.specs.Earth.{sphere_of, fixed_in, of_fixed};
 
+use c_answer::hand_out;
 use c_state::unkept_of;
+use earth_fixed::EarthFixed;
 use launch::{Sphere, signed_of};
 
 pub fn sphere_of(sizes: [f64; 2], angles: [u64; 4]) -> Sphere
@@ -26,6 +28,12 @@ pub fn sphere_of(sizes: [f64; 2], angles: [u64; 4]) -> Sphere
     }
 }
 
+fn fixed_in(f: EarthFixed) -> [f64; 6]
+    ensures { result ≡ fixed_in f }
+{
+    [f.x, f.y, f.z, f.vx, f.vy, f.vz]
+}
+
 // Earth-fixed coordinates by a rule of the hour angle.
 pub fn turned(
     rule: u64,
@@ -38,11 +46,6 @@ pub fn turned(
     ensures { handed result turned.new ≡ answered turned.old
         (of_fixed (fixed_answer rule dut (unkept_of moment centre coordinates.now))) }
 {
-    match earth_fixed::earth_fixed(rule, dut, unkept_of(moment, centre, *coordinates)) {
-        Ok(t) => {
-            *turned = [t.x, t.y, t.z, t.vx, t.vy, t.vz];
-            0
-        }
-        Err(k) => k,
-    }
+    let answer = earth_fixed::earth_fixed(rule, dut, unkept_of(moment, centre, *coordinates));
+    hand_out(answer.map(fixed_in), turned)
 }

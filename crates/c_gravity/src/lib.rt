@@ -6,10 +6,11 @@ ghost use Rattle.std.specs.Prelude.{◌≡◌};
 ghost use Rattle.gravity.specs.Acceleration.{acceleration_answer};
 ghost use Rattle.gravity_stored.specs.Injection.{injection_answer};
 ghost use Rattle.c_answer.specs.Handed.{handed, answered};
-ghost use Rattle.c_state.specs.Groups.{setting_of, vector_of, injection_of};
+ghost use Rattle.c_state.specs.Groups.{setting_of, vector_of, injection_of, vector_in, whole_in};
 ghost use Rattle.c_gravity.specs.Answers.{of_acceleration, of_injection};
 
-use c_state::{injection_of, setting_of, vector_of};
+use c_answer::hand_out;
+use c_state::{injection_of, setting_of, vector_in, vector_of, whole_in};
 
 pub fn pull(
     book: &[u8],
@@ -27,13 +28,8 @@ pub fn pull(
         (vector_of position.now))) }
 {
     let setting = setting_of(*coefficients, *extras, dut, rule);
-    match gravity::acceleration(book, setting, centre, moment, vector_of(*position)) {
-        Ok(a) => {
-            *acceleration = [a.x, a.y, a.z];
-            0
-        }
-        Err(k) => k,
-    }
+    let answer = gravity::acceleration(book, setting, centre, moment, vector_of(*position));
+    hand_out(answer.map(vector_in), acceleration)
 }
 
 // The state with the acceleration that the rule gives it.
@@ -53,11 +49,6 @@ pub fn inject(
         (injection_of moment centre coordinates.now))) }
 {
     let setting = setting_of(*coefficients, *extras, dut, rule);
-    match gravity_stored::inject(book, setting, injection_of(moment, centre, *coordinates)) {
-        Ok(s) => {
-            *state = [s.x, s.y, s.z, s.vx, s.vy, s.vz, s.ax, s.ay, s.az];
-            0
-        }
-        Err(k) => k,
-    }
+    let answer = gravity_stored::inject(book, setting, injection_of(moment, centre, *coordinates));
+    hand_out(answer.map(whole_in), state)
 }

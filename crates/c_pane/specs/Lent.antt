@@ -1,6 +1,8 @@
 -- (02, R-14) A pane as numbers in the caller's memory, and what a call that takes a state returns and writes there. Every array has the length
 -- that its type says, so reading an element never gives the defaults nan and 0.
-use Rattle.std.specs.Prelude.{ℕ, List, [], ◌∷◌, get_or, Float}
+use Rattle.std.specs.Prelude.{ℕ, List, [], ◌∷◌, get_or, Float, Option, Some, None}
+use Rattle.base.specs.Refusals.{number_of, refusal_of}
+use Rattle.base.specs.declared.Refusal.{Refusal}
 use Rattle.std.specs.Float.{nan}
 use Rattle.base.specs.Choice.{if◌then◌otherwise◌, ◌=?◌}
 use Rattle.base.specs.Floats.{zero64}
@@ -12,6 +14,7 @@ use Rattle.pane_live.specs.declared.Pane.{Pane}
 use Rattle.pane_live.specs.declared.Pane.TheVariants.{Blank, One, Two}
 use Rattle.pane_live.specs.declared.TakeAnswer.{TakeAnswer}
 use Rattle.pane_live.specs.declared.TakeAnswer.TheVariants as taken
+use Rattle.pane_live.specs.Pane.{feed}
 use Rattle.c_answer.specs.Handed.{Handed, handed}
 use Rattle.c_run.specs.Lent.{state_of}
 use Rattle.c_run.specs.Answers.{going}
@@ -76,18 +79,30 @@ pane_in pane = kept_in (numbers_in pane) (places_in pane)
 
 -- ---- states taken
 
--- what a run returned: 0 arrived, 100 going, else the refusal number
-abbrev pub outcome_of : ℕ → Outcome
+-- what a run returned: 0 arrived, 100 going, or a refusal number
+abbrev pub refused_with : Option Refusal → Option Outcome
+refused_with (Some refusal) = Some (Outcome.Refused refusal)
+refused_with None = None
+
+abbrev pub outcome_of : ℕ → Option Outcome
 outcome_of returned =
-    if returned =? 0 then Outcome.Arrived otherwise
-    if returned =? going then Outcome.Going otherwise Outcome.Refused returned
+    if returned =? 0 then Some Outcome.Arrived otherwise
+    if returned =? going then Some Outcome.Going otherwise refused_with (refusal_of returned)
 
 abbrev pub no_guesses : Guesses
 no_guesses = record { moon = 0; sun = 0; venus = 0; mars = 0; jupiter = 0 }
 
 -- the answer of a run without steps and guesses, which the pane does not read
-abbrev pub flown_to : ℕ → State → RunAnswer
-flown_to returned s = record { outcome = outcome_of returned; steps = 0; state = s; guesses = no_guesses }
+abbrev pub flown : Outcome → State → RunAnswer
+flown outcome s = record { outcome = outcome; steps = 0; state = s; guesses = no_guesses }
+
+-- what the pane says to it. A number that no run returns changes nothing, as a refused run does.
+abbrev pub fed_by : Pane → State → Option Outcome → TakeAnswer
+fed_by pane s (Some outcome) = feed pane (flown outcome s)
+fed_by pane s None = taken.Unchanged
+
+abbrev pub fed : Pane → ℕ → State → TakeAnswer
+fed pane returned s = fed_by pane s (outcome_of returned)
 
 abbrev pub unchanged : ℕ
 unchanged = 101
@@ -97,4 +112,4 @@ unchanged = 101
 abbrev pub left : Kept → TakeAnswer → Handed Kept
 left before (taken.Taken next) = handed 0 (pane_in next)
 left before taken.Unchanged = handed unchanged before
-left before (taken.Refused k) = handed k before
+left before (taken.Refused k) = handed (number_of k) before

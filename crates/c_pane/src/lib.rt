@@ -6,8 +6,9 @@
 ghost use Rattle.std.specs.Prelude.{◌≡◌};
 ghost use Rattle.c_answer.specs.Handed.{handed};
 ghost use Rattle.pane_live.specs.Pane.{frame_at};
-ghost use Rattle.c_pane.specs.Lent.{kept_in, older_of, newer_of, pane_of, numbers_in, places_in, outcome_of, flown_to, left};
+ghost use Rattle.c_pane.specs.Lent.{kept_in, older_of, newer_of, pane_of, numbers_in, places_in, outcome_of, flown, fed, left};
 
+use base::Refusal;
 use gravity::Guesses;
 use pane_live::{FrameAnswer, Pane, TakeAnswer};
 use run::{Outcome, RunAnswer};
@@ -107,27 +108,25 @@ pub fn keep(answer: TakeAnswer, pane: &mut [u64; 5], places: &mut [f64; 18]) -> 
             0
         }
         TakeAnswer::Unchanged => UNCHANGED,
-        TakeAnswer::Refused(k) => k,
+        TakeAnswer::Refused(refusal) => refusal.number(),
     }
 }
 
-fn outcome_of(returned: u64) -> Outcome
+// What a run says by the number that it returned, if that is one of its numbers.
+fn outcome_of(returned: u64) -> Option<Outcome>
     ensures { result ≡ outcome_of returned }
 {
-    if returned == 0 {
-        return Outcome::Arrived;
+    match returned {
+        0 => Some(Outcome::Arrived),
+        GOING => Some(Outcome::Going),
+        _ => Refusal::from_number(returned).map(Outcome::Refused),
     }
-    if returned == GOING {
-        return Outcome::Going;
-    }
-    Outcome::Refused(returned)
 }
 
 // The pane does not read steps and guesses.
-pub fn flown_to(returned: u64, state: State) -> RunAnswer
-    ensures { result ≡ flown_to returned state }
+fn flown(outcome: Outcome, state: State) -> RunAnswer
+    ensures { result ≡ flown outcome state }
 {
-    let outcome = outcome_of(returned);
     RunAnswer {
         outcome,
         steps: 0,
@@ -139,6 +138,16 @@ pub fn flown_to(returned: u64, state: State) -> RunAnswer
             mars: 0,
             jupiter: 0,
         },
+    }
+}
+
+// What a pane says to the number that a run returned and the state that it reached. Any other number leaves it unchanged.
+pub fn feed(pane: Pane, returned: u64, state: State) -> TakeAnswer
+    ensures { result ≡ fed pane returned state }
+{
+    match outcome_of(returned) {
+        Some(outcome) => pane_live::feed(pane, flown(outcome, state)),
+        None => TakeAnswer::Unchanged,
     }
 }
 

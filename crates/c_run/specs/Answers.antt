@@ -1,18 +1,18 @@
 -- What an exported call under a book returns and writes to the caller's memory, for each answer of the call below it.
 use Rattle.base.specs.declared.Refusal.{Refusal}
 use Rattle.state.specs.declared.State.{State}
-use Rattle.std.specs.Prelude.{ℕ, List, Float, Result, Ok, Err}
+use Rattle.std.specs.Prelude.{ℕ, List, Float, Result}
 use Rattle.run.specs.declared.Outcome.{Outcome}
 use Rattle.run.specs.declared.RunAnswer.{RunAnswer}
-use Rattle.c_answer.specs.Handed.{Answer, Accepted, Refused}
+use Rattle.base.specs.Refusals.{number_of}
+use Rattle.c_answer.specs.Handed.{written}
 use Rattle.c_state.specs.Groups.{coordinates_in, whole_in}
 pub use Rattle.c_gravity.specs.Answers.{of_acceleration, of_injection}
 use Rattle.c_run.specs.Lent.{guesses_in}
 
 -- a move does not change the moment, and the new centre was given
-abbrev pub of_move : Result State Refusal → Answer (List Float)
-of_move (Ok s) = Accepted (whole_in s)
-of_move (Err k) = Refused k
+abbrev pub of_move : Result State Refusal → Result (List Float) Refusal
+of_move answer = written whole_in answer
 
 -- what a run returns: 0 arrived, 100 going, else the refusal number
 abbrev pub going : ℕ
@@ -21,7 +21,7 @@ going = 100
 abbrev pub outcome_number : Outcome → ℕ
 outcome_number Outcome.Arrived = 0
 outcome_number Outcome.Going = going
-outcome_number (Outcome.Refused k) = k
+outcome_number (Outcome.Refused k) = number_of k
 
 -- what a run returns, and what it writes to each place of the caller's memory, for every outcome
 pub record RunMemory : Type 0 where

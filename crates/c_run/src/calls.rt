@@ -5,13 +5,14 @@ ghost use Rattle.std.specs.Prelude.{◌≡◌};
 ghost use Rattle.run.specs.Run.{run_answer};
 ghost use Rattle.centre.specs.Move.{move_answer};
 ghost use Rattle.c_answer.specs.Handed.{handed, answered};
-ghost use Rattle.c_state.specs.Groups.{setting_of, state_of};
+ghost use Rattle.c_state.specs.Groups.{setting_of, state_of, whole_in};
 ghost use Rattle.c_run.specs.Lent.{guesses_of};
 ghost use Rattle.c_run.specs.Answers.{of_move, run_memory, of_flight};
 
 use crate::{guesses_of, hand_back_whole};
 pub use c_gravity::{inject, pull};
-use c_state::{setting_of, state_of};
+use c_answer::hand_out;
+use c_state::{setting_of, state_of, whole_in};
 
 // Input and output are separate arrays: the next call reads what this one wrote. The centre is the one given.
 pub fn fly(
@@ -61,11 +62,8 @@ pub fn moved(
 {
     let setting = setting_of(*coefficients, *extras, dut, rule);
     let state = state_of(moment, centre, *coordinates);
-    match centre::move_to(book, setting, state, new) {
-        Ok(s) => {
-            *moved = [s.x, s.y, s.z, s.vx, s.vy, s.vz, s.ax, s.ay, s.az];
-            0
-        }
-        Err(k) => k,
-    }
+    hand_out(
+        centre::move_to(book, setting, state, new).map(whole_in),
+        moved,
+    )
 }

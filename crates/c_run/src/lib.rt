@@ -9,6 +9,7 @@ ghost use Rattle.std.specs.Prelude.{◌≡◌};
 ghost use Rattle.c_run.specs.Lent.{guesses_of};
 ghost use Rattle.c_run.specs.Answers.{outcome_number, run_memory, of_run, of_flight};
 
+use c_state::{coordinates_in, whole_in};
 pub use c_state::{injection_of, setting_of, state_of};
 use gravity::Guesses;
 use run::{Outcome, RunAnswer};
@@ -33,7 +34,7 @@ fn outcome_number(outcome: Outcome) -> u64
     match outcome {
         Outcome::Arrived => 0,
         Outcome::Going => GOING,
-        Outcome::Refused(k) => k,
+        Outcome::Refused(refusal) => refusal.number(),
     }
 }
 
@@ -48,14 +49,12 @@ pub fn hand_back(
     ensures { run_memory result reached.new there.new entries.new steps.new
         ≡ of_run answer }
 {
-    let state = answer.state;
-    *reached = state.moment;
-    *there = [state.x, state.y, state.z, state.vx, state.vy, state.vz];
+    *reached = answer.state.moment;
+    *there = coordinates_in(answer.state);
     let g = answer.guesses;
     *entries = [g.moon, g.sun, g.venus, g.mars, g.jupiter];
     *steps = answer.steps;
-    let outcome = answer.outcome;
-    outcome_number(outcome)
+    outcome_number(answer.outcome)
 }
 
 // The same with the whole state.
@@ -69,12 +68,10 @@ pub fn hand_back_whole(
     ensures { run_memory result reached.new there.new entries.new steps.new
         ≡ of_flight answer }
 {
-    let s = answer.state;
-    *reached = s.moment;
-    *there = [s.x, s.y, s.z, s.vx, s.vy, s.vz, s.ax, s.ay, s.az];
+    *reached = answer.state.moment;
+    *there = whole_in(answer.state);
     let g = answer.guesses;
     *entries = [g.moon, g.sun, g.venus, g.mars, g.jupiter];
     *steps = answer.steps;
-    let outcome = answer.outcome;
-    outcome_number(outcome)
+    outcome_number(answer.outcome)
 }

@@ -1,9 +1,9 @@
-// A setting, a vector, an injection and a state, from the caller's numbers.
+// A setting, a vector, an injection and a state: from the caller's numbers, and as them.
 
 #![tactic(auto)]
 
 ghost use Rattle.std.specs.Prelude.{◌≡◌};
-ghost use Rattle.c_state.specs.Groups.{setting_of, vector_of, injection_of, state_of, unkept_of};
+ghost use Rattle.c_state.specs.Groups.{setting_of, vector_of, injection_of, state_of, unkept_of, vector_in, start_in, coordinates_in, whole_in};
 
 use state::{Injection, Setting, State, Vector};
 
@@ -85,4 +85,28 @@ pub fn unkept_of(moment: u64, centre: u64, c: [f64; 6]) -> State
         ay: 0.0,
         az: 0.0,
     }
+}
+
+pub fn vector_in(v: Vector) -> [f64; 3]
+    ensures { result ≡ vector_in v }
+{
+    [v.x, v.y, v.z]
+}
+
+pub fn start_in(i: Injection) -> [f64; 6]
+    ensures { result ≡ start_in i }
+{
+    [i.x, i.y, i.z, i.vx, i.vy, i.vz]
+}
+
+pub fn coordinates_in(s: State) -> [f64; 6]
+    ensures { result ≡ coordinates_in s }
+{
+    [s.x, s.y, s.z, s.vx, s.vy, s.vz]
+}
+
+pub fn whole_in(s: State) -> [f64; 9]
+    ensures { result ≡ whole_in s }
+{
+    [s.x, s.y, s.z, s.vx, s.vy, s.vz, s.ax, s.ay, s.az]
 }

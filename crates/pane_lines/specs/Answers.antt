@@ -1,5 +1,7 @@
 -- The live pane's answer to a line, and the pane after it (document 02, R-14): one definition for the line and the pane.
-use Rattle.std.specs.Prelude.{ℕ, ◌+◌, List, [], ◌∷◌}
+use Rattle.std.specs.Prelude.{ℕ, ◌+◌, List, [], ◌∷◌, Option, Some, None}
+use Rattle.base.specs.Refusals.{number_of, refusal_of}
+use Rattle.base.specs.declared.Refusal.{Refusal}
 use Rattle.run.specs.declared.Outcome.{Outcome}
 use Rattle.run.specs.declared.Outcome.TheVariants as outcome
 use Rattle.run.specs.declared.RunAnswer.{RunAnswer}
