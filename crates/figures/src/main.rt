@@ -19,7 +19,7 @@ fn say_number(rt: &impl Print, n: u64) -> io::Result<()> {
     print!(rt; " {n}")
 }
 
-fn say_refused(rt: &impl Print, number: u64) -> io::Result<()> {
+fn say_refused(rt: &impl Print, refusal: Refusal) -> io::Result<()> {
     say(rt, " REFUSED")?;
     say_number(rt, number)
 }
@@ -46,7 +46,7 @@ fn date(rt: &impl Print, day: u64) -> io::Result<()> {
             say_number(rt, d.month)?;
             say_number(rt, d.day)?;
         }
-        Err(number) => say_refused(rt, number)?,
+        Err(refusal) => say_refused(rt, refusal)?,
     }
     say(rt, "\n")
 }
@@ -56,7 +56,7 @@ fn day(rt: &impl Print, year: u64, month: u64, of_month: u64) -> io::Result<()> 
     let answer = Calendar::from_date(year, month, of_month);
     match answer {
         Ok(n) => say_number(rt, n)?,
-        Err(number) => say_refused(rt, number)?,
+        Err(refusal) => say_refused(rt, refusal)?,
     }
     say(rt, "\n")
 }
@@ -66,7 +66,7 @@ fn julian(rt: &impl Print, day: u64) -> io::Result<()> {
     let answer = Calendar::twice_julian_date(day);
     match answer {
         Ok(n) => say_number(rt, n)?,
-        Err(number) => say_refused(rt, number)?,
+        Err(refusal) => say_refused(rt, refusal)?,
     }
     say(rt, "\n")
 }
@@ -76,7 +76,7 @@ fn hour_of(rt: &impl Print, moment: u64, dut: u32) -> io::Result<()> {
     let answer = hour::hour_angle(moment, dut);
     match answer {
         Ok(parts) => say_number(rt, parts)?,
-        Err(number) => say_refused(rt, number)?,
+        Err(refusal) => say_refused(rt, refusal)?,
     }
     say(rt, "\n")
 }
@@ -89,7 +89,7 @@ fn angle(rt: &impl Print, parts: u64) -> io::Result<()> {
             say_float(rt, both.sine)?;
             say_float(rt, both.cosine)?;
         }
-        Err(number) => say_refused(rt, number)?,
+        Err(refusal) => say_refused(rt, refusal)?,
     }
     say(rt, "\n")
 }
@@ -98,7 +98,7 @@ fn root_of(rt: &impl Print, bits: u64) -> io::Result<()> {
     let answer = root::root(text_write::float_of_bits(bits));
     match answer {
         Ok(y) => say_float(rt, y),
-        Err(number) => say_refused(rt, number),
+        Err(refusal) => say_refused(rt, refusal),
     }
 }
 

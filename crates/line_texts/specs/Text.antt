@@ -41,31 +41,31 @@ unreadable_word = 85 ∷ 78 ∷ 82 ∷ 69 ∷ 65 ∷ 68 ∷ 65 ∷ 66 ∷ 76 ∷
 
 abbrev pub root_items : Result Float Refusal → List Item
 root_items (Ok y) = real y ∷ []
-root_items (Err n) = refused_items n
+root_items (Err k) = refused_items k
 
 abbrev pub sine_items : Result SineCosine Refusal → List Item
 sine_items (Ok of) = real of.sine ∷ real of.cosine ∷ []
-sine_items (Err n) = refused_items n
+sine_items (Err k) = refused_items k
 
 abbrev pub hour_items : Result ℕ Refusal → List Item
 hour_items (Ok parts) = whole parts ∷ []
-hour_items (Err n) = refused_items n
+hour_items (Err k) = refused_items k
 
 abbrev pub date_items : Result Calendar Refusal → List Item
 date_items (Ok d) = whole d.year ∷ whole d.month ∷ whole d.day ∷ []
-date_items (Err n) = refused_items n
+date_items (Err k) = refused_items k
 
 abbrev pub day_items : Result ℕ Refusal → List Item
 day_items (Ok d) = whole d ∷ []
-day_items (Err n) = refused_items n
+day_items (Err k) = refused_items k
 
 abbrev pub fixed_items : Result EarthFixed Refusal → List Item
 fixed_items (Ok f) = real f.x ∷ real f.y ∷ real f.z ∷ real f.vx ∷ real f.vy ∷ real f.vz ∷ []
-fixed_items (Err n) = refused_items n
+fixed_items (Err k) = refused_items k
 
 abbrev pub launched_items : Result Injection Refusal → List Item
 launched_items (Ok i) = whole i.moment ∷ real i.x ∷ real i.y ∷ real i.z ∷ real i.vx ∷ real i.vy ∷ real i.vz ∷ []
-launched_items (Err n) = refused_items n
+launched_items (Err k) = refused_items k
 
 -- the kind, the centre and the five figures
 abbrev pub figure_items : ℕ → Conic → List Item
@@ -74,16 +74,16 @@ figure_items centre (Hyperbola a e p q v) = word hyperbola_word ∷ whole centre
 
 abbrev pub conic_items : Result CentredConic Refusal → List Item
 conic_items (Ok c) = figure_items c.centre c.conic
-conic_items (Err n) = refused_items n
+conic_items (Err k) = refused_items k
 
 abbrev pub position_items : Result Motion Refusal → List Item
 position_items (Ok m) =
     real m.place.x ∷ real m.place.y ∷ real m.place.z ∷ real m.velocity.x ∷ real m.velocity.y ∷ real m.velocity.z ∷ []
-position_items (Err n) = refused_items n
+position_items (Err k) = refused_items k
 
 abbrev pub acceleration_items : Result Vector Refusal → List Item
 acceleration_items (Ok a) = real a.x ∷ real a.y ∷ real a.z ∷ []
-acceleration_items (Err n) = refused_items n
+acceleration_items (Err k) = refused_items k
 
 -- X Y Z VX VY VZ
 abbrev pub coordinate_items : State → List Item
@@ -95,11 +95,11 @@ state_items s = whole s.moment ∷ whole s.centre ∷ (coordinate_items s ++ (re
 
 abbrev pub injected_items : Result State Refusal → List Item
 injected_items (Ok s) = state_items s
-injected_items (Err n) = refused_items n
+injected_items (Err k) = refused_items k
 
 abbrev pub moved_items : Result State Refusal → List Item
 moved_items (Ok s) = state_items s
-moved_items (Err n) = refused_items n
+moved_items (Err k) = refused_items k
 
 -- G2 .. G6
 abbrev pub guess_items : Guesses → List Item
@@ -108,7 +108,7 @@ guess_items g = whole g.moon ∷ whole g.sun ∷ whole g.venus ∷ whole g.mars 
 abbrev pub outcome_items : Outcome → List Item
 outcome_items outcome.Arrived = word arrived_word ∷ []
 outcome_items outcome.Going = word going_word ∷ []
-outcome_items (outcome.Refused n) = refused_items n
+outcome_items (outcome.Refused k) = refused_items k
 
 -- of the old run: the outcome, STEPS, MOMENT X Y Z VX VY VZ, and G2 .. G6
 abbrev pub run_items : RunAnswer → List Item

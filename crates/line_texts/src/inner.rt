@@ -26,7 +26,7 @@ fn put_root(out: &mut Out, at: usize, answer: Result<f64, Refusal>) -> usize
 {
     match answer {
         Ok(y) => put_floats(out, at, &[y]),
-        Err(number) => put_refused(out, at, number),
+        Err(refusal) => put_refused(out, at, refusal),
     }
 }
 
@@ -36,7 +36,7 @@ fn put_sine(out: &mut Out, at: usize, answer: Result<SineCosine, Refusal>) -> us
 {
     match answer {
         Ok(of) => put_floats(out, at, &[of.sine, of.cosine]),
-        Err(number) => put_refused(out, at, number),
+        Err(refusal) => put_refused(out, at, refusal),
     }
 }
 
@@ -46,7 +46,7 @@ fn put_hour(out: &mut Out, at: usize, answer: Result<u64, Refusal>) -> usize
 {
     match answer {
         Ok(parts) => put_numbers(out, at, &[parts]),
-        Err(number) => put_refused(out, at, number),
+        Err(refusal) => put_refused(out, at, refusal),
     }
 }
 
@@ -56,7 +56,7 @@ fn put_date(out: &mut Out, at: usize, answer: Result<Calendar, Refusal>) -> usiz
 {
     match answer {
         Ok(date) => put_numbers(out, at, &[date.year, date.month, date.day]),
-        Err(number) => put_refused(out, at, number),
+        Err(refusal) => put_refused(out, at, refusal),
     }
 }
 
@@ -66,7 +66,7 @@ fn put_day(out: &mut Out, at: usize, answer: Result<u64, Refusal>) -> usize
 {
     match answer {
         Ok(day) => put_numbers(out, at, &[day]),
-        Err(number) => put_refused(out, at, number),
+        Err(refusal) => put_refused(out, at, refusal),
     }
 }
 
@@ -76,7 +76,7 @@ fn put_fixed(out: &mut Out, at: usize, answer: Result<EarthFixed, Refusal>) -> u
 {
     match answer {
         Ok(f) => put_floats(out, at, &[f.x, f.y, f.z, f.vx, f.vy, f.vz]),
-        Err(number) => put_refused(out, at, number),
+        Err(refusal) => put_refused(out, at, refusal),
     }
 }
 
@@ -89,7 +89,7 @@ fn put_launched(out: &mut Out, from: usize, answer: Result<Injection, Refusal>) 
             let at = put_numbers(out, from, &[s.moment]);
             put_floats(out, at, &[s.x, s.y, s.z, s.vx, s.vy, s.vz])
         }
-        Err(number) => put_refused(out, from, number),
+        Err(refusal) => put_refused(out, from, refusal),
     }
 }
 
@@ -121,7 +121,7 @@ fn put_conic(out: &mut Out, at: usize, answer: Result<CentredConic, Refusal>) ->
             let conic = centred.conic;
             put_figures(out, at, centred.centre, conic)
         }
-        Err(number) => put_refused(out, at, number),
+        Err(refusal) => put_refused(out, at, refusal),
     }
 }
 
@@ -135,7 +135,7 @@ fn put_position(out: &mut Out, at: usize, answer: Result<Motion, Refusal>) -> us
             let w = motion.velocity;
             put_floats(out, at, &[p.x, p.y, p.z, w.x, w.y, w.z])
         }
-        Err(number) => put_refused(out, at, number),
+        Err(refusal) => put_refused(out, at, refusal),
     }
 }
 
@@ -145,7 +145,7 @@ fn put_acceleration(out: &mut Out, at: usize, answer: Result<Vector, Refusal>) -
 {
     match answer {
         Ok(a) => put_floats(out, at, &[a.x, a.y, a.z]),
-        Err(number) => put_refused(out, at, number),
+        Err(refusal) => put_refused(out, at, refusal),
     }
 }
 
@@ -171,7 +171,7 @@ fn put_injected(out: &mut Out, at: usize, answer: Result<State, Refusal>) -> usi
 {
     match answer {
         Ok(s) => put_state(out, at, s),
-        Err(number) => put_refused(out, at, number),
+        Err(refusal) => put_refused(out, at, refusal),
     }
 }
 
@@ -181,7 +181,7 @@ fn put_moved(out: &mut Out, at: usize, answer: Result<State, Refusal>) -> usize
 {
     match answer {
         Ok(s) => put_state(out, at, s),
-        Err(number) => put_refused(out, at, number),
+        Err(refusal) => put_refused(out, at, refusal),
     }
 }
 
@@ -199,7 +199,7 @@ fn put_outcome(out: &mut Out, at: usize, outcome: Outcome) -> usize
     match outcome {
         Outcome::Arrived => put_bytes(out, at, b"ARRIVED "),
         Outcome::Going => put_bytes(out, at, b"GOING "),
-        Outcome::Refused(number) => put_refused(out, at, number),
+        Outcome::Refused(refusal) => put_refused(out, at, refusal),
     }
 }
 

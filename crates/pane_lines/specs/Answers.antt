@@ -1,6 +1,6 @@
 -- The live pane's answer to a line, and the pane after it (document 02, R-14): one definition for the line and the pane.
 use Rattle.std.specs.Prelude.{ℕ, ◌+◌, List, [], ◌∷◌, Option, Some, None}
-use Rattle.base.specs.Refusals.{number_of, refusal_of}
+use Rattle.base.specs.Refusals.{refusal_of}
 use Rattle.base.specs.declared.Refusal.{Refusal}
 use Rattle.run.specs.declared.Outcome.{Outcome}
 use Rattle.run.specs.declared.Outcome.TheVariants as outcome
@@ -131,13 +131,13 @@ unreadable_word = 85 ∷ 78 ∷ 82 ∷ 69 ∷ 65 ∷ 68 ∷ 65 ∷ 66 ∷ 76 ∷
 abbrev pub taken_items : TakeAnswer → List Item
 taken_items (taken.Taken p) = word ok_word ∷ []
 taken_items taken.Unchanged = word unchanged_word ∷ []
-taken_items (taken.Refused k) = refused_items (number_of k)
+taken_items (taken.Refused k) = refused_items k
 
 abbrev pub frame_items : FrameAnswer → List Item
 frame_items (frame.Current p) = word current_word ∷ real p.x ∷ real p.y ∷ real p.z ∷ []
 frame_items (frame.Late n) = word late_word ∷ whole n ∷ []
 frame_items frame.Empty = word empty_word ∷ []
-frame_items (frame.Refused k) = refused_items (number_of k)
+frame_items (frame.Refused k) = refused_items k
 
 abbrev pub answer_items : Answer → List Item
 answer_items (answer.Taken a) = taken_items a

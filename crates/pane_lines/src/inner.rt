@@ -16,7 +16,7 @@ fn put_taken(out: &mut Out, at: usize, answer: TakeAnswer) -> usize
     match answer {
         TakeAnswer::Taken(_) => put_bytes(out, at, b"OK "),
         TakeAnswer::Unchanged => put_bytes(out, at, b"UNCHANGED "),
-        TakeAnswer::Refused(number) => put_refused(out, at, number),
+        TakeAnswer::Refused(refusal) => put_refused(out, at, refusal),
     }
 }
 
@@ -34,7 +34,7 @@ fn put_frame(out: &mut Out, from: usize, answer: FrameAnswer) -> usize
             put_numbers(out, at, &[late])
         }
         FrameAnswer::Empty => put_bytes(out, from, b"EMPTY "),
-        FrameAnswer::Refused(number) => put_refused(out, from, number),
+        FrameAnswer::Refused(refusal) => put_refused(out, from, refusal),
     }
 }
 

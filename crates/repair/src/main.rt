@@ -145,7 +145,7 @@ fn print_repaired(rt: &(impl Print + Eprint), input: &[u8], output: &mut [u8]) {
         }
         Err(refusal) => {
             tell(rt, "REFUSED ");
-            tell_numbered(rt, refusal as usize, "\n");
+            tell_numbered(rt, refusal.number() as usize, "\n");
         }
     }
 }
