@@ -5,6 +5,7 @@
 
 ghost use Rattle.std.specs.Prelude.{◌≤◌, ◌<◌, length};
 
+use base::Refusal;
 use calendar::Calendar;
 use std::io;
 use text_write::{Bits, Field};
@@ -21,7 +22,7 @@ fn say_number(rt: &impl Print, n: u64) -> io::Result<()> {
 
 fn say_refused(rt: &impl Print, refusal: Refusal) -> io::Result<()> {
     say(rt, " REFUSED")?;
-    say_number(rt, number)
+    say_number(rt, refusal.number())
 }
 
 fn say_bits(rt: &impl Print, bits: u64) -> io::Result<()> {
