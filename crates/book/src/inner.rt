@@ -84,12 +84,7 @@ pub fn velocity_at(book: &[u8], entry: usize, moment: u64) -> Velocity
 fn all_finite(x: f64, y: f64, z: f64) -> bool
     ensures { result ≡ (finite x && finite y && finite z) }
 {
-    if is_finite(x) {
-        if is_finite(y) {
-            return is_finite(z);
-        }
-    }
-    false
+    is_finite(x) && is_finite(y) && is_finite(z)
 }
 
 pub fn place_finite(place: Place) -> bool
@@ -110,10 +105,7 @@ pub fn slow_at(book: &[u8], entry: usize, moment: u64, calm: bool) -> bool
     requires bound { (entry < entry_count book.now) × (covers book.now entry moment ≡ true) }
     ensures { result ≡ finite_velocity (velocity book.now entry moment) }
 {
-    if calm {
-        return true;
-    }
-    velocity_finite(velocity_at(book, entry, moment))
+    calm || velocity_finite(velocity_at(book, entry, moment))
 }
 
 pub fn body_at(book: &[u8], body: u64, moment: u64, guess: usize) -> Result<Motion, Refusal>
@@ -125,11 +117,9 @@ pub fn body_at(book: &[u8], body: u64, moment: u64, guess: usize) -> Result<Moti
     };
     let place = place_at(book, i, moment);
     let velocity = velocity_at(book, i, moment);
-    if place_finite(place) {
-        if velocity_finite(velocity) {
-            return Ok(Motion { place, velocity });
-        }
-        return Err(Refusal::NotFinite);
+    if place_finite(place) && velocity_finite(velocity) {
+        Ok(Motion { place, velocity })
+    } else {
+        Err(Refusal::NotFinite)
     }
-    Err(Refusal::NotFinite)
 }

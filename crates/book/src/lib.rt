@@ -28,20 +28,12 @@ pub fn book_passes(book: &[u8]) -> bool
     ensures { result ≡ passes book.now }
 {
     let length = book.len();
-    if LONGEST_BOOK < length {
-        return false;
-    }
-    if length < 8 {
+    if !(8..=LONGEST_BOOK).contains(&length) {
         return false;
     }
     let total = u32_at(book, 0) as usize;
-    if total == length {
-        let count = u32_at(book, 4) as usize;
-        if count <= (length - 8) / 24 {
-            return entries_pass(book, count);
-        }
-    }
-    false
+    let count = u32_at(book, 4) as usize;
+    total == length && count <= (length - 8) / 24 && entries_pass(book, count)
 }
 
 pub fn position(book: &[u8], body: u64, moment: u64) -> Result<Motion, Refusal>

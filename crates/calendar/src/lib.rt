@@ -45,22 +45,10 @@ fn date_in_year(year: u64, elapsed: u64) -> Calendar
 fn is_date(year: u64, month: u64, day: u64) -> bool
     ensures { result ≡ is_date (ymd year month day) }
 {
-    if year < Calendar::FIRST_YEAR {
-        return false;
-    }
-    if Calendar::LAST_YEAR < year {
-        return false;
-    }
-    if month < 1 {
-        return false;
-    }
-    if 12 < month {
-        return false;
-    }
-    if day < 1 {
-        return false;
-    }
-    day <= month_length(is_leap(year), month)
+    (Calendar::FIRST_YEAR..=Calendar::LAST_YEAR).contains(&year)
+        && (1..=12).contains(&month)
+        && 1 <= day
+        && day <= month_length(is_leap(year), month)
 }
 
 impl Calendar {

@@ -3,6 +3,7 @@ use mathlib.Core.Path.{sym, ◌∙◌}
 use Rattle.book_search.proofs.Found.{covered}
 use Rattle.book.proofs.BodyAt.{no_cover, not_finite, too_fast, at_place}
 use Rattle.book.proofs.inner.body_at.Goals as goal
+use Rattle.book.proofs.inner.body_at.Goals.{else-place_finite-via-then-place_finite+else-velocity_finite, else-place_finite-via-else-place_finite}
 
 pub returns-in_default : goal.returns-in_default
 returns-in_default c = sym (no_cover _ _ _ (sym c.lookup_guessed.ensures ∙ c.in_default.is))
@@ -21,14 +22,16 @@ returns-then-velocity_finite c = rw (c.place_at-place.ensures, c.velocity_at-vel
     (rw (← c.place_at-place.ensures) (sym c.place_finite.ensures ∙ c.if-place_finite.true))
     (rw (← c.velocity_at-velocity.ensures) (sym c.velocity_finite.ensures ∙ c.if-velocity_finite.true))))
 
-pub returns-then-place_finite : goal.returns-then-place_finite
-returns-then-place_finite c = sym
-    (too_fast _ _ _ _
-    (sym c.lookup_guessed.ensures ∙ c.in-Some.is)
-    (rw (← c.place_at-place.ensures) (sym c.place_finite.ensures ∙ c.if-place_finite.true))
-    (rw (← c.velocity_at-velocity.ensures) (sym c.velocity_finite.ensures ∙ c.if-velocity_finite.false)))
-
-pub returns : goal.returns
-returns c = sym
-    (not_finite _ _ _ _ (sym c.lookup_guessed.ensures ∙ c.in-Some.is)
-    (rw (← c.place_at-place.ensures) (sym c.place_finite.ensures ∙ c.if-place_finite.false)))
+pub returns-else-place_finite : goal.returns-else-place_finite
+returns-else-place_finite c = elim c.else-place_finite.branch [
+  | else-place_finite-via-then-place_finite+else-velocity_finite w ↦
+      sym
+      (too_fast _ _ _ _
+      (sym c.lookup_guessed.ensures ∙ c.in-Some.is)
+      (rw (← c.place_at-place.ensures) (sym c.place_finite.ensures ∙ w.if-place_finite.true))
+      (rw (← c.velocity_at-velocity.ensures) (sym w.velocity_finite.ensures ∙ w.if-velocity_finite.false)))
+  | else-place_finite-via-else-place_finite w ↦
+      sym
+      (not_finite _ _ _ _ (sym c.lookup_guessed.ensures ∙ c.in-Some.is)
+      (rw (← c.place_at-place.ensures) (sym c.place_finite.ensures ∙ w.if-place_finite.false)))
+]
