@@ -55,16 +55,12 @@ fn sixteen(block: &[u8], at: usize, values: &[u8; 256]) -> Spelled
     ensures { result ≡ spelled_from block.now 16 at 0 }
 {
     let mut bits: u64 = 0;
-    let mut left: u64 = 16;
-    let mut i = at;
-    while 0 < left {
-        let d = value_of(block[i], values);
+    for &b in &block[at..at + 16] {
+        let d = value_of(b, values);
         if 16 <= d {
             return not_spelled();
         }
         bits = bits % 0x1000_0000_0000_0000 * 16 + d;
-        left -= 1;
-        i += 1;
     }
     Spelled { bits, whole: true }
 }
@@ -121,17 +117,16 @@ fn moment_from(block: &[u8], at: usize, first: u64) -> Numbered
     ensures { result ≡ moment_on (drop at block.now) first at }
 {
     let mut t = first;
-    let mut i = at;
-    while i < block.len() {
+    let end = at.max(block.len());
+    for i in at..end {
         let b = block[i];
         if goes_on(t, b) {
             t = with_digit(t, b);
-            i += 1;
         } else {
             return Numbered { t, end: i };
         }
     }
-    Numbered { t, end: i }
+    Numbered { t, end }
 }
 
 fn both(a: bool, b: bool) -> bool

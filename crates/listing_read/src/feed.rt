@@ -27,16 +27,15 @@ fn byte_by_byte(block: &[u8], at: usize, scan: Scan) -> Reached
     ensures { result ≡ to_feed block.now at scan }
 {
     let mut s = scan;
-    let mut i = at;
-    while i < block.len() {
+    let end = at.max(block.len());
+    for i in at..end {
         let b = block[i];
         if b == 10 {
             return Reached { scan: s, at: i };
         }
         s = take_byte(s, b);
-        i += 1;
     }
-    Reached { scan: s, at: i }
+    Reached { scan: s, at: end }
 }
 
 // The scan up to the next line feed, or to the end of the block.

@@ -109,6 +109,7 @@ pub fn judge_block(from: Judge, block: &[u8]) -> Judge
 {
     let mut j = from;
     let mut i = 0;
+    // No `for`: a turn reads a whole line, so i goes to the place after it.
     while i < block.len() {
         let line = judge_line(j, block, i);
         j = line.judge;

@@ -191,6 +191,7 @@ pub fn next_row(block: &[u8], at: usize, scan: Scan) -> Next
     let first = to_feed(block, at, scan);
     let mut s = first.scan;
     let mut i = first.at;
+    // No `for`: a turn goes on to the next line feed.
     while i < block.len() {
         let b = block[i];
         let found = row_here(s, b);

@@ -1,64 +1,20 @@
-// The words of a listing, letter by letter, and the digits.
+// The letters of a listing's words, and the digits.
 
-ghost use Rattle.std.specs.Prelude.{◌≡◌, get_or, length};
+ghost use Rattle.std.specs.Prelude.{◌≡◌};
 ghost use Rattle.listing_scan.specs.Reading.{is_decimal, hex_value};
 ghost use Rattle.listing_scan.specs.Bytes.{letters_of};
 
 use crate::Word;
 
-const STRIP: [u8; 6] = [83, 84, 82, 73, 80, 32];
-
-const ARRIVED: [u8; 8] = [65, 82, 82, 73, 86, 69, 68, 32];
-
-const REFUSED: [u8; 8] = [82, 69, 70, 85, 83, 69, 68, 32];
-
-pub fn letters_in(w: Word) -> usize
-    ensures { result ≡ length (letters_of w) }
+// The letters of a word, with the space after it.
+pub fn letters_of(w: Word) -> &'static [u8]
+    ensures { result.now ≡ letters_of w }
 {
     match w {
-        Word::Strip => 6,
-        Word::Arrived => 8,
-        Word::Refused => 8,
-        Word::Steps => 0,
-    }
-}
-
-fn strip_letter(i: usize) -> u8
-    ensures { result ≡ get_or (letters_of Word.Strip) i 0 }
-{
-    if i < 6 {
-        return STRIP[i];
-    }
-    0
-}
-
-fn arrived_letter(i: usize) -> u8
-    ensures { result ≡ get_or (letters_of Word.Arrived) i 0 }
-{
-    if i < 8 {
-        return ARRIVED[i];
-    }
-    0
-}
-
-fn refused_letter(i: usize) -> u8
-    ensures { result ≡ get_or (letters_of Word.Refused) i 0 }
-{
-    if i < 8 {
-        return REFUSED[i];
-    }
-    0
-}
-
-// 0 after the last letter.
-pub fn letter(w: Word, i: usize) -> u8
-    ensures { result ≡ get_or (letters_of w) i 0 }
-{
-    match w {
-        Word::Strip => strip_letter(i),
-        Word::Arrived => arrived_letter(i),
-        Word::Refused => refused_letter(i),
-        Word::Steps => 0,
+        Word::Strip => b"STRIP ",
+        Word::Arrived => b"ARRIVED ",
+        Word::Refused => b"REFUSED ",
+        Word::Steps => b"",
     }
 }
 

@@ -4,7 +4,7 @@ ghost use Rattle.std.specs.Prelude.{◌≡◌, []};
 ghost use Rattle.listing_scan.specs.Reading.{finite_bits, pushed, blank};
 ghost use Rattle.listing_scan.specs.Bytes.{told, begun, on_first, on_letter, behind_number, on_digit, on_behind, on_moment, on_hex, on_byte, ends_as};
 
-use crate::letters::{hex_value, is_decimal, letter, letters_in};
+use crate::letters::{hex_value, is_decimal, letters_of};
 use crate::{Line, Row, Scan, Word};
 
 // A tenth of the end of time: a moment of this or more cannot take another digit.
@@ -31,8 +31,9 @@ fn first_byte(b: u8) -> Scan
 fn next_letter(w: Word, i: usize, b: u8) -> Scan
     ensures { result ≡ on_letter w i b }
 {
-    if i < letters_in(w) {
-        if b == letter(w, i) {
+    let letters = letters_of(w);
+    if i < letters.len() {
+        if b == letters[i] {
             return Scan::Letters(w, i + 1);
         }
         return Scan::Bad;

@@ -66,6 +66,7 @@ pub fn portion(book: &[u8], setting: Setting, h: u32, from: Course, out: &mut [u
     let mut left = from.left;
     let mut done = from.done;
     let mut at: usize = 0;
+    // No `for`: the lines differ in length.
     while at + LONGEST_LINE <= out.len() {
         if left == 0 {
             return portion_of(Outcome::Arrived, now, entries, left, done, at);

@@ -47,6 +47,7 @@ fn print_block(rt: &(impl Print + Eprint), block: &[u8], from: Standing, out: &m
 {
     let mut s = from;
     let mut i: usize = 0;
+    // No `for`: a portion goes as far as its rows fit.
     while i < block.len() {
         let p = portion(block, i, s, out);
         let n = p.written;
@@ -96,8 +97,7 @@ fn print_rows(rt: &(impl Input + Print + Eprint), block: &mut [u8], out: &mut [u
 {
     let mut input = rt.reader();
     let mut s = opening();
-    let mut blocks_left = u64::MAX;
-    while 0 < blocks_left {
+    for _ in 0..u64::MAX {
         let n = match input.read(block) {
             Ok(n) => n,
             Err(e) => {
@@ -119,7 +119,6 @@ fn print_rows(rt: &(impl Input + Print + Eprint), block: &mut [u8], out: &mut [u
         } else {
             return;
         }
-        blocks_left -= 1;
     }
 }
 

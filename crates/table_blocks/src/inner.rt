@@ -87,6 +87,7 @@ pub fn portion(block: &[u8], from: usize, standing: Standing, out: &mut [u8]) ->
     let mut s = standing;
     let mut i = from;
     let mut at: usize = 0;
+    // No `for`: a turn goes on to the next line feed.
     while i < block.len() {
         if out.len() < at + LONGEST_ROW {
             return Portion {

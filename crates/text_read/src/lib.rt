@@ -83,8 +83,8 @@ fn read_number(bytes: &[u8], at: usize, base: u64, least: usize, most: usize) ->
     ensures { result ≡ read_number base least most bytes.now at }
 {
     let mut n: u64 = 0;
-    let mut i = at;
-    while i < bytes.len() {
+    let end = at.max(bytes.len());
+    for i in at..end {
         let b = bytes[i];
         if b == 32 {
             return sized_field(least, most, i - at, n, i);
@@ -97,9 +97,8 @@ fn read_number(bytes: &[u8], at: usize, base: u64, least: usize, most: usize) ->
             return Field::Bad;
         }
         n = base * n + d;
-        i += 1;
     }
-    sized_field(least, most, i - at, n, i)
+    sized_field(least, most, end - at, n, end)
 }
 
 pub fn read_decimal(bytes: &[u8], at: usize) -> Field

@@ -1,12 +1,9 @@
 -- `text_read::read_number` meets its contract: the digits from the place up to i are read, and spell n. Assumes nothing.
-use Prim.Native.Nat.{◌-◌, ◌<◌, ◌≤◌}
-use lib.ListN.{length, drop}
+use Prim.Native.Nat.{◌-◌}
+use lib.ListN.{drop}
 use Rattle.text_read.specs.Fields.{until_space}
 use Rattle.text_read.proofs.Reading.{Reads}
 use Rattle.text_read.proofs.read_number.Given as goal
 
 abbrev pub invariant-loop-i : goal.invariant-loop-i
-invariant-loop-i l = (l.at ≤ l.i) × (l.n < 0x1_0000_0000_0000_0000) × Reads l.base (until_space (drop l.at l.bytes)) (until_space (drop l.i l.bytes)) l.n (l.i - l.at)
-
-abbrev pub decreases-loop-i : goal.decreases-loop-i
-decreases-loop-i l = length l.bytes - l.i
+invariant-loop-i l = Reads l.base (until_space (drop l.at l.bytes)) (until_space (drop l.i l.bytes)) l.n (l.i - l.at)

@@ -1,11 +1,8 @@
--- `listing_lines::inner::sixteen` meets its contract: the digits between the first place and i spell the bits. Assumes nothing.
+-- `listing_lines::inner::sixteen` meets its contract: the digits so far spell the bits. Assumes nothing.
 use Prim.Native.Nat.{◌+◌, ◌-◌}
 use mathlib.Core.Path.{◌≡◌}
 use Rattle.listing_lines.specs.Whole.{spelled_from}
 use Rattle.listing_lines.proofs.inner.sixteen.Given as goal
 
-abbrev pub invariant-loop-left : goal.invariant-loop-left
-invariant-loop-left l = (l.i + l.left ≡ l.at + 16) × (spelled_from l.block l.initial.left l.initial.i l.initial.bits ≡ spelled_from l.block l.left l.i l.bits)
-
-abbrev pub decreases-loop-left : goal.decreases-loop-left
-decreases-loop-left l = l.left
+abbrev pub invariant-loop-b : goal.invariant-loop-b
+invariant-loop-b l = spelled_from l.block 16 l.at 0 ≡ spelled_from l.block (16 - l.b-index) (l.at + l.b-index) l.bits

@@ -1,9 +1,17 @@
--- `text_write::inner::put_bytes` meets its contract: after i turns the first i bytes of the word are written. Assumes nothing.
-use Prim.Native.Nat.{◌-◌}
+-- `text_write::inner::put_bytes` meets its contract: the part of the buffer at the place is the word. Assumes nothing.
+use Prim.Native.Nat.{◌+◌, ◌-◌}
+use mathlib.Core.Path.{refl}
 use native.Mathlib.Omega.{arith}
-use lib.ListN.{length-set}
-use Rattle.text_write.proofs.Writing.{next_byte}
+use lib.ListN.{length}
+use Rattle.std.proofs.lemmas.Slice.{take-put_mid, drop-put_mid}
 use Rattle.text_write.proofs.inner.put_bytes.Goals as goal
 
-pub loop-i-preserved : goal.loop-i-preserved
-loop-i-preserved c = (omega arith, simp length-set c.loop-i.invariant.1, next_byte _ _ _ _ _ c.loop-i.invariant.2 (omega arith) (omega arith))
+pub returns : goal.returns
+returns c = let out = c.args.out.now in let at = c.args.at in let word = c.args.word.now in
+    let end = at + length word in
+    rw c.copy_from_slice.ensures.after
+    record {
+      next = refl;
+      bytes = take-put_mid at (end - at) out word end refl (omega arith);
+      rest = drop-put_mid at (end - at) out word end (omega arith) (omega arith) (omega arith);
+    }
