@@ -3,8 +3,6 @@
 
 #![tactic(auto)]
 
-ghost use Rattle.std.specs.Prelude.{◌≤◌, ◌<◌, length};
-
 use calendar::{Calendar, DateAnswer, DayAnswer, JulianAnswer};
 use hour::HourAnswer;
 use root::RootAnswer;
