@@ -93,12 +93,12 @@ fn answer_block(
     let mut out = [0u8; 65536];
     let mut at = 0;
     let mut n = kept;
-    for i in 0..block.len() {
-        if block[i] == b'\n' {
+    for &byte in block {
+        if byte == b'\n' {
             at = answer_line(rt, book, line, n, &mut out, at);
             n = 0;
         } else if n < LINE {
-            line[n] = block[i];
+            line[n] = byte;
             n += 1;
         }
     }
@@ -113,8 +113,7 @@ fn answer_all(rt: &(impl Input + Print + Eprint), book: &[u8]) {
     let mut block = [0u8; 65536];
     let mut line = [0u8; LINE];
     let mut kept = 0;
-    let mut blocks_left = u64::MAX;
-    while 0 < blocks_left {
+    for _ in 0..u64::MAX {
         let n = match input.read(&mut block) {
             Ok(n) => n,
             Err(e) => {
@@ -126,7 +125,6 @@ fn answer_all(rt: &(impl Input + Print + Eprint), book: &[u8]) {
             break;
         }
         kept = answer_block(rt, book, &block[..n], &mut line, kept);
-        blocks_left -= 1;
     }
     if 0 < kept {
         answer_block(rt, book, b"\n", &mut line, kept);

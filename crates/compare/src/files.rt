@@ -87,6 +87,7 @@ pub fn judge(file: &File) -> Judged {
     let mut buffer = [0u8; 65_536];
     let block: &mut [u8] = &mut buffer;
     let mut j = top();
+    // Each turn passes as many bytes as the file gives, so there is no count to go over.
     while j.read <= END {
         let got = read_at(file, block, j.read);
         if let Some(e) = got.failed {

@@ -66,8 +66,7 @@ pub fn print_lines(
     let mut out = [0u8; 65_536];
     let mut stage = Stage::Comparing(0);
     let mut reported = false;
-    let mut turns_left = u64::MAX;
-    while 0 < turns_left {
+    for _ in 0..u64::MAX {
         if is_over(stage) {
             return Printed::Done(reported);
         }
@@ -92,7 +91,6 @@ pub fn print_lines(
         }
         reported = any(reported, written);
         stage = t.stage;
-        turns_left -= 1;
     }
     Printed::FirstUnread(too_large())
 }

@@ -87,15 +87,13 @@ fn either(a: bool, b: bool) -> bool {
 fn print_report(rt: &impl Print, first: Listing<'_>, second: Listing<'_>) -> Printed {
     let mut part = Part::Header;
     let mut reported = false;
-    let mut parts_left: u64 = 4;
-    while 0 < parts_left {
+    for _ in 0..4 {
         let printed = print_part(rt, part, first, second, reported);
         let Printed::Done(some) = printed else {
             return printed;
         };
         reported = either(reported, some);
         part = next_part(part);
-        parts_left -= 1;
     }
     Printed::Done(reported)
 }

@@ -58,8 +58,7 @@ pub fn print_states(rt: &impl Print, file: &File, other: &File) -> Printed {
     let mut one = unread(file);
     let mut two = unread(other);
     let mut reported = false;
-    let mut portions_left = u64::MAX;
-    while 0 < portions_left {
+    for _ in 0..u64::MAX {
         let n = one.n;
         let m = two.n;
         let p = portion(&a[..n], &b[..m], first, second, &mut out);
@@ -82,7 +81,6 @@ pub fn print_states(rt: &impl Print, file: &File, other: &File) -> Printed {
         }
         first = go_on(halt.first, p.first, one.n);
         second = go_on(halt.second, p.second, two.n);
-        portions_left -= 1;
     }
     Printed::FirstUnread(too_large())
 }

@@ -137,6 +137,7 @@ pub fn portion(a: &[u8], b: &[u8], from: Reading, beside: Reading, out: &mut [u8
     let mut first = from;
     let mut second = beside;
     let mut at: usize = 0;
+    // A turn writes as many bytes as it has to report, so there is no count to go over.
     while at + LONGEST_TURN <= out.len() {
         first = filled(a, first);
         second = filled(b, second);

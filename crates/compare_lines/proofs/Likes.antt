@@ -1,11 +1,11 @@
 -- Two lines compared block by block, and a line printed block by block. Assumes nothing.
-use Prim.Native.Nat.{ℕ, zero, suc, ◌+◌, ◌-◌, ◌<◌, ◌≤◌}
+use Prim.Native.Nat.{ℕ, zero, suc, ◌+◌, ◌-◌, ◌<◌, ◌≤◌, min}
 use mathlib.Core.Bool.{Bool, true, false}
 use mathlib.Core.List.{List, [], ◌∷◌, ◌++◌, append-nil}
-use mathlib.Core.Path.{◌≡◌, refl, ap}
+use mathlib.Core.Path.{◌≡◌, refl, sym, ap, ◌∙◌}
 use native.Mathlib.Numerals.{add-one}
 use native.Mathlib.Omega.{arith}
-use borrow.Author.Tests.{lt-ltb, ltb-false, eq-eqb, ne_eqb, eqb-true}
+use borrow.Author.Tests.{lt-ltb, ltb-true, ltb-false, eq-eqb, ne_eqb, eqb-true, eqb-false}
 use lib.Dec.{ltb, eqb}
 use lib.ListN.{length, get_or, take, drop, drop_of_length-le}
 use lib.Seq.{drop-cons}
@@ -68,18 +68,28 @@ second_up (x ∷ a) [] zero k h = refl
 second_up (x ∷ a) (y ∷ b) zero k h = absurd (omega arith)
 second_up a b (suc i) k h = rw (drop-cons a (suc i) 0 k, drop_of_length-le b h, lt-ltb 0 (suc i) (omega arith))
 
+-- one of the blocks has no more
+pub all_up : (a b : List ℕ) (i : ℕ) → i ≡ min (length a) (length b) → likeness i (drop i a) (drop i b) ≡ used_up i a b
+all_up a b i e =
+    by_bool (ltb i (length a)) (λ h. let k = ltb-true i (length a) h in second_up a b i k (omega arith)) (λ h. first_up a b i (ltb-false i (length a) h))
+
 module _ (a b : List ℕ) (i : ℕ) (h : i < length a) (k : i < length b) where
   pub both_feeds : get_or a i 0 ≡ 10 → get_or b i 0 ≡ 10 → likeness i (drop i a) (drop i b) ≡ Same
   unfolding likeness
   both_feeds e f = rw (drop-cons a i 0 h, drop-cons b i 0 k, eq-eqb (get_or a i 0) 10 e, eq-eqb (get_or b i 0) 10 f)
 
-  pub first_feeds : get_or a i 0 ≡ 10 → (get_or b i 0 ≡ 10 → ⊥) → likeness i (drop i a) (drop i b) ≡ Differ
+  first_feeds : get_or a i 0 ≡ 10 → (get_or b i 0 ≡ 10 → ⊥) → likeness i (drop i a) (drop i b) ≡ Differ
   unfolding likeness
   first_feeds e f = rw (drop-cons a i 0 h, drop-cons b i 0 k, eq-eqb (get_or a i 0) 10 e, ne_eqb (get_or b i 0) 10 f)
 
-  pub bytes_differ : (get_or a i 0 ≡ 10 → ⊥) → (get_or a i 0 ≡ get_or b i 0 → ⊥) → likeness i (drop i a) (drop i b) ≡ Differ
+  bytes_differ : (get_or a i 0 ≡ 10 → ⊥) → (get_or a i 0 ≡ get_or b i 0 → ⊥) → likeness i (drop i a) (drop i b) ≡ Differ
   unfolding likeness
   bytes_differ e f = rw (drop-cons a i 0 h, drop-cons b i 0 k, ne_eqb (get_or a i 0) 10 e, ne_eqb (get_or a i 0) (get_or b i 0) f)
+
+  pub bytes_part : (get_or a i 0 ≡ get_or b i 0 → ⊥) → likeness i (drop i a) (drop i b) ≡ Differ
+  bytes_part n = by_bool (eqb (get_or a i 0) 10)
+      (λ e. first_feeds (eqb-true _ _ e) (λ f. n (eqb-true _ _ e ∙ sym f)))
+      (λ e. bytes_differ (eqb-false _ _ e) n)
 
   pub bytes_same : (get_or a i 0 ≡ 10 → ⊥) → get_or a i 0 ≡ get_or b i 0 → likeness i (drop i a) (drop i b) ≡ likeness (i + 1) (drop (i + 1) a) (drop (i + 1) b)
   unfolding likeness

@@ -44,23 +44,15 @@ fn used_up(a: &[u8], b: &[u8], i: usize) -> Likeness
 fn compare_blocks(a: &[u8], b: &[u8]) -> Likeness
     ensures { result ≡ likeness 0 a.now b.now }
 {
-    let mut i = 0;
-    while i < a.len() {
-        if b.len() <= i {
-            return used_up(a, b, i);
-        }
-        if a[i] == 10 {
-            if b[i] == 10 {
-                return Likeness::Same;
-            }
+    for (&x, &y) in a.iter().zip(b) {
+        if x != y {
             return Likeness::Differ;
         }
-        if a[i] != b[i] {
-            return Likeness::Differ;
+        if x == b'\n' {
+            return Likeness::Same;
         }
-        i += 1;
     }
-    used_up(a, b, i)
+    used_up(a, b, a.len().min(b.len()))
 }
 
 // The block of a header that is not there, from one of its bytes on: - and then nothing.

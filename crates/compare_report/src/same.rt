@@ -7,28 +7,11 @@ ghost use Rattle.compare_report.specs.Report.{until_feed, same};
 pub fn line_length(block: &[u8]) -> usize
     ensures { result ≡ length (until_feed block.now) }
 {
-    let mut i = 0;
-    while i < block.len() {
-        if block[i] == 10 {
-            return i;
-        }
-        i += 1;
-    }
-    i
+    block.iter().position(|b| *b == 10).unwrap_or(block.len())
 }
 
 pub fn same_bytes(a: &[u8], b: &[u8]) -> bool
     ensures { result ≡ same a.now b.now }
 {
-    if a.len() != b.len() {
-        return false;
-    }
-    let mut i = 0;
-    while i < a.len() {
-        if a[i] != b[i] {
-            return false;
-        }
-        i += 1;
-    }
-    true
+    a == b
 }

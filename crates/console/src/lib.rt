@@ -26,6 +26,7 @@ pub fn read_full(input: &mut impl Read, buf: &mut [u8]) -> io::Result<usize>
     ensures in_bounds { IfOk result (λ n. n ≤ length buf.new) }
 {
     let mut done = 0;
+    // Each turn passes as many bytes as `read` gives, so there is no count to go over.
     while done < buf.len() {
         let n = input.read(&mut buf[done..])?;
         if n == 0 {

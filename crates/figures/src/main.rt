@@ -3,8 +3,6 @@
 
 #![tactic(auto)]
 
-ghost use Rattle.std.specs.Prelude.{◌≤◌, ◌<◌, length};
-
 use base::Refusal;
 use calendar::Calendar;
 use std::io;
@@ -122,26 +120,9 @@ fn published(rt: &impl Print, line: &[u8]) -> io::Result<()> {
     Ok(())
 }
 
-fn end_of_line(all: &[u8], at: usize) -> usize
-    requires { at ≤ length all.now }
-    ensures { (at ≤ result) × (result ≤ length all.now) }
-{
-    let mut e = at;
-    while e < all.len() {
-        if all[e] == b'\n' {
-            return e;
-        }
-        e += 1;
-    }
-    e
-}
-
 fn roots(rt: &impl Print, all: &[u8]) -> io::Result<()> {
-    let mut at = 0;
-    while at < all.len() {
-        let e = end_of_line(all, at);
-        published(rt, &all[at..e])?;
-        at = e + 1;
+    for line in all.split(|b| *b == b'\n') {
+        published(rt, line)?;
     }
     Ok(())
 }

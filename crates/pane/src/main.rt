@@ -90,14 +90,14 @@ fn answer_block(
     let mut at = 0;
     let mut pane = from.pane;
     let mut n = from.kept;
-    for i in 0..block.len() {
-        if block[i] == b'\n' {
+    for &byte in block {
+        if byte == b'\n' {
             let told = answer_line(rt, pane, line, n, &mut out, at);
             pane = told.pane;
             at = told.end;
             n = 0;
         } else if n < LINE {
-            line[n] = block[i];
+            line[n] = byte;
             n += 1;
         }
     }
@@ -115,8 +115,7 @@ fn answer_all(rt: &(impl Input + Print + Eprint)) {
         pane: pane_live::clear(),
         kept: 0,
     };
-    let mut blocks_left = u64::MAX;
-    while 0 < blocks_left {
+    for _ in 0..u64::MAX {
         let n = match input.read(&mut block) {
             Ok(n) => n,
             Err(e) => {
@@ -128,7 +127,6 @@ fn answer_all(rt: &(impl Input + Print + Eprint)) {
             break;
         }
         standing = answer_block(rt, standing, &block[..n], &mut line);
-        blocks_left -= 1;
     }
     if 0 < standing.kept {
         answer_block(rt, standing, b"\n", &mut line);

@@ -99,12 +99,8 @@ fn tell_changed(rt: &impl Eprint, changed: Changed) {
 }
 
 fn tell_fates(rt: &impl Eprint, fates: &[u16; MOST_ENTRIES], looked: usize) {
-    let mut i = 0;
-    while i < looked {
-        if i < 2_559 {
-            tell_fate(rt, i, fates[i]);
-        }
-        i += 1;
+    for (i, &fate) in fates.iter().take(looked).enumerate() {
+        tell_fate(rt, i, fate);
     }
 }
 

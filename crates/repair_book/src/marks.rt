@@ -13,18 +13,7 @@ use repair_sort::inner::looked_at;
 fn as_in_contents(kept: &[u16]) -> bool
     ensures { result ≡ as_in_contents kept.now }
 {
-    if kept.len() == 0 {
-        return true;
-    }
-    let last = kept.len() - 1;
-    let mut k = 0;
-    while k < last {
-        if kept[k + 1] <= kept[k] {
-            return false;
-        }
-        k += 1;
-    }
-    true
+    kept.is_sorted_by(|a, b| a < b)
 }
 
 fn offsets_stay(input: &[u8], kept: &[u16]) -> bool
@@ -32,18 +21,12 @@ fn offsets_stay(input: &[u8], kept: &[u16]) -> bool
     ensures { result ≡ offsets_stay input.now kept.now }
 {
     let mut place = 8 + 24 * kept.len();
-    let mut k = 0;
-    while k < kept.len() {
-        let i = kept[k] as usize;
-        let offset = offset_of(input, i);
-        if offset < place {
-            return false;
-        }
-        if place < offset {
+    for &i in kept {
+        let i = i as usize;
+        if offset_of(input, i) != place {
             return false;
         }
         place += 24 * size_of(input, i);
-        k += 1;
     }
     true
 }

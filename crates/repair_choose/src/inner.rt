@@ -27,11 +27,8 @@ pub fn go_forward(
         last: 0,
         length: 8,
     };
-    let mut k = 0;
-    while k < order.len() {
-        let i = order[k] as usize;
-        sofar = settle_one(input, room, kept, fates, sofar, i);
-        k += 1;
+    for &i in order {
+        sofar = settle_one(input, room, kept, fates, sofar, i as usize);
     }
     sofar
 }

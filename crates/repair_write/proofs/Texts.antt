@@ -1,11 +1,15 @@
 -- Texts written at places of a buffer, one after the other. Assumes nothing.
-use Prim.Native.Nat.{ℕ, suc, ◌+◌, ◌/◌, ◌%◌, ◌≤◌}
-use mathlib.Core.List.{List, [], ◌∷◌, ◌++◌, append_assoc, append-nil}
+use Prim.Native.Nat.{ℕ, ◌+◌, ◌/◌, ◌≤◌}
+use mathlib.Core.List.{List, [], ◌++◌, append_assoc, append-nil}
 use mathlib.Core.Path.{◌≡◌, refl, sym, ap, ◌∙◌}
 use native.Mathlib.Nat.{add-zero, add_assoc}
 use native.Mathlib.Omega.{arith}
-use lib.ListN.{length, take, drop, set, length-append, length-drop, take-append-drop}
-use lib.Seq.{length-take-le, take_at, drop-append-add, drop-drop, sets-eq, paste}
+use lib.ListN.{length, take, drop, length-append, length-drop, take-append-drop}
+use lib.Seq.{length-take-le, take_at, drop-append-add, drop-drop}
+use borrow.Rule.Slice.PartMut.{put_mid}
+use mir.Syntax.{w32}
+use Rattle.std.specs.Int.{to_le_bytes}
+use Rattle.std.proofs.lemmas.Slice.{put_mid-paste}
 use Rattle.repair_write.specs.Anew.{part, le32, with_text}
 
 module _ (d : List ℕ) (at : ℕ) where
@@ -39,18 +43,18 @@ joined d t u at next {e} {f} p q m h = q ∙ ap (λ (x : List ℕ). with_text x 
 pub part_length : (b : List ℕ) (at n : ℕ) → at + n ≤ length b → length (part b at n) ≡ n
 part_length b at n h = length-take-le n (drop at b) (omega (arith, length-drop at b))
 
-pub text_copied : (d b : List ℕ) (at from n : ℕ) → from + n ≤ length b → paste d at (drop from b) n ≡ with_text d at (part b from n)
-text_copied d b at from n h = ap (λ (k : ℕ). take at d ++ part b from n ++ drop (at + k) d) (sym (part_length b from n h))
-
 pub le32_length : (n : ℕ) → length (le32 n) ≡ 4
 unfolding le32
 le32_length n = refl
 
-pub four_bytes : (d : List ℕ) (at n : ℕ) → at + 4 ≤ length d
-    → set (set (set (set d at (n % 256)) (at + 1) (n / 256 % 256)) (at + 2) (n / 256 / 256 % 256)) (at + 3) (n / 256 / 256 / 256 % 256) ≡ with_text d at (le32 n)
+-- the four bytes of a number stored in a part of the buffer
+le32_bytes : (n : ℕ) → to_le_bytes w32 n ≡ le32 n
 unfolding le32
-four_bytes d at n h =
-    let one : at + 1 ≡ suc at = omega arith in
-    let two : at + 2 ≡ suc (suc at) = omega arith in
-    let three : at + 3 ≡ suc (suc (suc at)) = omega arith in
-    rw (one, two, three) (sets-eq (n % 256 ∷ n / 256 % 256 ∷ n / 256 / 256 % 256 ∷ n / 256 / 256 / 256 % 256 ∷ []) d at h)
+le32_bytes n =
+    let third : n / 65_536 ≡ n / 256 / 256 = omega arith in
+    let last : n / 16_777_216 ≡ n / 256 / 256 / 256 = omega arith in
+    rw (third, last)
+
+pub four_bytes : (d ys : List ℕ) (at k n : ℕ) → k ≡ 4 → ys ≡ to_le_bytes w32 n → put_mid at k d ys ≡ with_text d at (le32 n)
+unfolding le32
+four_bytes d ys at k n h e = put_mid-paste at k d ys (le32 n) 4 (e ∙ le32_bytes n) (sym h) refl

@@ -13,12 +13,10 @@ pub fn write_blocks(input: &[u8], kept: &[u16], out: &mut [u8])
     ensures { out.new ≡ with_text out.old (entry_at (length kept.now)) (blocks_anew input.now kept.now) }
 {
     let mut place = 8 + 24 * kept.len();
-    let mut k = 0;
-    while k < kept.len() {
-        let i = kept[k] as usize;
+    for &i in kept {
+        let i = i as usize;
         let size = 24 * size_of(input, i);
         copy(input, offset_of(input, i), out, place, size);
         place += size;
-        k += 1;
     }
 }

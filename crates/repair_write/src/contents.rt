@@ -23,11 +23,9 @@ pub fn write_contents(input: &[u8], kept: &[u16], out: &mut [u8])
     ensures { out.new ≡ with_text out.old 8 (contents_anew input.now (entry_at (length kept.now)) kept.now) }
 {
     let mut place = 8 + 24 * kept.len();
-    let mut k = 0;
-    while k < kept.len() {
-        let i = kept[k] as usize;
+    for (k, &i) in kept.iter().enumerate() {
+        let i = i as usize;
         write_entry(input, i, place, out, 8 + 24 * k);
         place += 24 * size_of(input, i);
-        k += 1;
     }
 }

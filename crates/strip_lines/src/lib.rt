@@ -64,6 +64,7 @@ fn print_course(
     requires in_bounds { 123 ≤ length out.old }
 {
     let mut course = from;
+    // Only the run itself says which portion is the last, so there is no count to go over.
     loop {
         let p = portion(book, setting, h, course, out);
         let n = p.written;

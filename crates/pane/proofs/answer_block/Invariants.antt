@@ -2,5 +2,5 @@
 use Rattle.std.specs.Prelude.{◌≤◌}
 use Rattle.pane.proofs.answer_block.Given as goal
 
-abbrev pub invariant-loop-i : goal.invariant-loop-i
-invariant-loop-i g l = (l.n ≤ 1_001) × (l.at ≤ 65_536)
+abbrev pub invariant-loop-byte : goal.invariant-loop-byte
+invariant-loop-byte g l = (l.n ≤ 1_001) × (l.at ≤ 65_536)

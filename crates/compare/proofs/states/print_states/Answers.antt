@@ -3,10 +3,10 @@ use Rattle.std.proofs.Common.{rules}
 use Rattle.compare.proofs.Standing.{next_shut}
 use Rattle.compare.proofs.states.print_states.Goals as goal
 
-pub loop-portions_left-preserved : goal.loop-portions_left-preserved
-loop-portions_left-preserved g c = (
+pub loop-preserved : goal.loop-preserved
+loop-preserved g c = (
   search rules,
   search rules,
-  next_shut c.loop-portions_left.a _ _ _ _ _ (search rules) c.portion-p.ensures.first_shut c.refilled-one.ensures.1 c.go_on-first.ensures,
-  next_shut c.loop-portions_left.b _ _ _ _ _ (search rules) c.portion-p.ensures.second_shut c.refilled-two.ensures.1 c.go_on-second.ensures,
+  next_shut c.loop.a _ _ _ _ _ (search rules) c.portion-p.ensures.first_shut c.refilled-one.ensures.1 c.go_on-first.ensures,
+  next_shut c.loop.b _ _ _ _ _ (search rules) c.portion-p.ensures.second_shut c.refilled-two.ensures.1 c.go_on-second.ensures,
 )

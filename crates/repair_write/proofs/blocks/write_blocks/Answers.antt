@@ -1,46 +1,33 @@
--- `repair_write::blocks::write_blocks` meets its contract. The invariant: the first k blocks are written, and block k begins at `place`. Assumes nothing.
+-- `repair_write::blocks::write_blocks` meets its contract. Assumes nothing.
 use native.Mathlib.Omega.{arith}
-use mathlib.Core.Path.{◌∙◌}
-use Prim.Native.Nat.{◌-◌}
-use lib.ListN.{get_or}
-use Rattle.repair_sort.specs.Held.{Sound}
 use Rattle.repair_sort.proofs.Sounds.{sound_at}
 use Rattle.repair_write.proofs.Books.{place_inside, place_further, block_written}
 use Rattle.repair_write.proofs.blocks.write_blocks.Goals as goal
 
 pub size_of-size-requires : goal.size_of-size-requires
-size_of-size-requires c = ((let here : Sound c.args.input.now (get_or c.args.kept.now c.loop-k.k 0) = sound_at c.args.input.now c.args.kept.now c.requires.0 c.loop-k.k (omega arith) in here)).inside
+size_of-size-requires c = (sound_at c.args.input.now c.args.kept.now c.requires.0 c.loop-i.i-index (omega arith)).inside
 
 pub offset_of-requires : goal.offset_of-requires
-offset_of-requires c = ((let here : Sound c.args.input.now (get_or c.args.kept.now c.loop-k.k 0) = sound_at c.args.input.now c.args.kept.now c.requires.0 c.loop-k.k (omega arith) in here)).inside
+offset_of-requires c = (sound_at c.args.input.now c.args.kept.now c.requires.0 c.loop-i.i-index (omega arith)).inside
 
 pub copy-requires : goal.copy-requires
-copy-requires c = let s = (let here : Sound c.args.input.now (get_or c.args.kept.now c.loop-k.k 0) = sound_at c.args.input.now c.args.kept.now c.requires.0 c.loop-k.k (omega arith) in here) in
+copy-requires c = let s = sound_at c.args.input.now c.args.kept.now c.requires.0 c.loop-i.i-index (omega arith) in
     let block = s.block in
-    let place =
-    place_inside c.args.input.now
-    c.args.kept.now c.loop-k.k (omega arith) in
+    let place = place_inside c.args.input.now c.args.kept.now c.loop-i.i-index (omega arith) in
     (omega arith, omega arith)
 
-pub overflow_add-place-in-loop-k : goal.overflow_add-place-in-loop-k
-overflow_add-place-in-loop-k c = let place =
-    place_inside c.args.input.now
-    c.args.kept.now
-    c.loop-k.k (omega arith) in
+pub overflow_add-place-in-loop-i : goal.overflow_add-place-in-loop-i
+overflow_add-place-in-loop-i c = let place = place_inside c.args.input.now c.args.kept.now c.loop-i.i-index (omega arith) in
     omega arith
 
-pub loop-k-preserved : goal.loop-k-preserved
-loop-k-preserved c = let x = c.args in
-    let l = c.loop-k in (
-      omega arith,
-      c.copy.auto.out ∙ l.invariant.1,
-      omega (
-        arith,
-        place_further x.input.now x.kept.now c.requires.0 l.k (omega arith),
-        l.invariant.2,
-      ),
-      block_written x.input.now x.kept.now
-          c.requires.0 l.k (omega arith) x.out.now
-          (omega arith) l.invariant.2 l.invariant.3
-          (rw (c.size_of-size.ensures.0, c.offset_of.ensures.0) at c.copy.ensures),
-    )
+pub loop-i-preserved : goal.loop-i-preserved
+loop-i-preserved c = let x = c.args in
+    let l = c.loop-i in
+    record {
+      next = omega (arith, place_further x.input.now x.kept.now c.requires.0 l.i-index (omega arith), l.invariant.next);
+      written =
+          block_written x.input.now x.kept.now
+          c.requires.0 l.i-index (omega arith) x.out.now
+          (omega arith) l.invariant.next l.invariant.written
+          (rw (c.size_of-size.ensures.0, c.offset_of.ensures.0) at c.copy.ensures);
+    }
