@@ -1,10 +1,9 @@
 -- The weights of the digit loop: powers of four, from 2^52 down to 1. Assumes nothing.
-use Rattle.std.proofs.Common.{◌≡◌, ℕ, zero, suc, ◌*◌, ◌/◌, ◌%◌, ◌^◌, ◌<◌, ◌≤◌, refl, ◌∙◌, subst, arith}
+use Rattle.std.proofs.Common.{List, length, get_or, set, get_or-set_same, get_or-set_other, below_more, ◌+◌, ◌≢◌, ◌≡◌, ℕ, zero, suc, ◌*◌, ◌/◌, ◌%◌, ◌^◌, ◌<◌, ◌≤◌, ◌∙◌, subst, arith}
 use native.Mathlib.Nat.{pow-succ'}
-use Rattle.root_digits.specs.Digits.{LaneOf, Turning, Turned, EndsAt, HasDigits, LanesOf, ThreeTurning, ThreeEndAt, NearestOf}
+use Rattle.root_digits.specs.Digits.{LaneOf, Turning, Turned, EndsAt}
+use Rattle.root_digits.specs.declared.Lane.{Lane}
 use Rattle.root_digits.specs.Nearest.{nearest_root}
-use Rattle.root_digits.specs.declared.ThreeLanes.{ThreeLanes}
-use Rattle.root_digits.specs.declared.ThreeNumbers.{ThreeNumbers}
 use Rattle.root_digits.proofs.Powers.{four_pos}
 
 abbrev pub Weight : ℕ → Type 0
@@ -43,16 +42,20 @@ turned {n} l i h = record { n = n; lane = ended l i h }
 pub found : {m g v t r : ℕ} → EndsAt v t r → m < 2 ^ 54 → LaneOf (m * 2 ^ 52) g v t → Weight g → g ≤ 1 → r ≡ nearest_root (m * 2 ^ 52)
 found {m} e b l i h = e (m * 2 ^ 52) (omega arith) (ended l i h)
 
--- ---- the same for three lanes
+-- ---- lanes side by side
 
-pub three_turning : {a b c g : ℕ} {s : ThreeLanes} → LanesOf a b c g s → Weight g → 1 < g → ThreeTurning 4 g s
-three_turning {a} {b} {c} {g} l i h = record { a = a; b = b; c = c; lanes = l; whole = (next g i h).whole }
+-- the lane at k is that of m·2^52, for the number m at k
+abbrev pub AtLane : List ℕ → ℕ → List Lane → ℕ → Type 0
+AtLane ms g lanes k = (d : Lane) → LaneOf (get_or ms k 0 * 2 ^ 52) g (get_or lanes k d).v (get_or lanes k d).t
 
-three_ended : {a b c g : ℕ} {s : ThreeLanes} → LanesOf a b c g s → Weight g → g ≤ 1 → LanesOf a b c 1 s
-three_ended l i h = record { of_a = ended l.of_a i h; of_b = ended l.of_b i h; of_c = ended l.of_c i h }
+lane_set : (ms : List ℕ) (g : ℕ) (lanes : List Lane) (i : ℕ) (s : Lane) → LaneOf (get_or ms i 0 * 2 ^ 52) g s.v s.t → i < length lanes → AtLane ms g (set lanes i s) i
+lane_set ms g lanes i s l h = λ d. rw get_or-set_same l
 
-pub three_turned : {a b c g : ℕ} {s : ThreeLanes} → LanesOf a b c g s → Weight g → g ≤ 1 → ThreeTurning 1 1 s
-three_turned {a} {b} {c} l i h = record { a = a; b = b; c = c; lanes = three_ended l i h; whole = refl }
+lane_kept : (ms : List ℕ) (g : ℕ) (lanes : List Lane) (i k : ℕ) (s : Lane) → k ≢ i → AtLane ms g lanes k → AtLane ms g (set lanes i s) k
+lane_kept ms g lanes i k s n l = λ d. rw get_or-set_other (l d)
 
-pub three_found : {a b c g : ℕ} {s : ThreeLanes} {r : ThreeNumbers} → ThreeEndAt s r → HasDigits a × HasDigits b × HasDigits c → LanesOf a b c g s → Weight g → g ≤ 1 → NearestOf a b c r
-three_found {a} {b} {c} e d l i h = e a b c d (three_ended l i h)
+-- one more lane is found
+pub lanes_more : (ms : List ℕ) (g : ℕ) (lanes : List Lane) (i : ℕ) (s : Lane) → ((k : ℕ) → k < i → AtLane ms g lanes k) →
+    LaneOf (get_or ms i 0 * 2 ^ 52) g s.v s.t → i < length lanes → (k : ℕ) → k < i + 1 → AtLane ms g (set lanes i s) k
+lanes_more ms g lanes i s f l h =
+    below_more (AtLane ms g (set lanes i s)) i (λ k b. let n : k ≢ i = omega arith in lane_kept ms g lanes i k s n (f k b)) (lane_set ms g lanes i s l h)
