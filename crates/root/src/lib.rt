@@ -14,26 +14,6 @@ pub enum RootAnswer {
     Refused(u64),
 }
 
-#[derive(Clone, Copy)]
-pub struct ThreeRoots {
-    pub a: f64,
-    pub b: f64,
-    pub c: f64,
-}
-
-#[derive(Clone, Copy)]
-pub struct FiveRoots {
-    pub a: f64,
-    pub b: f64,
-    pub others: ThreeRoots,
-}
-
-#[derive(Clone, Copy)]
-pub struct SixRoots {
-    pub first: ThreeRoots,
-    pub second: ThreeRoots,
-}
-
 // The root of a finite float that is not negative, or refusal 11.
 pub fn root(x: f64) -> RootAnswer
     ensures { result ≡ root_answer x }

@@ -1,9 +1,10 @@
 -- The weights of the digit loop: powers of four, from 2^52 down to 1. Assumes nothing.
-use Rattle.std.proofs.Common.{List, length, get_or, set, get_or-set_same, get_or-set_other, below_more, ◌+◌, ◌≢◌, ◌≡◌, ℕ, zero, suc, ◌*◌, ◌/◌, ◌%◌, ◌^◌, ◌<◌, ◌≤◌, ◌∙◌, subst, arith}
+use Rattle.std.proofs.Common.{List, length, get_or, set, ◌+◌, ◌≡◌, ℕ, zero, suc, ◌*◌, ◌/◌, ◌%◌, ◌^◌, ◌<◌, ◌≤◌, ◌∙◌, subst, arith}
 use native.Mathlib.Nat.{pow-succ'}
 use Rattle.root_digits.specs.Digits.{LaneOf, Turning, Turned, EndsAt}
 use Rattle.root_digits.specs.declared.Lane.{Lane}
 use Rattle.root_digits.specs.Nearest.{nearest_root}
+use Rattle.root_digits.proofs.Maps.{set_more}
 use Rattle.root_digits.proofs.Powers.{four_pos}
 
 abbrev pub Weight : ℕ → Type 0
@@ -48,14 +49,7 @@ found {m} e b l i h = e (m * 2 ^ 52) (omega arith) (ended l i h)
 abbrev pub AtLane : List ℕ → ℕ → List Lane → ℕ → Type 0
 AtLane ms g lanes k = (d : Lane) → LaneOf (get_or ms k 0 * 2 ^ 52) g (get_or lanes k d).v (get_or lanes k d).t
 
-lane_set : (ms : List ℕ) (g : ℕ) (lanes : List Lane) (i : ℕ) (s : Lane) → LaneOf (get_or ms i 0 * 2 ^ 52) g s.v s.t → i < length lanes → AtLane ms g (set lanes i s) i
-lane_set ms g lanes i s l h = λ d. rw get_or-set_same l
-
-lane_kept : (ms : List ℕ) (g : ℕ) (lanes : List Lane) (i k : ℕ) (s : Lane) → k ≢ i → AtLane ms g lanes k → AtLane ms g (set lanes i s) k
-lane_kept ms g lanes i k s n l = λ d. rw get_or-set_other (l d)
-
 -- one more lane is found
 pub lanes_more : (ms : List ℕ) (g : ℕ) (lanes : List Lane) (i : ℕ) (s : Lane) → ((k : ℕ) → k < i → AtLane ms g lanes k) →
     LaneOf (get_or ms i 0 * 2 ^ 52) g s.v s.t → i < length lanes → (k : ℕ) → k < i + 1 → AtLane ms g (set lanes i s) k
-lanes_more ms g lanes i s f l h =
-    below_more (AtLane ms g (set lanes i s)) i (λ k b. let n : k ≢ i = omega arith in lane_kept ms g lanes i k s n (f k b)) (lane_set ms g lanes i s l h)
+lanes_more ms g lanes i s f l h = set_more (λ k (z : Lane). LaneOf (get_or ms k 0 * 2 ^ 52) g z.v z.t) lanes i s h f l
