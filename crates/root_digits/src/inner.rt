@@ -6,6 +6,9 @@ ghost use Rattle.root_digits.specs.Digits.{LaneOf, Turning, TurnsTo, Turned, End
 
 use crate::{LEADING, Lane};
 
+// Two digits a turn, after the first of 53.
+const TURNS: u64 = 26;
+
 // The lane with the digit of weight g / 2 found. The digit is 1 if the difference does not wrap. The test is on the
 // sign, because the compiler makes no branch of it.
 fn turn(s: Lane, g: u64) -> Lane
@@ -64,7 +67,7 @@ pub fn nearest_roots<const N: usize>(digits: [u64; N]) -> [u64; N]
         *s = first(digits[k]);
     }
     let mut g: u64 = LEADING;
-    while 1 < g {
+    for _ in 0..TURNS {
         for s in lanes.iter_mut() {
             *s = two_turns(*s, g);
         }

@@ -1,7 +1,7 @@
 -- `root_digits::inner::nearest_roots` meets its contract: each lane is that of its number throughout. Assumes nothing.
 use Rattle.std.proofs.Common.{◌≡◌, ℕ, ◌/◌, ◌^◌, ◌<◌, ◌≤◌, length, get_or}
 use Rattle.root_digits.specs.Digits.{nearest_of}
-use Rattle.root_digits.proofs.Turns.{Weight, AtLane}
+use Rattle.root_digits.proofs.Turns.{weight, AtLane}
 use Rattle.root_digits.proofs.inner.nearest_roots.Given as goal
 
 abbrev pub invariant-loop-k : goal.invariant-loop-k
@@ -17,15 +17,12 @@ invariant-loop-s g l = record {
   rest : (k : ℕ) → l.s-index ≤ k → k < g.row.N → AtLane l.digits l.g l.s-items k;
 }
 
-abbrev pub invariant-loop-g : goal.invariant-loop-g
-invariant-loop-g g l = record {
-  weight : Weight l.g;
+abbrev pub invariant-loop : goal.invariant-loop
+invariant-loop g l = record {
+  weight : l.g ≡ weight l.counter;
   size : length l.lanes ≡ g.row.N;
   lanes : (k : ℕ) → k < g.row.N → AtLane l.digits l.g l.lanes k;
 }
-
-abbrev pub decreases-loop-g : goal.decreases-loop-g
-decreases-loop-g g l = l.g
 
 abbrev pub invariant-loop-k-2 : goal.invariant-loop-k-2
 invariant-loop-k-2 g l = record {
