@@ -1,10 +1,10 @@
 -- A body beside the centre stands where it is seen, used or not. The roots at its place are those that it asks for. Assumes nothing.
 use mathlib.Core.Bool.{Bool, true, false, ◌||◌, true≢false}
+use mathlib.Core.List.{List}
 use mathlib.Core.Path.{◌≡◌, refl, sym, ap, ◌∙◌}
 use lib.Ieee.{Float}
 use Rattle.base.specs.Choice.{if◌then◌otherwise◌}
 use Rattle.root.specs.Root.{root_of}
-use Rattle.root.specs.declared.ThreeRoots.{ThreeRoots}
 use Rattle.state.specs.State.{n, used}
 use Rattle.state.specs.declared.Vector.{Vector}
 use Rattle.gravity_pull.specs.Pull.{minus}
@@ -43,7 +43,7 @@ module _ (C : Vector) (s : Sight) (R : Vector) (by : Pull) (b : Other) where
   unused_is e r not-used = e ∙ rw (r, not-used)
 
 -- the roots at the places of two bodies
-pub roots_near : (P R S : Vector) (m k : Float) (by bz : Pull) (a b : Other) (roots : ThreeRoots)
+pub roots_near : (P R S : Vector) (m k : Float) (by bz : Pull) (a b : Other) (roots : List Float)
     → a ≡ other_by R m by → b ≡ other_by S k bz → roots ≡ near_roots P R S → roots ≡ near_roots P a.place b.place
 roots_near P R S m k by bz a b roots e f r = rw (e, f, place_of R m by, place_of S k bz) r
 

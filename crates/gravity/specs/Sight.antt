@@ -1,6 +1,7 @@
 -- What the code keeps for a moment about a centre: the other bodies, each with its pull on the centre, computed once.
 use Rattle.base.specs.declared.Refusal.{Refusal}
-use Rattle.std.specs.Prelude.{Bool, ◌||◌, List, [], ◌∷◌, ◌≡◌, ℕ, Float, Result, Ok}
+use Rattle.std.specs.Prelude.{Bool, ◌||◌, List, [], ◌∷◌, ◌≡◌, ℕ, Float, slice_index_or, Result, Ok}
+use Rattle.std.specs.Float.{nan}
 use Rattle.base.specs.Choice.{if◌then◌otherwise◌}
 use Rattle.base.specs.Checks.{Checked, ◌before◌}
 use Rattle.state.specs.State.{used, coefficient_of}
@@ -8,8 +9,7 @@ use Rattle.state.specs.declared.Vector.{Vector}
 use Rattle.state.specs.declared.Setting.{Setting}
 use Rattle.gravity_pull.specs.Pull.{minus}
 use Rattle.gravity_pull.specs.Sum.{pull_of, no_pull, less_all, start_by, vector_of, near_roots, RootFor}
-use Rattle.root.specs.declared.ThreeRoots.{ThreeRoots}
-use Rattle.root.specs.declared.SixRoots.{SixRoots}
+use Rattle.gravity_pull.specs.declared.CraftRoots.{CraftRoots}
 use Rattle.gravity_terms.specs.Added.{oblate_by, sunlit_by}
 use Rattle.gravity_pull.specs.declared.Pull.{Pull}
 use Rattle.gravity_pull.specs.declared.Other.{Other}
@@ -47,15 +47,15 @@ abbrev pub any_used : Float → Float → Float → Bool
 any_used a b c = used a || (used b || used c)
 
 -- the roots that three bodies ask for at P, each if the body is used
-pub record RootsFor (P : Vector) (a b c : Other) (roots : ThreeRoots) : Type 0 where
-  pub for_a : RootFor P a roots.a
-  pub for_b : RootFor P b roots.b
-  pub for_c : RootFor P c roots.c
+pub record RootsFor (P : Vector) (a b c : Other) (roots : List Float) : Type 0 where
+  pub for_a : RootFor P a (slice_index_or roots 0 nan)
+  pub for_b : RootFor P b (slice_index_or roots 1 nan)
+  pub for_c : RootFor P c (slice_index_or roots 2 nan)
 
 -- the roots that the centre and the bodies beside it ask for at P: the last three bodies each if it is used
-pub record RootsAt (P : Vector) (o : Others) (roots : SixRoots) : Type 0 where
-  pub near : roots.first ≡ near_roots P o.first.place o.second.place
-  pub later : RootsFor P o.third o.fourth o.fifth roots.second
+pub record RootsAt (P : Vector) (o : Others) (roots : CraftRoots) : Type 0 where
+  pub near : roots.near ≡ near_roots P o.first.place o.second.place
+  pub later : RootsFor P o.third o.fourth o.fifth roots.later
 
 abbrev pub entries_of : Found → Guesses
 entries_of f = record { moon = f.moon.entry; sun = f.sun.entry; venus = f.venus.entry; mars = f.mars.entry; jupiter = f.jupiter.entry }

@@ -28,9 +28,8 @@ pub use gravity_pull::pulls::difference;
 use gravity_pull::pulls::{
     far_pulls, less_by, near_sum, near_sum_by, six_roots_at, three_far_pulls,
 };
-use gravity_pull::{Other, Pull};
+use gravity_pull::{CraftRoots, Other, Pull};
 use gravity_terms::inner::{oblate_sum, sunlit_sum};
-use root::{SixRoots, ThreeRoots};
 use state::{Setting, Vector};
 
 fn found_in(book: &[u8], setting: Setting, moment: u64, guesses: Guesses, calm: bool) -> Found
@@ -132,11 +131,7 @@ fn last_seen(c: Vector, bodies: Besides, p: Vector) -> LastSeen
         z: 0.0,
         sound: true,
     };
-    let roots = ThreeRoots {
-        a: 0.0,
-        b: 0.0,
-        c: 0.0,
-    };
+    let roots = [0.0; 3];
     let third = other_by(d_place, d.m, none);
     let fourth = other_by(e_place, e.m, none);
     let fifth = other_by(f_place, f.m, none);
@@ -175,10 +170,7 @@ fn seen_from(c: Vector, bodies: Besides, p: Vector) -> OthersSeen
         fourth,
         fifth,
     };
-    let roots = SixRoots {
-        first: near,
-        second: later,
-    };
+    let roots = CraftRoots { near, later };
     OthersSeen { others, roots }
 }
 
@@ -255,7 +247,7 @@ pub fn acceleration_by(
     bodies: Sights,
     setting: Setting,
     p: Vector,
-    roots: SixRoots,
+    roots: CraftRoots,
 ) -> Result<Vector, Refusal>
     requires { RootsAt p bodies.others roots }
     ensures { result ≡ acceleration_by bodies setting p }
@@ -267,15 +259,15 @@ pub fn acceleration_by(
     let third = others.third;
     let fourth = others.fourth;
     let fifth = others.fifth;
-    let later = roots.second;
-    let near = near_sum_by(p, bodies.own, first, second, roots.first);
+    let later = roots.later;
+    let near = near_sum_by(p, bodies.own, first, second, roots.near);
     let sum = near.sum;
     let known = near.known;
-    let with_third = less_by(p, sum, third, later.a);
-    let with_fourth = less_by(p, with_third, fourth, later.b);
-    let all = less_by(p, with_fourth, fifth, later.c);
-    let with_earth = oblate_sum(setting, bodies.home, p, all, known);
-    settle(sunlit_sum(setting, bodies.sun, p, with_earth, known))
+    let with_third = less_by(p, sum, third, later[0]);
+    let with_fourth = less_by(p, with_third, fourth, later[1]);
+    let all = less_by(p, with_fourth, fifth, later[2]);
+    let with_earth = oblate_sum(setting, bodies.home, p, all, &known);
+    settle(sunlit_sum(setting, bodies.sun, p, with_earth, &known))
 }
 
 // The same without known roots. All roots are computed side by side: three, or six if one of the last three bodies is
@@ -305,8 +297,8 @@ pub fn acceleration_under(bodies: Sights, setting: Setting, p: Vector) -> Result
     let near = near_sum(p, bodies.own, first, second);
     let sum = near.sum;
     let known = near.known;
-    let with_earth = oblate_sum(setting, bodies.home, p, sum, known);
-    settle(sunlit_sum(setting, bodies.sun, p, with_earth, known))
+    let with_earth = oblate_sum(setting, bodies.home, p, sum, &known);
+    settle(sunlit_sum(setting, bodies.sun, p, with_earth, &known))
 }
 
 // The rule itself. The book is known to pass, and the centre is known to be a used body.

@@ -9,8 +9,7 @@ ghost use Rattle.std.specs.Prelude.{◌≡◌};
 ghost use Rattle.gravity.specs.Acceleration.{acceleration_answer};
 
 use base::{END_OF_TIME, Refusal};
-use gravity_pull::Other;
-use root::{SixRoots, ThreeRoots};
+use gravity_pull::{CraftRoots, Other};
 use state::{Setting, Vector};
 use state_checks::common_checks;
 
@@ -54,21 +53,21 @@ pub struct LastSeen {
     pub third: Other,
     pub fourth: Other,
     pub fifth: Other,
-    pub roots: ThreeRoots,
+    pub roots: [f64; 3],
 }
 
 // The bodies beside the centre, and the roots that a first position asks for.
 #[derive(Clone, Copy)]
 pub struct OthersSeen {
     pub others: Others,
-    pub roots: SixRoots,
+    pub roots: CraftRoots,
 }
 
 // What is kept of a moment, and the roots that a first position asks for.
 #[derive(Clone, Copy)]
 pub struct Seen {
     pub bodies: Sights,
-    pub roots: SixRoots,
+    pub roots: CraftRoots,
 }
 
 // The acceleration about a centre at a position, under a setting, at a moment of a book.

@@ -4,13 +4,12 @@ use Rattle.std.specs.Float.Ieee.{neg}
 use Rattle.base.specs.Choice.{if◌then◌otherwise◌}
 use Rattle.base.specs.Floats.{◌⊕◌, ◌⊖◌, ◌⊗◌, ◌⊘◌, zero64}
 use Rattle.root.specs.Root.{root_of, roots_of}
-use Rattle.root.specs.declared.ThreeRoots.{ThreeRoots}
-use Rattle.root.specs.declared.SixRoots.{SixRoots}
-use Rattle.root_known.specs.Known.{three_rooted_of}
+use Rattle.root_known.specs.Known.{rooted_of_all}
 use Rattle.state.specs.State.{n, used}
 use Rattle.state.specs.declared.Vector.{Vector}
 use Rattle.gravity_pull.specs.Pull.{g, sound, divisible, minus}
 use Rattle.gravity_pull.specs.declared.Pull.{Pull}
+use Rattle.gravity_pull.specs.declared.CraftRoots.{CraftRoots}
 use Rattle.gravity_pull.specs.declared.FarPulls.{FarPulls}
 use Rattle.gravity_pull.specs.declared.ThreeFarPulls.{ThreeFarPulls}
 use Rattle.gravity_pull.specs.declared.ThreePulls.{ThreePulls}
@@ -64,16 +63,16 @@ abbrev pub start_by : Vector → Float → Pull
 start_by P own = opposite (pull_of P own)
 
 -- the roots that the pulls on a craft at P ask for, of the centre and of bodies at u and v
-abbrev pub near_roots : Vector → Vector → Vector → ThreeRoots
-near_roots P u v = roots_of (n P) (n (minus P u)) (n (minus P v))
+abbrev pub near_roots : Vector → Vector → Vector → List Float
+near_roots P u v = roots_of (n P ∷ n (minus P u) ∷ n (minus P v) ∷ [])
 
 -- the pulls of two bodies on the centre, with those roots
 abbrev pub far_pulls_of : Vector → Vector → Float → Vector → Float → FarPulls
 far_pulls_of P u a v b = record { first = pull_of u a; second = pull_of v b; roots = near_roots P u v }
 
 -- the roots that the pulls of three bodies on a craft at P ask for
-abbrev pub other_roots : Vector → Vector → Vector → Vector → ThreeRoots
-other_roots P u v w = roots_of (n (minus P u)) (n (minus P v)) (n (minus P w))
+abbrev pub other_roots : Vector → Vector → Vector → Vector → List Float
+other_roots P u v w = roots_of (n (minus P u) ∷ n (minus P v) ∷ n (minus P w) ∷ [])
 
 -- the pulls of three bodies on the centre, with those roots
 abbrev pub three_far_pulls_of : Vector → Vector → Float → Vector → Float → Vector → Float → ThreeFarPulls
@@ -81,8 +80,8 @@ three_far_pulls_of P u a v b w c =
     record { first = pull_of u a; second = pull_of v b; third = pull_of w c; roots = other_roots P u v w }
 
 -- the roots of the centre and of five bodies
-abbrev pub six_roots_at : Vector → Vector → Vector → Vector → Vector → Vector → SixRoots
-six_roots_at P u v w x y = record { first = near_roots P u v; second = other_roots P w x y }
+abbrev pub six_roots_at : Vector → Vector → Vector → Vector → Vector → Vector → CraftRoots
+six_roots_at P u v w x y = record { near = near_roots P u v; later = other_roots P w x y }
 
 -- the root that the pull of a body on a craft at P asks for, if the body is used
 abbrev pub RootFor : Vector → Other → Float → Type 0
@@ -90,12 +89,12 @@ RootFor P b root = used b.m ≡ true → root ≡ root_of (n (minus P b.place))
 
 -- three pulls side by side, with each n and its root
 abbrev pub pulls_of : Vector → Float → Vector → Float → Vector → Float → ThreePulls
-pulls_of u a v b w c = record { first = pull_of u a; second = pull_of v b; third = pull_of w c; known = three_rooted_of (n u) (n v) (n w) }
+pulls_of u a v b w c = record { first = pull_of u a; second = pull_of v b; third = pull_of w c; known = rooted_of_all (n u ∷ n v ∷ n w ∷ []) }
 
 -- the centre and the first two other bodies, with each n and its root
 abbrev pub near_sum : Vector → Float → Other → Other → NearSum
 near_sum P own first second =
     record {
       sum = less_by P (less_by P (start_by P own) first) second;
-      known = three_rooted_of (n P) (n (minus P first.place)) (n (minus P second.place));
+      known = rooted_of_all (n P ∷ n (minus P first.place) ∷ n (minus P second.place) ∷ []);
     }

@@ -4,8 +4,7 @@
 
 pub mod pulls;
 
-use root::ThreeRoots;
-use root_known::ThreeRooted;
+use root_known::Rooted;
 use state::Vector;
 
 // A sum of pulls, and whether every length so far could be divided by.
@@ -22,7 +21,7 @@ pub struct Pull {
 pub struct FarPulls {
     pub first: Pull,
     pub second: Pull,
-    pub roots: ThreeRoots,
+    pub roots: [f64; 3],
 }
 
 // Three pulls, and three more roots that were worked out beside theirs.
@@ -31,7 +30,7 @@ pub struct ThreeFarPulls {
     pub first: Pull,
     pub second: Pull,
     pub third: Pull,
-    pub roots: ThreeRoots,
+    pub roots: [f64; 3],
 }
 
 // Three pulls, and the numbers whose roots they took.
@@ -40,14 +39,22 @@ pub struct ThreePulls {
     pub first: Pull,
     pub second: Pull,
     pub third: Pull,
-    pub known: ThreeRooted,
+    pub known: [Rooted; 3],
 }
 
 // A sum of three pulls, and the numbers whose roots it took.
 #[derive(Clone, Copy)]
 pub struct NearSum {
     pub sum: Pull,
-    pub known: ThreeRooted,
+    pub known: [Rooted; 3],
+}
+
+// The roots that the pulls on a craft ask for: of the centre and the first two bodies, and of the three bodies after
+// them.
+#[derive(Clone, Copy)]
+pub struct CraftRoots {
+    pub near: [f64; 3],
+    pub later: [f64; 3],
 }
 
 // A body other than the centre: its position seen from the centre, and its pull on the centre.

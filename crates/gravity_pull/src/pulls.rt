@@ -1,6 +1,6 @@
 // The pull of one body, and sums of pulls.
 
-ghost use Rattle.std.specs.Prelude.{◌≡◌, ◌&&◌, not};
+ghost use Rattle.std.specs.Prelude.{◌≡◌, ◌&&◌, not, [], ◌∷◌};
 ghost use Rattle.std.specs.Float.Ieee.{eq};
 ghost use Rattle.base.specs.Floats.{zero64};
 ghost use Rattle.state.specs.State.{n};
@@ -23,9 +23,10 @@ ghost use Rattle.gravity_pull.specs.Sum.{
   near_sum,
 };
 
-use crate::{FarPulls, NearSum, Other, Pull, ThreeFarPulls, ThreePulls};
-use root::{SixRoots, ThreeRoots};
-use root_known::{Rooted, ThreeRooted};
+use crate::{CraftRoots, FarPulls, NearSum, Other, Pull, ThreeFarPulls, ThreePulls};
+use root::inner::square_roots;
+use root_known::Rooted;
+use root_known::inner::{root_among, rooted};
 use state::Vector;
 
 pub fn both(a: bool, b: bool) -> bool
@@ -63,29 +64,22 @@ fn pull_by(v: Vector, m: f64, n: f64, root: f64) -> Pull
 }
 
 // The pull of a body that lies v away, if some roots are known already.
-pub fn pull_known(v: Vector, m: f64, known: ThreeRooted) -> Pull
-    requires { AreRoots known }
+pub fn pull_known(v: Vector, m: f64, known: &[Rooted]) -> Pull
+    requires { AreRoots known.now }
     ensures { result ≡ pull_of v m }
 {
     let n = state::square(v);
-    pull_by(v, m, n, root_known::inner::root_among(n, known))
+    pull_by(v, m, n, root_among(n, known))
 }
 
 // Three pulls at once: their roots are computed side by side, which takes little longer than one.
 fn three_pulls(u: Vector, a: f64, v: Vector, b: f64, w: Vector, c: f64) -> ThreePulls
     ensures { result ≡ pulls_of u a v b w c }
 {
-    let known = root_known::inner::three_rooted(
-        state::square(u),
-        state::square(v),
-        state::square(w),
-    );
-    let of_u = known.a;
-    let of_v = known.b;
-    let of_w = known.c;
-    let first = pull_by(u, a, of_u.n, of_u.root);
-    let second = pull_by(v, b, of_v.n, of_v.root);
-    let third = pull_by(w, c, of_w.n, of_w.root);
+    let known = rooted([state::square(u), state::square(v), state::square(w)]);
+    let first = pull_by(u, a, known[0].n, known[0].root);
+    let second = pull_by(v, b, known[1].n, known[1].root);
+    let third = pull_by(w, c, known[2].n, known[2].root);
     ThreePulls {
         first,
         second,
@@ -102,31 +96,31 @@ fn three_pulls_by(
     b: f64,
     w: Vector,
     c: f64,
-    roots: ThreeRoots,
+    roots: [f64; 3],
 ) -> ThreePulls
-    requires { roots ≡ roots_of (n u) (n v) (n w) }
+    requires { roots ≡ roots_of (n u ∷ n v ∷ n w ∷ []) }
     ensures { result ≡ pulls_of u a v b w c }
 {
     let n_u = state::square(u);
     let n_v = state::square(v);
     let n_w = state::square(w);
-    let first = pull_by(u, a, n_u, roots.a);
-    let second = pull_by(v, b, n_v, roots.b);
-    let third = pull_by(w, c, n_w, roots.c);
-    let known = ThreeRooted {
-        a: Rooted {
+    let first = pull_by(u, a, n_u, roots[0]);
+    let second = pull_by(v, b, n_v, roots[1]);
+    let third = pull_by(w, c, n_w, roots[2]);
+    let known = [
+        Rooted {
             n: n_u,
-            root: roots.a,
+            root: roots[0],
         },
-        b: Rooted {
+        Rooted {
             n: n_v,
-            root: roots.b,
+            root: roots[1],
         },
-        c: Rooted {
+        Rooted {
             n: n_w,
-            root: roots.c,
+            root: roots[2],
         },
-    };
+    ];
     ThreePulls {
         first,
         second,
@@ -163,16 +157,16 @@ pub fn far_pulls(p: Vector, u: Vector, a: f64, v: Vector, b: f64) -> FarPulls
 {
     let n_u = state::square(u);
     let n_v = state::square(v);
-    let five = root::inner::five_roots(
+    let five = square_roots([
         n_u,
         n_v,
         state::square(p),
         state::square(difference(p, u)),
         state::square(difference(p, v)),
-    );
-    let first = pull_by(u, a, n_u, five.a);
-    let second = pull_by(v, b, n_v, five.b);
-    let roots = five.others;
+    ]);
+    let first = pull_by(u, a, n_u, five[0]);
+    let second = pull_by(v, b, n_v, five[1]);
+    let roots = [five[2], five[3], five[4]];
     FarPulls {
         first,
         second,
@@ -195,19 +189,18 @@ pub fn three_far_pulls(
     let n_u = state::square(u);
     let n_v = state::square(v);
     let n_w = state::square(w);
-    let six = root::inner::six_roots(
+    let six = square_roots([
         n_u,
         n_v,
         n_w,
         state::square(difference(p, u)),
         state::square(difference(p, v)),
         state::square(difference(p, w)),
-    );
-    let far = six.first;
-    let first = pull_by(u, a, n_u, far.a);
-    let second = pull_by(v, b, n_v, far.b);
-    let third = pull_by(w, c, n_w, far.c);
-    let roots = six.second;
+    ]);
+    let first = pull_by(u, a, n_u, six[0]);
+    let second = pull_by(v, b, n_v, six[1]);
+    let third = pull_by(w, c, n_w, six[2]);
+    let roots = [six[3], six[4], six[5]];
     ThreeFarPulls {
         first,
         second,
@@ -217,17 +210,21 @@ pub fn three_far_pulls(
 }
 
 // All roots that the pulls on a craft at p ask for: of the centre, and of five bodies.
-pub fn six_roots_at(p: Vector, u: Vector, v: Vector, w: Vector, x: Vector, y: Vector) -> SixRoots
+pub fn six_roots_at(p: Vector, u: Vector, v: Vector, w: Vector, x: Vector, y: Vector) -> CraftRoots
     ensures { result ≡ six_roots_at p u v w x y }
 {
-    root::inner::six_roots(
+    let six = square_roots([
         state::square(p),
         state::square(difference(p, u)),
         state::square(difference(p, v)),
         state::square(difference(p, w)),
         state::square(difference(p, x)),
         state::square(difference(p, y)),
-    )
+    ]);
+    CraftRoots {
+        near: [six[0], six[1], six[2]],
+        later: [six[3], six[4], six[5]],
+    }
 }
 
 fn take_off(sum: Pull, near: Pull, far: Pull) -> Pull
@@ -290,7 +287,7 @@ pub fn near_sum(p: Vector, own: f64, first: Other, second: Other) -> NearSum
 }
 
 // The same sum, where its three roots are known.
-pub fn near_sum_by(p: Vector, own: f64, first: Other, second: Other, roots: ThreeRoots) -> NearSum
+pub fn near_sum_by(p: Vector, own: f64, first: Other, second: Other, roots: [f64; 3]) -> NearSum
     requires { roots ≡ near_roots p first.place second.place }
     ensures { result ≡ near_sum p own first second }
 {

@@ -6,7 +6,7 @@ ghost use Rattle.gravity_terms.specs.Added.{flattened_by, oblate_by, sunlit_by};
 
 use gravity_pull::Pull;
 use gravity_pull::pulls::{both, difference, pull_known};
-use root_known::ThreeRooted;
+use root_known::Rooted;
 use state::{Setting, Vector};
 
 // A sum minus the term of the oblate Earth. The Earth's pull at the position q is known.
@@ -26,8 +26,8 @@ fn flatten(setting: Setting, q: Vector, by: Pull, sum: Pull) -> Pull
 }
 
 // The roots that the sum took are known. `home` is the position of the Earth, seen from the centre.
-pub fn oblate_sum(setting: Setting, home: Vector, p: Vector, sum: Pull, known: ThreeRooted) -> Pull
-    requires { AreRoots known }
+pub fn oblate_sum(setting: Setting, home: Vector, p: Vector, sum: Pull, known: &[Rooted]) -> Pull
+    requires { AreRoots known.now }
     ensures { result ≡ oblate_by setting home p sum }
 {
     if 0.0 < setting.j {
@@ -38,8 +38,8 @@ pub fn oblate_sum(setting: Setting, home: Vector, p: Vector, sum: Pull, known: T
 }
 
 // The same for sunlight: `sun` is the position of the Sun, seen from the centre.
-pub fn sunlit_sum(setting: Setting, sun: Vector, p: Vector, sum: Pull, known: ThreeRooted) -> Pull
-    requires { AreRoots known }
+pub fn sunlit_sum(setting: Setting, sun: Vector, p: Vector, sum: Pull, known: &[Rooted]) -> Pull
+    requires { AreRoots known.now }
     ensures { result ≡ sunlit_by setting sun p sum }
 {
     if 0.0 < setting.k {

@@ -1,7 +1,7 @@
 -- Document 01, "Root, sine and cosine": "IEEE 754 squareRoot of a finite non-negative float, subnormals included; each zero gives itself", stated "over whole numbers, by comparing squares".
 -- `HasValue x false a c` says that x is finite, has no minus sign and is a / c.
 use Rattle.base.specs.declared.Refusal.{Refusal}
-use Rattle.std.specs.Prelude.{Bool, true, false, not, ◌||◌, ◌≡◌, ℕ, zero, suc, ◌*◌, ◌^◌, ◌≤◌, ◌<◌, T, pos, Float, Result, Ok, Err}
+use Rattle.std.specs.Prelude.{Bool, true, false, not, ◌||◌, ◌≡◌, ℕ, zero, suc, ◌*◌, ◌^◌, ◌≤◌, ◌<◌, T, pos, List, map, Float, Result, Ok, Err}
 use Rattle.std.specs.Float.{nan, inf, fin, binary64}
 use Rattle.std.specs.Float.Ieee.{low, lt, of_bits, fits}
 use Rattle.std.specs.Float.Ieee.Scale.{finite}
@@ -10,9 +10,6 @@ use Rattle.std.specs.Float.Ieee.Positive.{positive}
 use Rattle.base.specs.Choice.{if◌then◌otherwise◌}
 pub use Rattle.root_digits.specs.Nearest.{NearestRoot}
 unfoldable use Rattle.root.specs.Computed.{positive_root}
-use Rattle.root.specs.declared.ThreeRoots.{ThreeRoots}
-use Rattle.root.specs.declared.FiveRoots.{FiveRoots}
-use Rattle.root.specs.declared.SixRoots.{SixRoots}
 
 -- y is the square root of x, which is finite and above zero. x is n·4^k / 4^l, so the exact root is √n·2^k / 2^l. √n has the 53 binary
 -- digits that a float keeps, and y is q·2^k / 2^l for the whole number q nearest √n. (No root is so small that a float keeps fewer digits:
@@ -46,15 +43,9 @@ root_of (fin s zero e) = fin s zero e
 root_of (fin true (suc m) e) = nan
 root_of (fin false (suc m) e) = positive_root (low binary64) (suc m) e
 
--- three, five and six roots at once
-abbrev pub roots_of : Float → Float → Float → ThreeRoots
-roots_of a b c = record { a = root_of a; b = root_of b; c = root_of c }
-
-abbrev pub five_roots_of : Float → Float → Float → Float → Float → FiveRoots
-five_roots_of a b c d e = record { a = root_of a; b = root_of b; others = roots_of c d e }
-
-abbrev pub six_roots_of : Float → Float → Float → Float → Float → Float → SixRoots
-six_roots_of a b c d e f = record { first = roots_of a b c; second = roots_of d e f }
+-- roots side by side
+abbrev pub roots_of : List Float → List Float
+roots_of xs = map root_of xs
 
 -- below zero; -0.0 is not
 abbrev pub negative : Float → Bool

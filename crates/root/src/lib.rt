@@ -10,26 +10,6 @@ ghost use Rattle.root.specs.Root.{root_answer};
 
 use base::Refusal;
 
-#[derive(Clone, Copy)]
-pub struct ThreeRoots {
-    pub a: f64,
-    pub b: f64,
-    pub c: f64,
-}
-
-#[derive(Clone, Copy)]
-pub struct FiveRoots {
-    pub a: f64,
-    pub b: f64,
-    pub others: ThreeRoots,
-}
-
-#[derive(Clone, Copy)]
-pub struct SixRoots {
-    pub first: ThreeRoots,
-    pub second: ThreeRoots,
-}
-
 // The root of a finite float that is not negative, or refusal 11.
 pub fn root(x: f64) -> Result<f64, Refusal>
     ensures { result ≡ root_answer x }

@@ -1,3 +1,4 @@
 pub mod Powers
 pub mod WholeRoots
+pub mod Maps
 pub mod Turns

@@ -1,58 +1,48 @@
--- The weights of the digit loop: powers of four, from 2^52 down to 1. Assumes nothing.
-use Rattle.std.proofs.Common.{◌≡◌, ℕ, zero, suc, ◌*◌, ◌/◌, ◌%◌, ◌^◌, ◌<◌, ◌≤◌, refl, ◌∙◌, subst, arith}
+-- The lanes of the digit loop, and its weights: powers of four, from 2^52 down to 1. Assumes nothing.
+use Rattle.std.proofs.Common.{List, length, get_or, set, ◌≡◌, ℕ, suc, ◌+◌, ◌-◌, ◌*◌, ◌/◌, ◌%◌, ◌^◌, ◌<◌, ◌≤◌, ap, ◌∙◌, subst, arith}
 use native.Mathlib.Nat.{pow-succ'}
-use Rattle.root_digits.specs.Digits.{LaneOf, Turning, Turned, EndsAt, HasDigits, LanesOf, ThreeTurning, ThreeEndAt, NearestOf}
+use Rattle.root_digits.specs.declared.Lane.{Lane}
+use Rattle.root_digits.specs.Digits.{LaneOf, Turning, Turned, EndsAt}
 use Rattle.root_digits.specs.Nearest.{nearest_root}
-use Rattle.root_digits.specs.declared.ThreeLanes.{ThreeLanes}
-use Rattle.root_digits.specs.declared.ThreeNumbers.{ThreeNumbers}
-use Rattle.root_digits.proofs.Powers.{four_pos}
+use Rattle.root_digits.proofs.Maps.{set_more}
 
-abbrev pub Weight : ℕ → Type 0
-Weight g = (i : ℕ) × (g ≡ 4 ^ i)
+-- the weight before turn k
+abbrev pub weight : ℕ → ℕ
+weight k = 4 ^ (26 - k)
 
--- the loop's steps: a weight above 1 has a next
-record Next (g : ℕ) : Type 0 where
-  whole : g % 4 ≡ 0
-  less : g / 4 < g
-  weight : Weight (g / 4)
+quarter : (k : ℕ) → k < 26 → weight k ≡ 4 * weight (k + 1)
+quarter k h = let e : 26 - k ≡ suc (26 - (k + 1)) = omega arith in ap (λ (z : ℕ). 4 ^ z) e ∙ pow-succ' 4 (26 - (k + 1))
 
-next : (g : ℕ) → Weight g → 1 < g → Next g
-next g (zero, e) h = absurd (omega arith)
-next g (suc i, e) h = let f : g ≡ 4 * 4 ^ i = e ∙ pow-succ' 4 i in record { whole = omega arith; less = omega arith; weight = (i, omega arith) }
+pub next : (k g : ℕ) → g ≡ weight k → k < 26 → g / 4 ≡ weight (k + 1)
+next k g e h = omega (arith, quarter k h)
 
-pub falls : {g : ℕ} → Weight g → 1 < g → g / 4 < g
-falls {g} i h = (next g i h).less
+whole : (k g : ℕ) → g ≡ weight k → k < 26 → g % 4 ≡ 0
+whole k g e h = omega (arith, quarter k h)
 
-pub weight : {g : ℕ} → Weight g → 1 < g → Weight (g / 4)
-weight {g} i h = (next g i h).weight
-
-pub turning : {n g v t : ℕ} → LaneOf n g v t → Weight g → 1 < g → Turning 4 g v t
-turning {n} {g} l i h = record { n = n; lane = l; whole = (next g i h).whole }
+pub turning : {n g v t : ℕ} (k : ℕ) → LaneOf n g v t → g ≡ weight k → k < 26 → Turning 4 g v t
+turning {n} {g} k l e h = record { n = n; lane = l; whole = whole k g e h }
 
 -- a lane whose weight is written differently
 pub at : {n g h v t : ℕ} → g ≡ h → LaneOf n g v t → LaneOf n h v t
 at {n} {g} {h} {v} {t} e l = subst (λ (z : ℕ). LaneOf n z v t) e l
 
--- the loop's end: a weight that is not above 1 is 1
-pub ended : {n g v t : ℕ} → LaneOf n g v t → Weight g → g ≤ 1 → LaneOf n 1 v t
-ended l (i, e) h = at (omega (arith, four_pos i)) l
+-- after the last turn the weight is 1
+ended : {n g v t : ℕ} (k : ℕ) → LaneOf n g v t → g ≡ weight k → 26 ≤ k → LaneOf n 1 v t
+ended k l e h = let z : 26 - k ≡ 0 = omega arith in at (e ∙ ap (λ (i : ℕ). 4 ^ i) z) l
 
-pub turned : {n g v t : ℕ} → LaneOf n g v t → Weight g → g ≤ 1 → Turned v t
-turned {n} l i h = record { n = n; lane = ended l i h }
+pub turned : {n g v t : ℕ} (k : ℕ) → LaneOf n g v t → g ≡ weight k → 26 ≤ k → Turned v t
+turned {n} k l e h = record { n = n; lane = ended k l e h }
 
-pub found : {m g v t r : ℕ} → EndsAt v t r → m < 2 ^ 54 → LaneOf (m * 2 ^ 52) g v t → Weight g → g ≤ 1 → r ≡ nearest_root (m * 2 ^ 52)
-found {m} e b l i h = e (m * 2 ^ 52) (omega arith) (ended l i h)
+pub found : {m g v t r : ℕ} (k : ℕ) → EndsAt v t r → m < 2 ^ 54 → LaneOf (m * 2 ^ 52) g v t → g ≡ weight k → 26 ≤ k → r ≡ nearest_root (m * 2 ^ 52)
+found {m} k f b l e h = f (m * 2 ^ 52) (omega arith) (ended k l e h)
 
--- ---- the same for three lanes
+-- ---- lanes side by side
 
-pub three_turning : {a b c g : ℕ} {s : ThreeLanes} → LanesOf a b c g s → Weight g → 1 < g → ThreeTurning 4 g s
-three_turning {a} {b} {c} {g} l i h = record { a = a; b = b; c = c; lanes = l; whole = (next g i h).whole }
+-- the lane at k is that of m·2^52, for the number m at k
+abbrev pub AtLane : List ℕ → ℕ → List Lane → ℕ → Type 0
+AtLane ms g lanes k = (d : Lane) → LaneOf (get_or ms k 0 * 2 ^ 52) g (get_or lanes k d).v (get_or lanes k d).t
 
-three_ended : {a b c g : ℕ} {s : ThreeLanes} → LanesOf a b c g s → Weight g → g ≤ 1 → LanesOf a b c 1 s
-three_ended l i h = record { of_a = ended l.of_a i h; of_b = ended l.of_b i h; of_c = ended l.of_c i h }
-
-pub three_turned : {a b c g : ℕ} {s : ThreeLanes} → LanesOf a b c g s → Weight g → g ≤ 1 → ThreeTurning 1 1 s
-three_turned {a} {b} {c} l i h = record { a = a; b = b; c = c; lanes = three_ended l i h; whole = refl }
-
-pub three_found : {a b c g : ℕ} {s : ThreeLanes} {r : ThreeNumbers} → ThreeEndAt s r → HasDigits a × HasDigits b × HasDigits c → LanesOf a b c g s → Weight g → g ≤ 1 → NearestOf a b c r
-three_found {a} {b} {c} e d l i h = e a b c d (three_ended l i h)
+-- one more lane is found
+pub lanes_more : (ms : List ℕ) (g : ℕ) (lanes : List Lane) (i : ℕ) (s : Lane) → ((k : ℕ) → k < i → AtLane ms g lanes k) →
+    LaneOf (get_or ms i 0 * 2 ^ 52) g s.v s.t → i < length lanes → (k : ℕ) → k < i + 1 → AtLane ms g (set lanes i s) k
+lanes_more ms g lanes i s f l h = set_more (λ k (z : Lane). LaneOf (get_or ms k 0 * 2 ^ 52) g z.v z.t) lanes i s h f l

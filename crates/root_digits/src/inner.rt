@@ -1,22 +1,13 @@
-// Roots of 53 binary digits, found from the highest digit down: one root, or three or five side by side.
+// Roots of 53 binary digits, found from the highest digit down, for any number of floats side by side.
 
-ghost use Rattle.std.specs.Prelude.{◌≡◌, ◌*◌, ◌^◌, ◌<◌, ◌≤◌};
-ghost use Rattle.root_digits.specs.Nearest.{nearest_root};
-ghost use Rattle.root_digits.specs.Digits.{
-  LaneOf,
-  Turning,
-  TurnsTo,
-  Turned,
-  EndsAt,
-  HasDigits,
-  LanesOf,
-  ThreeTurning,
-  ThreeTurnTo,
-  ThreeEndAt,
-  NearestOf,
-};
+ghost use Rattle.std.specs.Prelude.{◌≡◌, ◌*◌, ◌^◌, ◌<◌, ◌≤◌, map};
+ghost use Rattle.std.specs.List.{All};
+ghost use Rattle.root_digits.specs.Digits.{LaneOf, Turning, TurnsTo, Turned, EndsAt, HasDigits, nearest_of};
 
-use crate::{FiveNumbers, LEADING, Lane, SixNumbers, ThreeLanes, ThreeNumbers};
+use crate::{LEADING, Lane};
+
+// Two digits a turn, after the first of 53.
+const TURNS: u64 = 26;
 
 // The lane with the digit of weight g / 2 found. The digit is 1 if the difference does not wrap. The test is on the
 // sign, because the compiler makes no branch of it.
@@ -66,111 +57,25 @@ fn last(s: Lane) -> u64
     if q < w { q + 1 } else { q }
 }
 
-// The whole number nearest the root of m·2^52.
-pub fn nearest_root(m: u64) -> u64
-    requires { (2 ^ 52 ≤ m) × (m < 2 ^ 54) }
-    ensures { result ≡ nearest_root (m * 2 ^ 52) }
+// The whole numbers nearest the roots of m·2^52, for each m. The lanes do not wait for each other.
+pub fn nearest_roots<const N: usize>(digits: [u64; N]) -> [u64; N]
+    requires { All HasDigits digits }
+    ensures { result ≡ map nearest_of digits.entry }
 {
-    let mut s = first(m);
+    let mut lanes = [Lane { v: 0, t: 0 }; N];
+    for (k, s) in lanes.iter_mut().enumerate() {
+        *s = first(digits[k]);
+    }
     let mut g: u64 = LEADING;
-    while 1 < g {
-        s = two_turns(s, g);
+    for _ in 0..TURNS {
+        for s in lanes.iter_mut() {
+            *s = two_turns(*s, g);
+        }
         g = g >> 2;
     }
-    last(s)
-}
-
-fn three_firsts(a: u64, b: u64, c: u64) -> ThreeLanes
-    requires { HasDigits a × HasDigits b × HasDigits c }
-    ensures { LanesOf a b c (2 ^ 52) result }
-{
-    ThreeLanes {
-        a: first(a),
-        b: first(b),
-        c: first(c),
+    let mut roots = digits;
+    for (k, root) in roots.iter_mut().enumerate() {
+        *root = last(lanes[k]);
     }
-}
-
-// Two more digits in each of three lanes.
-fn three_turns(s: ThreeLanes, g: u64) -> ThreeLanes
-    requires { ThreeTurning 4 g s }
-    ensures { ThreeTurnTo 4 g s result }
-{
-    let a = s.a;
-    let b = s.b;
-    let c = s.c;
-    ThreeLanes {
-        a: two_turns(a, g),
-        b: two_turns(b, g),
-        c: two_turns(c, g),
-    }
-}
-
-fn three_lasts(s: ThreeLanes) -> ThreeNumbers
-    requires { ThreeTurning 1 1 s }
-    ensures { ThreeEndAt s result }
-{
-    let a = s.a;
-    let b = s.b;
-    let c = s.c;
-    ThreeNumbers {
-        a: last(a),
-        b: last(b),
-        c: last(c),
-    }
-}
-
-// The same for three numbers, in one loop. The lanes do not wait for each other.
-pub fn three_nearest_roots(a: u64, b: u64, c: u64) -> ThreeNumbers
-    requires { HasDigits a × HasDigits b × HasDigits c }
-    ensures { NearestOf a b c result }
-{
-    let mut s = three_firsts(a, b, c);
-    let mut g: u64 = LEADING;
-    while 1 < g {
-        s = three_turns(s, g);
-        g = g >> 2;
-    }
-    three_lasts(s)
-}
-
-// The same for five numbers.
-pub fn five_nearest_roots(a: u64, b: u64, c: u64, d: u64, e: u64) -> FiveNumbers
-    requires { (HasDigits a × HasDigits b) × (HasDigits c × HasDigits d × HasDigits e) }
-    ensures { (result.a ≡ nearest_root (a * 2 ^ 52)) × (result.b ≡ nearest_root (b * 2 ^ 52)) × NearestOf c d e result.others }
-{
-    let mut s = first(a);
-    let mut t = first(b);
-    let mut u = three_firsts(c, d, e);
-    let mut g: u64 = LEADING;
-    while 1 < g {
-        s = two_turns(s, g);
-        t = two_turns(t, g);
-        u = three_turns(u, g);
-        g = g >> 2;
-    }
-    let others = three_lasts(u);
-    FiveNumbers {
-        a: last(s),
-        b: last(t),
-        others,
-    }
-}
-
-// The same for six numbers.
-pub fn six_nearest_roots(a: u64, b: u64, c: u64, d: u64, e: u64, f: u64) -> SixNumbers
-    requires { (HasDigits a × HasDigits b × HasDigits c) × (HasDigits d × HasDigits e × HasDigits f) }
-    ensures { NearestOf a b c result.first × NearestOf d e f result.second }
-{
-    let mut s = three_firsts(a, b, c);
-    let mut t = three_firsts(d, e, f);
-    let mut g: u64 = LEADING;
-    while 1 < g {
-        s = three_turns(s, g);
-        t = three_turns(t, g);
-        g = g >> 2;
-    }
-    let first = three_lasts(s);
-    let second = three_lasts(t);
-    SixNumbers { first, second }
+    roots
 }

@@ -3,30 +3,24 @@
 
 ghost use Rattle.std.specs.Prelude.{◌≡◌, true};
 ghost use Rattle.root.specs.Root.{root_of};
-ghost use Rattle.root_known.specs.Known.{same_above, three_rooted_of, AreRoots};
+ghost use Rattle.root_known.specs.Known.{same_above, rooted_of_all, AreRoots};
 
-use crate::{Rooted, ThreeRooted};
+use crate::Rooted;
 use root::inner::{square_root, square_roots};
 
-// Three roots side by side, each kept with its number.
-pub fn three_rooted(a: f64, b: f64, c: f64) -> ThreeRooted
-    ensures { result ≡ three_rooted_of a b c }
+// Roots side by side, each kept with its number.
+pub fn rooted<const N: usize>(ns: [f64; N]) -> [Rooted; N]
+    ensures { result ≡ rooted_of_all ns.entry }
 {
-    let roots = square_roots(a, b, c);
-    ThreeRooted {
-        a: Rooted {
-            n: a,
-            root: roots.a,
-        },
-        b: Rooted {
-            n: b,
-            root: roots.b,
-        },
-        c: Rooted {
-            n: c,
-            root: roots.c,
-        },
+    let roots = square_roots(ns);
+    let mut known = [Rooted { n: 0.0, root: 0.0 }; N];
+    for (k, r) in known.iter_mut().enumerate() {
+        *r = Rooted {
+            n: ns[k],
+            root: roots[k],
+        };
     }
+    known
 }
 
 // Whether two floats are the same float above zero. Zeros are left out: 0.0 equals -0.0, but each is its own root.
@@ -42,21 +36,14 @@ fn same_above_zero(a: f64, b: f64) -> bool
 }
 
 // The root of n: taken from the known ones if n is among them, else computed.
-pub fn root_among(n: f64, known: ThreeRooted) -> f64
-    requires { AreRoots known }
+pub fn root_among(n: f64, known: &[Rooted]) -> f64
+    requires { AreRoots known.now }
     ensures { result ≡ root_of n }
 {
-    let a = known.a;
-    if same_above_zero(n, a.n) {
-        return a.root;
-    }
-    let b = known.b;
-    if same_above_zero(n, b.n) {
-        return b.root;
-    }
-    let c = known.c;
-    if same_above_zero(n, c.n) {
-        return c.root;
+    for r in known {
+        if same_above_zero(n, r.n) {
+            return r.root;
+        }
     }
     square_root(n)
 }

@@ -9,10 +9,3 @@ pub struct Rooted {
     pub n: f64,
     pub root: f64,
 }
-
-#[derive(Clone, Copy)]
-pub struct ThreeRooted {
-    pub a: Rooted,
-    pub b: Rooted,
-    pub c: Rooted,
-}

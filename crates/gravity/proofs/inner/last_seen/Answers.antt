@@ -1,5 +1,7 @@
 -- `gravity::inner::last_seen` meets its contract. Assumes nothing.
 use mathlib.Core.Path.{sym, ap, ◌∙◌}
+use lib.Ieee.{nan}
+use lib.ListN.{get_or}
 use Rattle.gravity_pull.specs.declared.ThreeFarPulls.{ThreeFarPulls}
 use Rattle.gravity.proofs.Places.{other_is, unused_is, root_for, no_root, none_used}
 use Rattle.gravity.proofs.inner.last_seen.Goals as goal
@@ -15,9 +17,9 @@ returns-then-any_used c = let p = c.three_far_pulls-pulls.ensures in
         other_is _ _ _ _ _ e3 c.difference-f_place.ensures (ap (λ (r : ThreeFarPulls). r.third) p),
       );
       roots_for = record {
-        for_a = root_for _ _ _ _ _ _ e1 (ap (λ (r : ThreeFarPulls). r.roots.a) p);
-        for_b = root_for _ _ _ _ _ _ e2 (ap (λ (r : ThreeFarPulls). r.roots.b) p);
-        for_c = root_for _ _ _ _ _ _ e3 (ap (λ (r : ThreeFarPulls). r.roots.c) p);
+        for_a = root_for _ _ _ _ _ _ e1 (ap (λ (r : ThreeFarPulls). get_or r.roots 0 nan) p);
+        for_b = root_for _ _ _ _ _ _ e2 (ap (λ (r : ThreeFarPulls). get_or r.roots 1 nan) p);
+        for_c = root_for _ _ _ _ _ _ e3 (ap (λ (r : ThreeFarPulls). get_or r.roots 2 nan) p);
       };
     }
 

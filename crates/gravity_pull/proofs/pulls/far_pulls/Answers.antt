@@ -10,7 +10,7 @@ returns c = let roots = c.before in
     rw (
       c.pull_by-second.ensures,
       c.pull_by-first.ensures,
-      roots.five_roots-five.ensures,
+      roots.square_roots-five.ensures,
       near.square-3.ensures,
       near.difference-2.ensures,
       near.square-2.ensures,

@@ -9,7 +9,7 @@ returns c = let pulls = c.before in
     let roots = pulls.before in
     let near = roots.before in
     let far = near.before in
-    rw (c.pull_by-third.ensures, c.pull_by-second.ensures, pulls.pull_by-first.ensures, roots.six_roots-six.ensures)
+    rw (c.pull_by-third.ensures, c.pull_by-second.ensures, pulls.pull_by-first.ensures, roots.square_roots-six.ensures)
     (rw (near.square-3.ensures, near.difference-3.ensures, near.square-2.ensures)
     (rw (near.difference-2.ensures, near.square.ensures)
     (rw (near.difference.ensures, far.square-n_w.ensures)

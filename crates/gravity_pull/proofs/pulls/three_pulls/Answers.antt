@@ -11,7 +11,7 @@ returns c = let roots = c.before in
       c.pull_by-third.ensures,
       c.pull_by-second.ensures,
       c.pull_by-first.ensures,
-      roots.three_rooted-known.ensures,
+      roots.rooted-known.ensures,
       squares.square-3.ensures,
       squares.square-2.ensures,
       squares.square.ensures,
