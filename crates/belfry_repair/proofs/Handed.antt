@@ -2,6 +2,7 @@
 use Prim.Native.Nat.{ℕ}
 use mathlib.Core.List.{List}
 use mathlib.Core.Path.{◌≡◌, sym, ap, ◌∙◌}
+use Rattle.base.specs.Refusals.{number_of}
 use Rattle.base.specs.declared.Refusal.{Refusal}
 use Rattle.std.specs.Prelude.{Result, Ok, Err}
 use Rattle.repair_book.specs.Repaired.{Outcome, outcome_of}
@@ -13,5 +14,5 @@ module _ (before output fates : List ℕ) (o : Outcome) (answer : Result Report 
   written r report d e =
       ap (λ (x : List ℕ). repair_memory 0 output fates x) e ∙ ap (λ (a : Result Report Refusal). of_repair before (outcome_of a output fates)) (sym d) ∙ ap (of_repair before) left
 
-  pub refused : (k : Refusal) → answer ≡ Err k → repair_memory k output fates before ≡ of_repair before o
+  pub refused : (k : Refusal) → answer ≡ Err k → repair_memory (number_of k) output fates before ≡ of_repair before o
   refused k d = ap (λ (a : Result Report Refusal). of_repair before (outcome_of a output fates)) (sym d) ∙ ap (of_repair before) left
