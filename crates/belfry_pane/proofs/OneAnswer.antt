@@ -6,7 +6,7 @@ use Rattle.c_answer.specs.Handed.{Handed, handed}
 use Rattle.c_run.specs.Lent.{state_of}
 use Rattle.pane_live.specs.Pane.{take, clear, frame_at}
 use Rattle.pane_motion.specs.Motion.{motion_at}
-use Rattle.c_pane.specs.Lent.{Kept, kept_in, pane_of, pane_in, fed, left}
+use Rattle.c_pane.specs.Lent.{Kept, kept_in, pane_of, pane_in, fed_with, left}
 use Rattle.belfry_pane.specs.Answers.{FrameMemory, framed, of_frame, MotionMemory, in_motion, of_motion}
 use Rattle.belfry_pane.specs.contracts.belfry_clear as clear_call
 use Rattle.belfry_pane.specs.contracts.belfry_take as take_call
@@ -43,7 +43,7 @@ feed_answers_once =
     let numbers = inputs.1.1.1.1.0.now in
     let places = inputs.1.1.1.1.1.0.now in
     left (kept_in numbers places)
-    (fed (pane_of numbers places) inputs.0 (state_of inputs.1.0 inputs.1.1.0 inputs.1.1.1.0.now)))
+    (fed_with (pane_of numbers places) inputs.0 (state_of inputs.1.0 inputs.1.1.0 inputs.1.1.1.0.now)))
     (λ M 𝓤 𝓛 mem run κs inputs g r after. refl)
 
 abbrev tell_frame : Tell frame_call.ended (λ κs. FrameMemory)

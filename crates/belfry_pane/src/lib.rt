@@ -12,7 +12,7 @@ ghost use Rattle.c_answer.specs.Handed.{handed};
 ghost use Rattle.c_run.specs.Lent.{state_of};
 ghost use Rattle.pane_live.specs.Pane.{take, clear, frame_at};
 ghost use Rattle.pane_motion.specs.Motion.{motion_at};
-ghost use Rattle.c_pane.specs.Lent.{kept_in, pane_of, pane_in, fed, left};
+ghost use Rattle.c_pane.specs.Lent.{kept_in, pane_of, pane_in, fed_with, left};
 ghost use Rattle.belfry_pane.specs.Answers.{framed, of_frame, in_motion, of_motion};
 
 use c_pane::{keep, pane_of};
@@ -57,7 +57,7 @@ pub extern "C" fn belfry_feed(
     places: &mut [f64; 18],
 ) -> u64
     ensures { handed result (kept_in pane.new places.new) ≡ left (kept_in pane.old places.old)
-        (fed (pane_of pane.old places.old) answer (state_of moment centre coordinates.now)) }
+        (fed_with (pane_of pane.old places.old) answer (state_of moment centre coordinates.now)) }
 {
     let before = pane_of(*pane, *places);
     let state = c_run::state_of(moment, centre, *coordinates);

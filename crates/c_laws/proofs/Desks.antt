@@ -48,7 +48,7 @@ use Rattle.belfry_book.proofs.Told.{returned_0}
 use Rattle.c_answer.specs.Handed.{handed, answered}
 use Rattle.c_run.specs.Lent.{state_of, guesses_of, whole_in}
 use Rattle.c_run.specs.Answers.{outcome_number, of_move}
-use Rattle.c_pane.specs.Lent.{Kept, pane_of, flown_to, left}
+use Rattle.c_pane.specs.Lent.{Kept, pane_of, fed_with, left}
 use Rattle.belfry_pane.specs.Answers.{late, empty, of_frame, of_motion}
 use Rattle.c_laws.specs.Table.{tabled, in_table}
 use Rattle.c_laws.specs.Linked.{LinkedCall, as_call}
@@ -70,20 +70,20 @@ left_reads kept taken.Unchanged = refl
 left_reads kept (taken.Refused k) = refl
 
 -- a frame is refused only with 7
-by_seven : (pane : Pane) (t : ℕ) (k : Refusal) → frame_at pane t ≡ frame.Refused k → k ≡ 7
+by_seven : (pane : Pane) (t : ℕ) (k : Refusal) → frame_at pane t ≡ frame.Refused k → k ≡ Refusal.NotFinite
 unfolding frame_at
 by_seven Blank t k e = let z : ◌≡◌ {A = ℕ} 0 1 = cc in absurd (omega arith)
 by_seven (One a) t k e = let z : ◌≡◌ {A = ℕ} 0 1 = cc in absurd (omega arith)
 by_seven (Two a b) t k e = go (b.moment <? t) (t <? a.moment) (finite_vector (figure a b t)) e
   where
     go : (late early fin : Bool)
-        → (if late then frame.Late (t - b.moment) otherwise if early then frame.Empty otherwise if fin then frame.Current (figure a b t) otherwise frame.Refused Refusal.NotFinite) ≡ frame.Refused k → k ≡ 7
+        → (if late then frame.Late (t - b.moment) otherwise if early then frame.Empty otherwise if fin then frame.Current (figure a b t) otherwise frame.Refused Refusal.NotFinite) ≡ frame.Refused k → k ≡ Refusal.NotFinite
     go true early fin e = let z : ◌≡◌ {A = ℕ} 0 1 = cc in absurd (omega arith)
     go false true fin e = let z : ◌≡◌ {A = ℕ} 0 1 = cc in absurd (omega arith)
     go false false true e = let z : ◌≡◌ {A = ℕ} 0 1 = cc in absurd (omega arith)
     go false false false e = cc
 
-moving_by_seven : (pane : Pane) (t : ℕ) (k : Refusal) → motion_at pane t ≡ motion.Refused k → k ≡ 7
+moving_by_seven : (pane : Pane) (t : ℕ) (k : Refusal) → motion_at pane t ≡ motion.Refused k → k ≡ Refusal.NotFinite
 moving_by_seven pane t k e = ⊎_elim (by_seven pane t k) (λ alone. alone.0) (((same_frame pane t).refused k).0 e)
 
 in_hand : (s : Held) (hand : List Held) → HeldIn s hand → InHand (state_in s) (map state_in hand)
@@ -108,9 +108,9 @@ module _ (m extras : List Float) (dut rule : ℕ) where
   fed_reads b h target s call kept =
       let pane = pane_of kept.numbers kept.places in
       let r = answer_of b h target s call in
-      left_reads kept (feed pane (flown_to (outcome_number r.outcome) (state_in (flown s (flight m extras dut rule b h target s call)))))
-      ∙ ap (λ (x : State). after pane (feed pane (flown_to (outcome_number r.outcome) x))) (flight_reads b h target s call)
-      ∙ ap (after pane) (fed_as_answered pane r (run_told b setting (state_in s) h target call.budget (guesses_of call.guesses)))
+      left_reads kept (fed_with pane (outcome_number r.outcome) (state_in (flown s (flight m extras dut rule b h target s call))))
+      ∙ ap (λ (x : State). after pane (fed_with pane (outcome_number r.outcome) x)) (flight_reads b h target s call)
+      ∙ ap (after pane) (fed_as_answered pane r)
 
   -- a move that returned 0 was accepted, and what it wrote reads as the moved state
   pub record Moves (b : List ℕ) (s : Held) (centre : ℕ) (before : List Float) : Type 0 where

@@ -4,13 +4,12 @@ use mathlib.Core.Bool.{Bool, true}
 use mathlib.Core.List.{List, [], ◌∷◌, map}
 use mathlib.Core.Path.{◌≡◌, refl, ap, ◌∙◌}
 use Prim.Native.Nat.{ℕ, ◌-◌, ◌≤◌, ◌<◌}
-use native.Mathlib.Omega.{arith}
 use lib.Ieee.{Float}
-use borrow.Author.Tests.{leb-true, ne_eqb}
+use Rattle.std.specs.Prelude.{Some}
+use Rattle.base.specs.Refusals.{number_of}
 use Rattle.base.specs.declared.Refusal.{Refusal}
-use Rattle.base.specs.Choice.{◌<?◌, ◌≤?◌}
+use Rattle.base.specs.Choice.{◌<?◌}
 use Rattle.base.proofs.Cases.{by_if}
-use Rattle.base.proofs.Bools as bools
 use Rattle.state.specs.State.{finite_vector}
 use Rattle.state.specs.declared.State.{State}
 use Rattle.state.specs.declared.Setting.{Setting}
@@ -27,12 +26,10 @@ use Rattle.pane_live.specs.declared.TakeAnswer.TheVariants as taken
 use Rattle.pane_live.specs.declared.FrameAnswer.{FrameAnswer}
 use Rattle.c_run.specs.Lent.{setting_of, state_of, guesses_of, whole_in}
 use Rattle.c_run.specs.Answers.{outcome_number}
-use Rattle.c_pane.specs.Lent.{Kept, pane_of, numbers_in, places_in, pane_in, outcome_of, flown_to, left}
+use Rattle.c_pane.specs.Lent.{Kept, pane_of, numbers_in, places_in, pane_in, outcome_of, fed_with_outcome, fed_with, left}
 use Rattle.belfry_pane.specs.Answers.{of_frame}
-use Rattle.c_laws.specs.Table.{outcome_told}
 use Rattle.c_laws.specs.Linked.{LinkedCall, as_call, linked_journey}
 use Rattle.c_laws.specs.Panes.{fed_in, taken_or18, fed_or18, frame_told}
-use Rattle.c_laws.proofs.Numbers.{run_told}
 use Rattle.c_laws.proofs.Journeys.{state_reads_back}
 
 pub pane_reads_back : (pane : Pane) → pane_of (numbers_in pane) (places_in pane) ≡ pane
@@ -41,18 +38,35 @@ pane_reads_back (One a) = refl
 pane_reads_back (Two a b) = refl
 
 -- what a run returned reads back as its outcome
-outcome_reads_back : (o : Outcome) → outcome_told o ≡ true → outcome_of (outcome_number o) ≡ o
-outcome_reads_back Outcome.Arrived e = refl
-outcome_reads_back Outcome.Going e = refl
-outcome_reads_back (Outcome.Refused k) e =
-    let least : 1 ≤ k = leb-true 1 k (bools.left (1 ≤? k) (k ≤? 18) e) in
-    let most : k ≤ 18 = leb-true k 18 (bools.right (1 ≤? k) (k ≤? 18) e) in
-    rw (ne_eqb k 0 (λ z. absurd (omega arith)), ne_eqb k 100 (λ z. absurd (omega arith)))
+refusal_reads_back : (k : Refusal) → outcome_of (number_of k) ≡ Some (Outcome.Refused k)
+refusal_reads_back Refusal.Book = refl
+refusal_reads_back Refusal.Step = refl
+refusal_reads_back Refusal.Moment = refl
+refusal_reads_back Refusal.Setting = refl
+refusal_reads_back Refusal.Target = refl
+refusal_reads_back Refusal.Cover = refl
+refusal_reads_back Refusal.NotFinite = refl
+refusal_reads_back Refusal.Date = refl
+refusal_reads_back Refusal.Parabola = refl
+refusal_reads_back Refusal.StraightLine = refl
+refusal_reads_back Refusal.Root = refl
+refusal_reads_back Refusal.Angle = refl
+refusal_reads_back Refusal.Listing = refl
+refusal_reads_back Refusal.Centre = refl
+refusal_reads_back Refusal.Stored = refl
+refusal_reads_back Refusal.Short = refl
+refusal_reads_back Refusal.Large = refl
+refusal_reads_back Refusal.NotNext = refl
+
+outcome_reads_back : (o : Outcome) → outcome_of (outcome_number o) ≡ Some o
+outcome_reads_back Outcome.Arrived = refl
+outcome_reads_back Outcome.Going = refl
+outcome_reads_back (Outcome.Refused k) = refusal_reads_back k
 
 -- "`feed` takes what ask's `fly` answers": steps and guesses are not read
-pub fed_as_answered : (pane : Pane) (r : RunAnswer) → outcome_told r.outcome ≡ true → feed pane (flown_to (outcome_number r.outcome) r.state) ≡ feed pane r
+pub fed_as_answered : (pane : Pane) (r : RunAnswer) → fed_with pane (outcome_number r.outcome) r.state ≡ feed pane r
 unfolding feed
-fed_as_answered pane r e = ap (λ (o : Outcome). feed_by o pane r.state) (outcome_reads_back r.outcome e)
+fed_as_answered pane r = ap (fed_with_outcome pane r.state) (outcome_reads_back r.outcome)
 
 left_is : (pane : Pane) (answer : TakeAnswer) → (left (pane_in pane) answer).memory ≡ pane_in (after pane answer)
 left_is pane (taken.Taken next) = refl
@@ -68,16 +82,16 @@ module _ (b : List ℕ) (m extras : List Float) (dut rule centre h target : ℕ)
 
   fed_once : (pane : Pane) (moment : ℕ) (coordinates : List Float) (call : LinkedCall)
       → (let r = flight moment coordinates call in
-      (left (pane_in pane) (feed (pane_of (numbers_in pane) (places_in pane)) (flown_to (outcome_number r.outcome) (state_of r.state.moment centre (whole_in r.state))))).memory
+      (left (pane_in pane) (fed_with (pane_of (numbers_in pane) (places_in pane)) (outcome_number r.outcome) (state_of r.state.moment centre (whole_in r.state)))).memory
       ≡ pane_in (after pane (feed pane r)))
   fed_once pane moment coordinates call =
       let s = state_of moment centre coordinates in
       let r = flight moment coordinates call in
-      ap (λ (p : Pane). (left (pane_in pane) (feed p (flown_to (outcome_number r.outcome) (state_of r.state.moment centre (whole_in r.state))))).memory) (pane_reads_back pane)
-      ∙ ap (λ (reached : State). (left (pane_in pane) (feed pane (flown_to (outcome_number r.outcome) reached))).memory)
+      ap (λ (p : Pane). (left (pane_in pane) (fed_with p (outcome_number r.outcome) (state_of r.state.moment centre (whole_in r.state)))).memory) (pane_reads_back pane)
+      ∙ ap (λ (reached : State). (left (pane_in pane) (fed_with pane (outcome_number r.outcome) reached)).memory)
       (state_reads_back b setting s h target call.budget (guesses_of call.guesses))
       ∙ ap (λ (answer : TakeAnswer). (left (pane_in pane) answer).memory)
-      (fed_as_answered pane r (run_told b setting s h target call.budget (guesses_of call.guesses)))
+      (fed_as_answered pane r)
       ∙ left_is pane (feed pane r)
 
   -- a pane in memory, fed by a journey through the calls, is the pane fed by that journey

@@ -16,7 +16,7 @@ use Rattle.pane_live.specs.declared.Pane.TheVariants.{Blank}
 use Rattle.c_answer.specs.Handed.{Handed, answered}
 use Rattle.c_run.specs.Lent.{setting_of, state_of, guesses_of, vector_in}
 use Rattle.c_run.specs.Answers.{RunMemory, of_flight, of_move}
-use Rattle.c_pane.specs.Lent.{Kept, pane_of, pane_in, flown_to, left}
+use Rattle.c_pane.specs.Lent.{Kept, pane_of, pane_in, fed_with, left}
 use Rattle.belfry_pane.specs.Answers.{late, empty, nothing, FrameMemory, framed, of_frame}
 use Rattle.belfry_pane.specs.Answers.{MotionMemory, in_motion, six_in, no_motion, of_motion}
 use Rattle.pane_motion.specs.Motion.{motion_at}
@@ -47,7 +47,7 @@ moved_to s centre memory = record { moment = s.moment; centre = centre; coordina
 
 -- the pane that `belfry_feed` leaves, fed with a flight's memory, and that `belfry_take` leaves, with a state in hand
 abbrev pub fed_by : Kept → Held → RunMemory → Kept
-fed_by kept s memory = (left kept (feed (pane_of kept.numbers kept.places) (flown_to memory.returned (state_in (flown s memory))))).memory
+fed_by kept s memory = (left kept (fed_with (pane_of kept.numbers kept.places) memory.returned (state_in (flown s memory)))).memory
 
 abbrev pub taken_by : Kept → Held → Kept
 taken_by kept s = (left kept (take (pane_of kept.numbers kept.places) (state_in s))).memory

@@ -97,12 +97,12 @@ abbrev pub flown : Outcome → State → RunAnswer
 flown outcome s = record { outcome = outcome; steps = 0; state = s; guesses = no_guesses }
 
 -- what the pane says to it. A number that no run returns changes nothing, as a refused run does.
-abbrev pub fed_by : Pane → State → Option Outcome → TakeAnswer
-fed_by pane s (Some outcome) = feed pane (flown outcome s)
-fed_by pane s None = taken.Unchanged
+abbrev pub fed_with_outcome : Pane → State → Option Outcome → TakeAnswer
+fed_with_outcome pane s (Some outcome) = feed pane (flown outcome s)
+fed_with_outcome pane s None = taken.Unchanged
 
-abbrev pub fed : Pane → ℕ → State → TakeAnswer
-fed pane returned s = fed_by pane s (outcome_of returned)
+abbrev pub fed_with : Pane → ℕ → State → TakeAnswer
+fed_with pane returned s = fed_with_outcome pane s (outcome_of returned)
 
 abbrev pub unchanged : ℕ
 unchanged = 101

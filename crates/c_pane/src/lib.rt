@@ -6,7 +6,7 @@
 ghost use Rattle.std.specs.Prelude.{◌≡◌};
 ghost use Rattle.c_answer.specs.Handed.{handed};
 ghost use Rattle.pane_live.specs.Pane.{frame_at};
-ghost use Rattle.c_pane.specs.Lent.{kept_in, older_of, newer_of, pane_of, numbers_in, places_in, outcome_of, flown, fed, left};
+ghost use Rattle.c_pane.specs.Lent.{kept_in, older_of, newer_of, pane_of, numbers_in, places_in, outcome_of, flown, fed_with, left};
 
 use base::Refusal;
 use gravity::Guesses;
@@ -143,7 +143,7 @@ fn flown(outcome: Outcome, state: State) -> RunAnswer
 
 // What a pane says to the number that a run returned and the state that it reached. Any other number leaves it unchanged.
 pub fn feed(pane: Pane, returned: u64, state: State) -> TakeAnswer
-    ensures { result ≡ fed pane returned state }
+    ensures { result ≡ fed_with pane returned state }
 {
     match outcome_of(returned) {
         Some(outcome) => pane_live::feed(pane, flown(outcome, state)),
