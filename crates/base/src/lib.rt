@@ -2,9 +2,8 @@
 
 #![tactic(auto)]
 
-ghost use Rattle.std.specs.Prelude.{◌≡◌, not, ◌&&◌};
+ghost use Rattle.std.specs.Prelude.{◌≡◌};
 ghost use Rattle.std.specs.Float.Ieee.Scale.{finite};
-ghost use Rattle.base.specs.Choice.{if◌then◌otherwise◌};
 ghost use Rattle.base.specs.Refusals.{number_of, refusal_of};
 ghost use Rattle.base.specs.Checks.{require};
 
@@ -22,11 +21,7 @@ pub const LONGEST_DUT: u32 = 100_000;
 pub fn is_finite(x: f64) -> bool
     ensures { result ≡ finite x }
 {
-    let top = f64::from_bits(0x7ff0_0000_0000_0000);
-    if x < top {
-        return -top < x;
-    }
-    false
+    x.is_finite()
 }
 
 // Why a call refuses its input. Documents 01 and 02 know each refusal by a number.
@@ -129,11 +124,4 @@ pub fn require(ok: bool, refusal: Refusal) -> Result<(), Refusal>
     ensures { result ≡ require ok refusal }
 {
     if ok { Ok(()) } else { Err(refusal) }
-}
-
-// Two tests that both have to hold.
-pub fn both(a: bool, b: bool) -> bool
-    ensures { result ≡ (a && b) }
-{
-    if a { b } else { false }
 }

@@ -8,7 +8,7 @@ ghost use Rattle.book.specs.Passes.{passes};
 ghost use Rattle.gravity.specs.Acceleration.{at_rest};
 ghost use Rattle.centre.specs.Move.{motion_of, kept_or7, move_by, move_of, move_checks, move_answer};
 
-use base::{END_OF_TIME, Refusal, both};
+use base::{END_OF_TIME, Refusal};
 use book::{Motion, Place, Velocity};
 use centre_shift::shifted_state;
 use gravity_stored::inner::kept_at;
@@ -58,7 +58,14 @@ fn kept_or_7(book: &[u8], setting: Setting, i: Injection) -> Result<State, Refus
 }
 
 // Both centres must have cover before anything is computed.
-fn move_by(book: &[u8], setting: Setting, s: State, centre: u64, from: Option<Motion>, to: Option<Motion>) -> Result<State, Refusal>
+fn move_by(
+    book: &[u8],
+    setting: Setting,
+    s: State,
+    centre: u64,
+    from: Option<Motion>,
+    to: Option<Motion>,
+) -> Result<State, Refusal>
     requires { (passes book.now ≡ true) × (centre_allowed setting centre ≡ true) }
     ensures { result ≡ move_by book.now setting s centre from to }
 {
@@ -87,20 +94,13 @@ fn moved(book: &[u8], setting: Setting, s: State, centre: u64) -> Result<State, 
 }
 
 #[tactic(auto, unfolding(crate::specs::Move::move_checks))]
-
 fn move_checks(book: &[u8], setting: Setting, s: State, centre: u64) -> Result<(), Refusal>
     ensures { result ≡ move_checks book.now setting s centre }
 {
     let from = state::centre_is_allowed(setting, s.centre);
     let to = state::centre_is_allowed(setting, centre);
     let finite = state::state_is_finite(s);
-    common_checks(
-        book,
-        setting,
-        both(from, to),
-        s.moment < END_OF_TIME,
-        finite,
-    )
+    common_checks(book, setting, from && to, s.moment < END_OF_TIME, finite)
 }
 
 // The state about another centre: its position and velocity minus those of the new centre, seen from the old.

@@ -29,12 +29,6 @@ use root_known::Rooted;
 use root_known::inner::{root_among, rooted};
 use state::Vector;
 
-pub fn both(a: bool, b: bool) -> bool
-    ensures { result ≡ (a && b) }
-{
-    if a { b } else { false }
-}
-
 fn differs_from_zero(x: f64) -> bool
     ensures { result ≡ not (eq x zero64) }
 {
@@ -44,10 +38,7 @@ fn differs_from_zero(x: f64) -> bool
 fn divides(n: f64, r3: f64) -> bool
     ensures { result ≡ divisible n r3 }
 {
-    both(
-        both(base::is_finite(n), base::is_finite(r3)),
-        differs_from_zero(r3),
-    )
+    base::is_finite(n) && base::is_finite(r3) && differs_from_zero(r3)
 }
 
 // The pull of a body of coefficient m that lies v away, whose n and root are known.
@@ -234,7 +225,7 @@ fn take_off(sum: Pull, near: Pull, far: Pull) -> Pull
         x: sum.x - (near.x + far.x),
         y: sum.y - (near.y + far.y),
         z: sum.z - (near.z + far.z),
-        sound: both(both(sum.sound, near.sound), far.sound),
+        sound: sum.sound & near.sound & far.sound,
     }
 }
 

@@ -5,7 +5,7 @@ ghost use Rattle.root_known.specs.Known.{AreRoots};
 ghost use Rattle.gravity_terms.specs.Added.{flattened_by, oblate_by, sunlit_by};
 
 use gravity_pull::Pull;
-use gravity_pull::pulls::{both, difference, pull_known};
+use gravity_pull::pulls::{difference, pull_known};
 use root_known::Rooted;
 use state::{Setting, Vector};
 
@@ -21,7 +21,7 @@ fn flatten(setting: Setting, q: Vector, by: Pull, sum: Pull) -> Pull
         x: sum.x - setting.j * by.x * part * side,
         y: sum.y - setting.j * by.y * part * side,
         z: sum.z - setting.j * by.z * part * (3.0 - 5.0 * u),
-        sound: both(sum.sound, by.sound),
+        sound: sum.sound & by.sound,
     }
 }
 
@@ -48,7 +48,7 @@ pub fn sunlit_sum(setting: Setting, sun: Vector, p: Vector, sum: Pull, known: &[
             x: sum.x + light.x,
             y: sum.y + light.y,
             z: sum.z + light.z,
-            sound: both(sum.sound, light.sound),
+            sound: sum.sound & light.sound,
         };
     }
     sum

@@ -5,7 +5,7 @@
 ghost use Rattle.std.specs.Prelude.{◌≡◌};
 ghost use Rattle.run_checks.specs.Start.{inputs_checks, start_checks};
 
-use base::{END_OF_TIME, Refusal, both};
+use base::{END_OF_TIME, Refusal};
 use gravity_stored::inner::stored_check;
 use run_target::target_checks;
 use state::{Setting, State};
@@ -17,7 +17,7 @@ fn inputs_checks(book: &[u8], setting: Setting, s: State, target: u64) -> Result
     ensures { result ≡ inputs_checks book.now setting s target }
 {
     let centred = state::centre_is_allowed(setting, s.centre);
-    let timed = both(s.moment < END_OF_TIME, target < END_OF_TIME);
+    let timed = s.moment < END_OF_TIME && target < END_OF_TIME;
     let finite = state::state_is_finite(s);
     common_checks(book, setting, centred, timed, finite)
 }

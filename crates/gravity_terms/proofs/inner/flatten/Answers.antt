@@ -4,4 +4,4 @@ use Rattle.gravity_terms.proofs.inner.flatten.Goals as goal
 
 pub returns : goal.returns
 unfolding of_bits of_int round
-returns c = rw (c.both.ensures, c.square-n.ensures)
+returns c = rw (c.square-n.ensures)

@@ -7,7 +7,7 @@ use Rattle.gravity_terms.proofs.inner.sunlit_sum.Goals as goal
 pub returns-then-setting : goal.returns-then-setting
 unfolding sunlit_by pull_of
 returns-then-setting c = let at = c.before in
-    rw (c.both.ensures, at.pull_known-light.ensures, at.difference.ensures, at.if-setting.true)
+    rw (at.pull_known-light.ensures, at.difference.ensures, at.if-setting.true)
 
 pub returns : goal.returns
 unfolding sunlit_by pull_of
