@@ -121,7 +121,7 @@ module _ (b c : List ℕ) (holds : HoldsAll b c) (first : passes b ≡ true) (se
               inl (record { outcome = ap (λ (r : Reached). r.outcome) alike; steps = ap (λ (r : Reached). r.steps) alike; state = ap (λ (r : Reached). r.state) alike })
           by (inr further) = inr (record { uncovered = further.uncovered; further = further.further; way = further.way })
 
-      go : (checks : Checked) → start_checks b setting s h target ≡ k → Unless (Err Refusal.Cover) (start_checks b setting s h target) (start_checks c setting s h target)
+      go : (checks : Checked) → start_checks b setting s h target ≡ checks → Unless (Err Refusal.Cover) (start_checks b setting s h target) (start_checks c setting s h target)
           → FullerRun b c setting h s (run_answer b setting s h target budget given) (run_answer c setting s h target budget other)
       go checks e (inl at6) =
           inr (rw (refused_is b setting s h target budget given Refusal.Cover at6) (record { uncovered = refl; further = omega arith; way = walk_none (step c setting h) s }))
