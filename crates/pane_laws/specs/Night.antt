@@ -55,8 +55,9 @@ pub record PutOn (b : List ℕ) (setting : Setting) (h : ℕ) (pane : Pane) (new
   pub there : frame_at (after pane (feed pane (run_answer b setting s h target budget given))) (run_answer b setting s h target budget given).state.moment
       ≡ frame.Current (position (run_answer b setting s h target budget given).state)
 
--- What happened. After the moves made, `start`, n steps of the plain walk under the book b lead to `last`. The next step is refused with k,
--- for "a used body has no cover" with Refusal.Cover. The book c passes and is fuller.
+-- What happened. After the moves made, `start`, n steps of the plain walk under the book b lead to `last`. The next step is refused with k:
+-- Cover if "a used body has no cover".
+-- The book c passes and is fuller.
 pub record Night (setting : Setting) (h : ℕ) (injection : State) (b c : List ℕ) (made : List Move) (start last : State) (n : ℕ) (k : Refusal) : Type 0 where
   pub moves : MovesStand b setting h injection made start
   pub centred : centre_allowed setting start.centre ≡ true
