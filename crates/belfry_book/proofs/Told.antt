@@ -6,6 +6,7 @@ use mathlib.Core.Logic.{◌⊎◌, inl, inr}
 use mathlib.Core.Path.{◌≡◌, refl, ap}
 use native.Mathlib.Omega.{arith}
 use Rattle.std.specs.Prelude.{Result, Ok, Err, Option, Some, None}
+use Rattle.base.specs.Refusals.{number_of}
 use Rattle.base.specs.declared.Refusal.{Refusal}
 use Rattle.book.specs.Passes.{passes}
 use Rattle.book_holds.specs.Answer.{holds_answer}
@@ -25,7 +26,7 @@ module _ (before : ℕ) (b c : List ℕ) where
       go : (a : Result (Option ℕ) Refusal) → holds_answer b c ≡ a → (of_holds before a).returned ≡ 0 → Fuller b c
       go (Ok None) e h = held_fuller b c e
       go (Ok (Some i)) e h = absurd (omega arith)
-      go (Err k) e h = let one = (refused_by_1 b c k e).0 in absurd (omega arith)
+      go (Err k) e h = let one : number_of k ≡ 1 = ap number_of (refused_by_1 b c k e).0 in absurd (omega arith)
 
   pub fuller_returns_0 : Fuller b c → of_holds before (holds_answer b c) ≡ handed 0 before
   fuller_returns_0 f = by_answer (Ok None) (fuller_held b c f)
@@ -37,7 +38,7 @@ module _ (before : ℕ) (b c : List ℕ) where
       go : (a : Result (Option ℕ) Refusal) → holds_answer b c ≡ a → (of_holds before a).returned ≡ not_held → MissingFirst b c (of_holds before a).memory
       go (Ok None) e h = absurd (omega arith)
       go (Ok (Some i)) e h = missing_first b c i e
-      go (Err k) e h = let one = (refused_by_1 b c k e).0 in absurd (omega arith)
+      go (Err k) e h = let one : number_of k ≡ 1 = ap number_of (refused_by_1 b c k e).0 in absurd (omega arith)
 
   pub missing_returns_104 : (i : ℕ) → MissingFirst b c i → of_holds before (holds_answer b c) ≡ handed not_held i
   missing_returns_104 i m = by_answer (Ok (Some i)) (first_missing_lem b c i m)
@@ -61,7 +62,7 @@ module _ (before : ℕ) (b c : List ℕ) where
       go : (a : Result (Option ℕ) Refusal) → holds_answer b c ≡ a → ((of_holds before a).returned ≡ 0) ⊎ ((of_holds before a).returned ≡ not_held) ⊎ ((of_holds before a).returned ≡ 1)
       go (Ok None) e = inl refl
       go (Ok (Some i)) e = inr (inl refl)
-      go (Err k) e = inr (inr (refused_by_1 b c k e).0)
+      go (Err k) e = inr (inr (ap number_of (refused_by_1 b c k e).0))
 
   pub unwritten : ((of_holds before (holds_answer b c)).returned ≡ not_held → ⊥) → (of_holds before (holds_answer b c)).memory ≡ before
   unwritten other = go (holds_answer b c) other

@@ -55,11 +55,17 @@ pub fn offset_of(book: &[u8], i: usize) -> usize
     u32_at(book, 8 + 24 * i + 4) as usize
 }
 
+// By `all` over the numbers, the check of a book took up to twice the time.
 pub fn floats_below(book: &[u8], at: usize, n: usize, limit: u64) -> bool
     requires { at + 8 * n ≤ length book.now }
     ensures { result ≡ floats_below limit book.now at n }
 {
-    (0..n).all(|k| bits_below(u64_at(book, at + 8 * k), limit))
+    for k in 0..n {
+        if !bits_below(u64_at(book, at + 8 * k), limit) {
+            return false;
+        }
+    }
+    true
 }
 
 // The bits of an infinity or a NaN are the greatest.

@@ -79,7 +79,8 @@ fn three_pulls(u: Vector, a: f64, v: Vector, b: f64, w: Vector, c: f64) -> Three
     }
 }
 
-// The same three pulls, where their roots are known.
+// The same three pulls, where their roots are known. One function behind both, given the numbers with their roots, was
+// tried here and for `near_sum`: an acceleration took 4 to 20 % longer.
 fn three_pulls_by(
     u: Vector,
     a: f64,

@@ -12,6 +12,7 @@ use Rattle.state.specs.State.{centre_allowed}
 use Rattle.state.specs.declared.State.{State}
 use Rattle.state.specs.declared.Setting.{Setting}
 use Rattle.gravity.specs.declared.Guesses.{Guesses}
+use Rattle.step_end.specs.declared.Stepped.{Stepped}
 use Rattle.run.specs.Step.{Moved, step}
 use Rattle.run_checks.specs.Start.{within_steps}
 use Rattle.run.specs.Kept.{kept, entries_after, MayStep, MayWalk}
@@ -87,12 +88,13 @@ module _ (b : List ℕ) (setting : Setting) (h : ℕ) (from : Course) (before : 
       pub refuses : (k : Refusal) → Err k ≡ kept (entries_after b setting h now) (step b setting h now) → Advanced b setting h from before out (portion_of (Refused k) now entries left did at)
       refuses k e = ends (Refused k) (text_refused (step b setting h) did now left k some (handed_off _ _ k e)) (λ z. let c : ◌≡◌ {A = ℕ} 0 1 = cc in absurd (omega arith))
 
-      pub goes_on : (next : State) (seen : Guesses) (after : List ℕ) (r : ℕ)
-          → Ok next seen ≡ kept (entries_after b setting h now) (step b setting h now)
-          → Wrote out at (state_line next) after r → at + longest_line ≤ length out → length after ≡ length out
-          → Listing after next seen (left - 1) (did + 1) r
-      goes_on next seen after r e w room same =
-          let handed = handed_on (entries_after b setting h now) (step b setting h now) next seen e in
+      pub goes_on : (there : Stepped) (after : List ℕ) (r : ℕ)
+          → Ok there ≡ kept (entries_after b setting h now) (step b setting h now)
+          → Wrote out at (state_line there.state) after r → at + longest_line ≤ length out → length after ≡ length out
+          → Listing after there.state there.entries (left - 1) (did + 1) r
+      goes_on there after r e w room same =
+          let next = there.state in
+          let handed = handed_on (entries_after b setting h now) (step b setting h now) there e in
           let did' = done b setting h now next handed.on in
           let moment = did'.moment in
           let inside = l.on.inside in

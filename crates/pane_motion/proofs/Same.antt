@@ -59,8 +59,8 @@ empty_of frame.Empty v e = refl
 empty_of (frame.Refused k) v e = let z : ◌≡◌ {A = ℕ} 0 1 = cc in absurd (omega arith)
 
 -- 7 only because of the velocity
-record Alone (f : FrameAnswer) (v : Vector) (k : ℕ) : Type 0 where
-  seven : k ≡ 7
+record Alone (f : FrameAnswer) (v : Vector) (k : Refusal) : Type 0 where
+  seven : k ≡ Refusal.NotFinite
   place : Vector
   shows : f ≡ frame.Current place
   unfit : finite_vector v ≡ false

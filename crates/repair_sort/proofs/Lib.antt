@@ -3,3 +3,4 @@ pub mod Sounds
 pub mod Keys
 pub mod Inserted
 pub mod Looking
+pub mod Backward

@@ -7,6 +7,8 @@ use mathlib.Core.Path.{◌≡◌, refl}
 use native.Mathlib.Nat.{not-suc-le-zero, le_of_suc-le-suc}
 use native.Mathlib.Omega.{arith}
 use lib.ListN.{length, get_or, take}
+use Rattle.std.specs.List.{All}
+use Rattle.std.proofs.lemmas.List.{get_or_default}
 use borrow.Author.Tests.{leb-true, eqb-true}
 use Rattle.base.specs.Choice.{if◌then◌otherwise◌, ◌=?◌}
 use Rattle.book.specs.Contents.{entry_at, offset_of, block_length}
@@ -46,6 +48,9 @@ module _ (b : List ℕ) where
   sound_at [] a k h = absurd (not-suc-le-zero h)
   sound_at (j ∷ js) a zero h = a.0
   sound_at (j ∷ js) a (suc k) h = sound_at js a.1 k (le_of_suc-le-suc h)
+
+  pub sound_everywhere : (l : List ℕ) → AllSound b l → All (λ j. entry_at j + 24 ≤ length b) l
+  sound_everywhere l a k d h = rw (get_or_default l k d 0 h) (sound_at l a k h).inside
 
   pub sound_more : (l : List ℕ) (i : ℕ) → AllSound b l → Sound b i → AllSound b (l ++ (i ∷ []))
   sound_more [] i a s = (s, tt)

@@ -5,15 +5,7 @@ use Rattle.std.proofs.lemmas.List.{ext_get_or, get_or-map, length-map}
 pub map_by : {X Y : Type 0} (f : X → Y) (xs : List X) (ys : List Y) (d : X) (e : Y) → length ys ≡ length xs → ((k : ℕ) → k < length xs → get_or ys k e ≡ f (get_or xs k d)) → ys ≡ map f xs
 map_by f xs ys d e l h = ext_get_or e ys (map f xs) (l ∙ sym (length-map xs f)) (λ k b. let c : k < length xs = omega arith in h k c ∙ sym (get_or-map f xs k d e c))
 
--- what holds of the elements below i holds of one more, where x is written at i
-pub set_more : {X : Type 0} (P : ℕ → X → Type 0) (xs : List X) (i : ℕ) (x : X) → i < length xs → ((k : ℕ) → k < i → (d : X) → P k (get_or xs k d)) → P i x →
-    (k : ℕ) → k < i + 1 → (d : X) → P k (get_or (set xs i x) k d)
-set_more {X} P xs i x b h p =
-    below_more (λ k. (d : X) → P k (get_or (set xs i x) k d)) i
-    (λ k l. let n : k ≢ i = omega arith in λ d. rw get_or-set_other (h k l d))
-    (λ d. rw get_or-set_same p)
-
--- the same for two lists that are written side by side
+-- what holds of the elements below i of two lists holds of one more, where x and y are written at i
 pub both_more : {X Y : Type 0} (P : ℕ → X → Y → Type 0) (xs : List X) (ys : List Y) (i : ℕ) (x : X) (y : Y) → i < length xs → i < length ys →
     ((k : ℕ) → k < i → (d : X) (e : Y) → P k (get_or xs k d) (get_or ys k e)) → P i x y → (k : ℕ) → k < i + 1 → (d : X) (e : Y) → P k (get_or (set xs i x) k d) (get_or (set ys i y) k e)
 both_more {X} {Y} P xs ys i x y b c h p =

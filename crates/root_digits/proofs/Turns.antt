@@ -1,10 +1,9 @@
 -- The lanes of the digit loop, and its weights: powers of four, from 2^52 down to 1. Assumes nothing.
-use Rattle.std.proofs.Common.{List, length, get_or, set, ◌≡◌, ℕ, suc, ◌+◌, ◌-◌, ◌*◌, ◌/◌, ◌%◌, ◌^◌, ◌<◌, ◌≤◌, ap, ◌∙◌, subst, arith}
+use Rattle.std.proofs.Common.{List, get_or, ◌≡◌, ℕ, suc, ◌+◌, ◌-◌, ◌*◌, ◌/◌, ◌%◌, ◌^◌, ◌<◌, ◌≤◌, ap, ◌∙◌, subst, arith}
 use native.Mathlib.Nat.{pow-succ'}
 use Rattle.root_digits.specs.declared.Lane.{Lane}
 use Rattle.root_digits.specs.Digits.{LaneOf, Turning, Turned, EndsAt}
 use Rattle.root_digits.specs.Nearest.{nearest_root}
-use Rattle.root_digits.proofs.Maps.{set_more}
 
 -- the weight before turn k
 abbrev pub weight : ℕ → ℕ
@@ -41,8 +40,3 @@ found {m} k f b l e h = f (m * 2 ^ 52) (omega arith) (ended k l e h)
 -- the lane at k is that of m·2^52, for the number m at k
 abbrev pub AtLane : List ℕ → ℕ → List Lane → ℕ → Type 0
 AtLane ms g lanes k = (d : Lane) → LaneOf (get_or ms k 0 * 2 ^ 52) g (get_or lanes k d).v (get_or lanes k d).t
-
--- one more lane is found
-pub lanes_more : (ms : List ℕ) (g : ℕ) (lanes : List Lane) (i : ℕ) (s : Lane) → ((k : ℕ) → k < i → AtLane ms g lanes k) →
-    LaneOf (get_or ms i 0 * 2 ^ 52) g s.v s.t → i < length lanes → (k : ℕ) → k < i + 1 → AtLane ms g (set lanes i s) k
-lanes_more ms g lanes i s f l h = set_more (λ k (z : Lane). LaneOf (get_or ms k 0 * 2 ^ 52) g z.v z.t) lanes i s h f l

@@ -46,7 +46,7 @@ loop-at-preserved c = let l = c.loop-at in
     let x = c.args in (
       c.put_state-at.auto.out ∙ l.invariant.0,
       goes_on x.book.now x.setting x.h x.from x.out.now l.out l.now l.entries l.left l.done l.at l.invariant.1
-          c.if-left-eq0.false _ _ _ _ (sym c.in-Ok.is ∙ c.step_under-stepped.ensures)
+          c.if-left-eq0.false _ _ _ (sym c.in-Ok.is ∙ c.step_under-stepped.ensures)
           c.put_state-at.ensures c.loop-at-test.true c.put_state-at.auto.out,
     )
 

@@ -1,17 +1,9 @@
 -- `root_digits::inner::nearest_roots` meets its contract: each lane is that of its number throughout. Assumes nothing.
-use Rattle.std.proofs.Common.{length, ◌≡◌, refl, arith, rules}
+use Rattle.std.proofs.Common.{length, ◌≡◌, arith, rules}
 use Rattle.root_digits.specs.Digits.{nearest_of}
 use Rattle.root_digits.proofs.Maps.{map_by, map_more_by}
-use Rattle.root_digits.proofs.Turns.{next, turning, turned, found, lanes_more}
+use Rattle.root_digits.proofs.Turns.{next, turning, turned, found}
 use Rattle.root_digits.proofs.inner.nearest_roots.Goals as goal
-
-pub loop-k-preserved : goal.loop-k-preserved
-loop-k-preserved g c = let i = c.loop-k.invariant in
-    record { size = search rules; lanes = lanes_more _ _ _ _ _ i.lanes c.first.ensures (omega arith) }
-
-pub loop-init : goal.loop-init
-loop-init g c = let i = c.loop-k.invariant in
-    record { weight = refl; size = i.size; lanes = λ k b. i.lanes k (omega arith) }
 
 pub two_turns-requires : goal.two_turns-requires
 two_turns-requires g c = let i = c.loop.invariant in
