@@ -2,7 +2,7 @@
 use mathlib.Core.Bool.{true}
 use mathlib.Core.List.{List, []}
 use mathlib.Core.Path.{◌≡◌, refl, sym, ap, ◌∙◌}
-use Prim.Native.Nat.{ℕ, zero, suc, ◌≤◌, ◌<◌}
+use Prim.Native.Nat.{ℕ, ◌≤◌, ◌<◌}
 use borrow.Author.Tests.{lt-ltb, le-ltb, eq-eqb}
 use Rattle.std.specs.Prelude.{Ok, Err}
 use Rattle.base.specs.Checks.{Checked}
@@ -30,13 +30,13 @@ use Rattle.book_laws.proofs.Walks.{walk_fuller, moves_fuller}
 use Rattle.pane_live.specs.Pane.{take, feed_by, feed, clear, after, figure, shown, frame_at}
 use Rattle.pane_live.specs.declared.Pane.{Pane}
 use Rattle.pane_live.specs.declared.Pane.TheVariants.{Blank, One, Two}
-use Rattle.pane_live.specs.declared.TakeAnswer.TheVariants.{Taken, Refused}
+use Rattle.pane_live.specs.declared.TakeAnswer.TheVariants.{Taken}
 use Rattle.pane_live.specs.declared.FrameAnswer.TheVariants as frame
 use Rattle.pane_live.proofs.Frames.{at_newer}
 use Rattle.pane_laws.specs.Desk.{InHand, Desk, renews}
 use Rattle.pane_laws.specs.OnAir.{OnAir, OffAir}
 use Rattle.pane_laws.specs.Night.{Newest, NotRefused, PutOn, Night, NightHolds, pane_of_journey, pane_of_night}
-use Rattle.pane_laws.proofs.Reached.{Reached, same_centre, ran_on, PaneReached, in_hand}
+use Rattle.pane_laws.proofs.Reached.{same_centre, ran_on, PaneReached, in_hand}
 use Rattle.pane_laws.proofs.Kept.{always}
 use Rattle.pane_laws.proofs.Shown.{on_air, off_air, on_air_moving, off_air_moving}
 use Rattle.pane_laws.proofs.Journeys.{DeskWith, flies, ready}
