@@ -4,7 +4,6 @@ use mathlib.Core.List.{List}
 use mathlib.Core.Logic.{inl, inr}
 use mathlib.Core.Path.{◌≡◌, refl, sym, ap, ◌∙◌, subst}
 use Prim.Native.Nat.{ℕ, ◌+◌, ◌/◌}
-use borrow.Author.Tests.{eqb-true}
 use Rattle.base.specs.declared.Refusal.{Refusal}
 use Rattle.book.specs.declared.Motion.{Motion}
 use Rattle.std.specs.Prelude.{Result, Ok, Err, Option, Some, None}
@@ -25,12 +24,11 @@ use Rattle.gravity.specs.Acceleration.{at_rest, acceleration_at, acceleration_an
 use Rattle.gravity_stored.specs.Injection.{rule_at, kept_by, kept, injection_checks, injection_answer, stored_check_by, stored_check}
 use Rattle.gravity_stored.proofs.Checked.{injectable}
 use Rattle.centre.specs.Move.{motion_by, motion_of, shifted, kept_or7, move_by, move_of, move_checks, move_answer}
-use Rattle.centre.specs.Move as centre
 use Rattle.centre.proofs.Moves.{may_move}
 use Rattle.run.specs.Step.{Moved, and_then, along, weighed, half, sixth, step_h, arrive, keeping, step}
 use Rattle.run.specs.Stages.{velocity2, velocity3, velocity4, lastly, stage2, stage3, stage4}
 use Rattle.book_laws.specs.Fuller.{HoldsAll, Unless}
-use Rattle.book_laws.proofs.Carried.{carried, checked, passed}
+use Rattle.book_laws.proofs.Carried.{carried, checked, passed, past}
 use Rattle.book_laws.proofs.Books.{also_found}
 use Rattle.book_laws.proofs.Rule.{rule_fuller}
 
@@ -47,10 +45,9 @@ module _ (b c : List ℕ) (holds : HoldsAll b c) (first : passes b ≡ true) (se
       → Unless (Err Refusal.Cover) (acceleration_answer b s centre t P) (acceleration_answer c s centre t P)
   unfolding acceleration_answer
   acceleration_fuller s centre t P =
-      let k = common_checks c s (centre_allowed s centre) (is_moment t) (finite_vector P) in
+      let checks = common_checks c s (centre_allowed s centre) (is_moment t) (finite_vector P) in
       rw (same_common b c first second s (centre_allowed s centre) (is_moment t) (finite_vector P))
-      (passed (k =? 0) (Err k) (Err Refusal.Cover) _ _
-      (λ none. rule_fuller b c holds second s centre t P (common.passed c s _ _ _ (eqb-true k 0 none)).centre))
+      (past checks (Err Refusal.Cover) _ _ (λ none. rule_fuller b c holds second s centre t P (common.passed c s _ _ _ none).centre))
 
   -- ---- injections
 
@@ -69,14 +66,13 @@ module _ (b c : List ℕ) (holds : HoldsAll b c) (first : passes b ≡ true) (se
   unfolding injection_answer
   injection_fuller setting i =
       rw (same_checks setting i)
-      (passed (injection_checks c setting i =? 0) (Err (injection_checks c setting i)) (Err Refusal.Cover) _ _
-      (λ none. kept_fuller setting i (injectable c setting i (eqb-true _ 0 none)).1))
+      (past (injection_checks c setting i) (Err Refusal.Cover) _ _ (λ none. kept_fuller setting i (injectable c setting i none).1))
 
   -- the acceleration stored with a state, checked under both books
-  pub stored_fuller : (setting : Setting) (s : State) → centre_allowed setting s.centre ≡ true → Unless 6 (stored_check b setting s) (stored_check c setting s)
+  pub stored_fuller : (setting : Setting) (s : State) → centre_allowed setting s.centre ≡ true → Unless (Err Refusal.Cover) (stored_check b setting s) (stored_check c setting s)
   unfolding stored_check
   stored_fuller setting s ok =
-      carried (stored_check_by s) (Err Refusal.Cover) (rule_at b setting (bare s)) (rule_at c setting (bare s)) 6 refl
+      carried (stored_check_by s) (Err Refusal.Cover) (rule_at b setting (bare s)) (rule_at c setting (bare s)) (Err Refusal.Cover) refl
       (rule_fuller b c holds second setting s.centre s.moment (position s) ok)
 
   -- ---- moves
@@ -95,7 +91,7 @@ module _ (b c : List ℕ) (holds : HoldsAll b c) (first : passes b ≡ true) (se
       → Unless (Err Refusal.Cover) (kept_or7 b setting i) (kept_or7 c setting i)
   end_fuller setting i ok =
       passed (finite_injection i) (Err Refusal.NotFinite) (Err Refusal.Cover) _ _
-      (λ fin. carried centre.moved_by (Err Refusal.Cover) (kept b setting i) (kept c setting i) (Err Refusal.Cover) refl (kept_fuller setting i ok))
+      (λ fin. kept_fuller setting i ok)
 
   module _ (setting : Setting) (s : State) (to : ℕ) (ok : centre_allowed setting to ≡ true) where
     both_seen : (old new : Option Motion) → Unless (Err Refusal.Cover) (move_by b setting s to old new) (move_by c setting s to old new)
@@ -130,8 +126,7 @@ module _ (b c : List ℕ) (holds : HoldsAll b c) (first : passes b ≡ true) (se
   unfolding move_answer
   move_fuller setting s to =
       rw (same_move_checks setting s to)
-      (passed (move_checks c setting s to =? 0) (Err (move_checks c setting s to)) (Err Refusal.Cover) _ _
-      (λ none. of_fuller setting s to (may_move c setting s to (eqb-true _ 0 none)).1))
+      (past (move_checks c setting s to) (Err Refusal.Cover) _ _ (λ none. of_fuller setting s to (may_move c setting s to none).1))
 
 -- ---- one step, over two accelerations
 

@@ -6,7 +6,8 @@ use mathlib.Core.Logic.{inl, inr}
 use mathlib.Core.Path.{◌≡◌, refl, sym, ap, ◌∙◌, subst}
 use Prim.Native.Nat.{ℕ}
 use native.Mathlib.Omega.{arith}
-use Rattle.std.specs.Prelude.{Ok}
+use Rattle.base.specs.declared.Refusal.{Refusal}
+use Rattle.std.specs.Prelude.{Ok, Err}
 use Rattle.state.specs.declared.State.{State}
 use Rattle.state.specs.declared.Setting.{Setting}
 use Rattle.book.specs.Passes.{passes}
@@ -29,8 +30,8 @@ module _ (b c : List ℕ) (holds : HoldsAll b c) (first : passes b ≡ true) (se
   starts : (target : ℕ) (s : State) → start_checks b setting s h target ≡ Ok tt → start_checks c setting s h target ≡ Ok tt
   starts target s e = go (start_fuller b c holds first second setting h target s)
     where
-      go : Unless 6 (start_checks b setting s h target) (start_checks c setting s h target) → start_checks c setting s h target ≡ Ok tt
-      go (inl six) = absurd (omega arith)
+      go : Unless (Err Refusal.Cover) (start_checks b setting s h target) (start_checks c setting s h target) → start_checks c setting s h target ≡ Ok tt
+      go (inl six) = let z : ◌≡◌ {A = ℕ} 0 1 = cc in absurd (omega arith)
       go (inr alike) = sym alike ∙ e
 
   -- the checks pass at the state at which a call stopped
@@ -62,8 +63,8 @@ module _ (b c : List ℕ) (holds : HoldsAll b c) (first : passes b ≡ true) (se
           → after b setting h target s (call ∷ calls) ≡ after c setting h target s (other ∷ others)
       go (inl alike) later = later at ∙ ap (λ (x : State). after c setting h target x others) alike.state
       go (inr further) later =
-          let stuck = is_stuck b setting h target s call.budget call.guesses 6 e further.uncovered in
-          let same = after_stuck b setting h target 6 _ calls stuck in
+          let stuck = is_stuck b setting h target s call.budget call.guesses Refusal.Cover e further.uncovered in
+          let same = after_stuck b setting h target Refusal.Cover _ calls stuck in
           absurd (stuck.short (sym (ap (λ (x : State). x.moment) same) ∙ at))
 
   may_fly : (target : ℕ) (s : State) (calls others : List Call) → SameBudgets calls others → MayFly b setting h s target calls → MayFly c setting h s target others

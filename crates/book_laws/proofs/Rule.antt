@@ -137,6 +137,6 @@ module _ (b c : List ℕ) (holds : HoldsAll b c) (pass : passes c ≡ true) wher
 
         go : (bodies : Sky) → sky b s t ≡ bodies → Unless (Err Refusal.Cover) (sky b s t) (sky c s t)
             → Unless (Err Refusal.Cover) (by_places (place_of (stands b centre t)) (place_of (stands b 3 t)) (sky b s t)) (by_places (place_of (stands c centre t)) (place_of (stands c 3 t)) (sky c s t))
-        go bodies e (inl gap) = inl (hidden 6 b gap)
+        go bodies e (inl gap) = inl (hidden Refusal.Cover b gap)
         go (Err k) e (inr same) = inr (hidden k b e ∙ sym (hidden k c (sym same ∙ e)))
         go (Ok all) e (inr same) = inr (seen_alike all e same)

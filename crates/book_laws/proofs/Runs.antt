@@ -9,14 +9,13 @@ use native.Mathlib.Omega.{arith}
 use borrow.Author.Tests.{eqb-true, eqb-false}
 use Rattle.std.specs.Prelude.{Ok, Err}
 use Rattle.base.specs.declared.Refusal.{Refusal}
-use Rattle.base.specs.Choice.{◌=?◌}
 use Rattle.state.specs.State.{centre_allowed}
 use Rattle.state.specs.declared.State.{State}
 use Rattle.state.specs.declared.Setting.{Setting}
 use Rattle.book.specs.Passes.{passes}
 use Rattle.gravity.specs.declared.Guesses.{Guesses}
 use Rattle.gravity_stored.specs.Injection.{stored_check}
-use Rattle.base.specs.Checks.{or_later}
+use Rattle.base.specs.Checks.{Checked, ◌before◌}
 use Rattle.run_target.specs.Target.{target_checks}
 use Rattle.run_checks.specs.Start.{inputs_checks, start_checks}
 use Rattle.run_checks.proofs.Passed.{opened, passed}
@@ -34,8 +33,8 @@ use Rattle.book_laws.proofs.Calls.{same_common, stored_fuller, step_fuller}
 
 -- ---- the run over two steps of which the second is the same, unless the first has a gap
 
-module _ (f g : State → Moved) (Ok : State → Type 0) (each : (s : State) → Ok s → Unless (Err Refusal.Cover) (f s) (g s))
-    (keeps : (s next : State) → Ok s → f s ≡ Ok next → Ok next) (target : ℕ) where
+module _ (f g : State → Moved) (Good : State → Type 0) (each : (s : State) → Good s → Unless (Err Refusal.Cover) (f s) (g s))
+    (keeps : (s next : State) → Good s → f s ≡ Ok next → Good next) (target : ℕ) where
   pub record Gap (s : State) (r q : Reached) : Type 0 where
     pub uncovered : r.outcome ≡ Refused Refusal.Cover
     pub further : r.steps ≤ q.steps
@@ -52,15 +51,15 @@ module _ (f g : State → Moved) (Ok : State → Type 0) (each : (s : State) →
         way = ap (λ (n : ℕ). walk g n s) (add-one r.steps) ∙ walk_first g r.steps s next e ∙ later.way;
       }
 
-  pub reached_fuller : (budget : ℕ) (s : State) → Ok s → (run_to f target budget s ≡ run_to g target budget s) ⊎ Gap s (run_to f target budget s) (run_to g target budget s)
+  pub reached_fuller : (budget : ℕ) (s : State) → Good s → (run_to f target budget s ≡ run_to g target budget s) ⊎ Gap s (run_to f target budget s) (run_to g target budget s)
   unfolding run_to
   reached_fuller zero s ok = inl refl
   reached_fuller (suc budget) s ok = at (at_target target s) refl (reached_fuller budget)
     where
       onward : (s.moment ≡ target → ⊥) → Unless (Err Refusal.Cover) (f s) (g s) → (m : Moved) → f s ≡ m
-          → ((s : State) → Ok s → (run_to f target budget s ≡ run_to g target budget s) ⊎ Gap s (run_to f target budget s) (run_to g target budget s))
+          → ((s : State) → Good s → (run_to f target budget s ≡ run_to g target budget s) ⊎ Gap s (run_to f target budget s) (run_to g target budget s))
           → (run_to f target (suc budget) s ≡ run_to g target (suc budget) s) ⊎ Gap s (run_to f target (suc budget) s) (run_to g target (suc budget) s)
-      onward short (inl e) m is later = inr (rw (run_refused f target s short budget 6 e) (stopped s (run_to g target (suc budget) s)))
+      onward short (inl e) m is later = inr (rw (run_refused f target s short budget Refusal.Cover e) (stopped s (run_to g target (suc budget) s)))
       onward short (inr e) (Err k) is later = inl (run_refused f target s short budget k is ∙ sym (run_refused g target s short budget k (sym e ∙ is)))
       onward short (inr e) (Ok next) is later =
           rw (run_on f target s short budget next is, run_on g target s short budget next (sym e ∙ is)) (go (later next (keeps s next ok is)))
@@ -72,7 +71,7 @@ module _ (f g : State → Moved) (Ok : State → Type 0) (each : (s : State) →
           go (inr further) = inr (one_more s next _ _ (sym e ∙ is) further)
 
       at : (there : Bool) → at_target target s ≡ there
-          → ((s : State) → Ok s → (run_to f target budget s ≡ run_to g target budget s) ⊎ Gap s (run_to f target budget s) (run_to g target budget s))
+          → ((s : State) → Good s → (run_to f target budget s ≡ run_to g target budget s) ⊎ Gap s (run_to f target budget s) (run_to g target budget s))
           → (run_to f target (suc budget) s ≡ run_to g target (suc budget) s) ⊎ Gap s (run_to f target (suc budget) s) (run_to g target (suc budget) s)
       at true is later =
           let here = eqb-true s.moment target is in
@@ -86,15 +85,15 @@ module _ (b c : List ℕ) (holds : HoldsAll b c) (first : passes b ≡ true) (se
   unfolding inputs_checks
   same_inputs s = same_common b c first second setting _ _ _
 
-  pub start_fuller : (s : State) → Unless 6 (start_checks b setting s h target) (start_checks c setting s h target)
+  pub start_fuller : (s : State) → Unless (Err Refusal.Cover) (start_checks b setting s h target) (start_checks c setting s h target)
   unfolding start_checks
   start_fuller s =
       let way = target_checks s.moment h target in
       let inputs = inputs_checks c setting s target in
       rw (same_inputs s)
-      (carry.passed (inputs =? 0) inputs 6 _ _
-      (λ none. carry.carried (λ (k : ℕ). or_later k way) 6 (stored_check b setting s) (stored_check c setting s) 6 refl
-      (stored_fuller b c holds first second setting s (opened c setting s target (eqb-true inputs 0 none)).1)))
+      (carry.past inputs (Err Refusal.Cover) _ _
+      (λ none. carry.carried (λ (checks : Checked). checks before way) (Err Refusal.Cover) (stored_check b setting s) (stored_check c setting s) (Err Refusal.Cover) refl
+      (stored_fuller b c holds first second setting s (opened c setting s target none).1)))
 
   step_keeps : (s next : State) → centre_allowed setting s.centre ≡ true → step b setting h s ≡ Ok next → centre_allowed setting next.centre ≡ true
   step_keeps s next ok e = ap (centre_allowed setting) (done b setting h s next e).centre ∙ ok
@@ -121,10 +120,10 @@ module _ (b c : List ℕ) (holds : HoldsAll b c) (first : passes b ≡ true) (se
               inl (record { outcome = ap (λ (r : Reached). r.outcome) alike; steps = ap (λ (r : Reached). r.steps) alike; state = ap (λ (r : Reached). r.state) alike })
           by (inr further) = inr (record { uncovered = further.uncovered; further = further.further; way = further.way })
 
-      go : (k : ℕ) → start_checks b setting s h target ≡ k → Unless 6 (start_checks b setting s h target) (start_checks c setting s h target)
+      go : (checks : Checked) → start_checks b setting s h target ≡ checks → Unless (Err Refusal.Cover) (start_checks b setting s h target) (start_checks c setting s h target)
           → FullerRun b c setting h s (run_answer b setting s h target budget given) (run_answer c setting s h target budget other)
-      go k e (inl at6) =
-          inr (rw (refused_is b setting s h target budget given 5 at6) (record { uncovered = refl; further = omega arith; way = walk_none (step c setting h) s }))
-      go zero e (inr alike) = started e (sym alike ∙ e)
-      go (suc k) e (inr alike) =
+      go checks e (inl at6) =
+          inr (rw (refused_is b setting s h target budget given Refusal.Cover at6) (record { uncovered = refl; further = omega arith; way = walk_none (step c setting h) s }))
+      go (Ok tt) e (inr alike) = started e (sym alike ∙ e)
+      go (Err k) e (inr alike) =
           inl (rw (refused_is b setting s h target budget given k e, refused_is c setting s h target budget other k (sym alike ∙ e)) (record { outcome = refl; steps = refl; state = refl }))

@@ -5,7 +5,7 @@ use Prim.Native.Nat.{ℕ, zero, suc, ◌+◌, ◌-◌, ◌*◌, ◌/◌, ◌≤�
 use native.Mathlib.Nat.{mul-div_cancel, zero-mul, zero-div}
 use native.Mathlib.Omega.{arith}
 use Rattle.base.specs.declared.Refusal.{Refusal}
-use Rattle.std.specs.Prelude.{Result, Ok, Err}
+use Rattle.std.specs.Prelude.{Ok, Err}
 use Rattle.state.specs.declared.State.{State}
 use Rattle.state.specs.declared.Setting.{Setting}
 use Rattle.run_checks.specs.Start.{start_checks}
@@ -15,10 +15,10 @@ use Rattle.run.specs.Step.{Moved, step}
 use Rattle.run.specs.Walk.{onward, walk}
 use Rattle.run.specs.Run.{run_answer}
 use Rattle.run.proofs.Walks.{walk_none}
-use Rattle.run_laws.specs.Journey.{Call, journey, after, Holds, AllHold}
+use Rattle.run_laws.specs.Journey.{Call, journey, after, AllHold}
 use Rattle.run_laws.proofs.Portions.{portions}
 use Rattle.centre.specs.Move.{move_answer}
-use Rattle.centre_laws.specs.Legs.{Move, Leg, move_after, moves_of, as_step, walk_to, moving, walk_with_moves, MoveStands, MovesStand, none, one, MayFly, Flown, no_leg, leg, LegHolds, MoveRefused}
+use Rattle.centre_laws.specs.Legs.{Move, Leg, move_after, moves_of, walk_to, moving, walk_with_moves, MoveStands, MovesStand, none, one, MayFly, Flown, no_leg, leg, LegHolds, MoveRefused}
 use Rattle.centre_laws.proofs.Moved.{move_keeps}
 
 module _ (b : List ℕ) (setting : Setting) (h : ℕ) where
@@ -91,7 +91,7 @@ module _ (b : List ℕ) (setting : Setting) (h : ℕ) where
   stand_walked s last moves (none s') = refl
   stand_walked s last moves (one s' next last' move rest stands later) =
       ap (λ (m : Moved). onward (walk_with_moves b setting h rest) (onward (moving b setting h move) m)) stands.walked
-      ∙ ap (λ (m : Result State Refusal). onward (walk_with_moves b setting h rest) (as_step m)) stands.moved
+      ∙ ap (onward (walk_with_moves b setting h rest)) stands.moved
       ∙ stand_walked next last rest later
 
   pub one_more_stands : (s from next : State) (moves : List Move) (move : Move) → MovesStand b setting h s moves from → MoveStands b setting h from move next
@@ -158,5 +158,5 @@ module _ (b : List ℕ) (setting : Setting) (h : ℕ) where
             one_more (moves_of before) (move_after l) injection
             ∙ ap (λ (m : Moved). onward (moving b setting h (move_after l)) (onward (walk_to b setting h l.target) m)) walked
             ∙ ap (onward (moving b setting h (move_after l))) there
-            ∙ ap as_step refused;
+            ∙ refused;
       }

@@ -11,6 +11,7 @@ use Rattle.state.specs.declared.Vector.{Vector}
 use Rattle.std.specs.Prelude.{Result, Ok, Err, Option, Some, None}
 use Rattle.base.specs.Choice.{if◌then◌otherwise◌, ◌=?◌}
 use Rattle.base.proofs.Bools.{left, right}
+use Rattle.base.proofs.Checks.{first_of}
 use Rattle.state.specs.State.{carrying, finite_injection, centre_allowed}
 use Rattle.state.specs.declared.State.{State}
 use Rattle.state.specs.declared.Injection.{Injection}
@@ -18,19 +19,13 @@ use Rattle.state.specs.declared.Setting.{Setting}
 use Rattle.book.specs.Passes.{passes}
 use Rattle.state_checks.proofs.Passed.{passed}
 use Rattle.gravity_stored.specs.Injection.{rule_at, kept_by, kept}
-use Rattle.centre.specs.Move.{motion_of, shifted, moved_by, kept_or7, move_by, move_of, move_checks, move_answer}
+use Rattle.centre.specs.Move.{motion_of, shifted, kept_or7, move_by, move_of, move_checks, move_answer}
 
 -- a move that is accepted has passed its checks
 accepted : (b : List ℕ) (setting : Setting) (s : State) (centre : ℕ) (next : State) → move_answer b setting s centre ≡ Ok next
     → (move_checks b setting s centre ≡ Ok tt) × (move_of b setting s centre ≡ Ok next)
 unfolding move_answer
-accepted b setting s centre next = go (move_checks b setting s centre =? 0) refl
-  where
-    go : (none : Bool) → (move_checks b setting s centre =? 0) ≡ none
-        → (if none then move_of b setting s centre otherwise Err (move_checks b setting s centre)) ≡ Ok next
-        → (move_checks b setting s centre ≡ Ok tt) × (move_of b setting s centre ≡ Ok next)
-    go true is e = (eqb-true _ 0 is, e)
-    go false is e = let z : ◌≡◌ {A = ℕ} 0 1 = cc in absurd (omega arith)
+accepted b setting s centre next e = first_of (move_checks b setting s centre) (move_of b setting s centre) next e
 
 -- among them those of the book and of both centres
 pub record Allowed (b : List ℕ) (setting : Setting) (s : State) (centre : ℕ) : Type 0 where
@@ -53,7 +48,7 @@ pub move_allowed : (b : List ℕ) (setting : Setting) (s : State) (centre : ℕ)
 move_allowed b setting s centre next e = checked b setting s centre (accepted b setting s centre next e).0
 
 module _ (b : List ℕ) (setting : Setting) (s : State) (centre : ℕ) (next : State) where
-  by_rule : (i : Injection) (q : Result Vector Refusal) → moved_by (kept_by i q) ≡ Ok next → (next.moment ≡ i.moment) × (next.centre ≡ i.centre)
+  by_rule : (i : Injection) (q : Result Vector Refusal) → kept_by i q ≡ Ok next → (next.moment ≡ i.moment) × (next.centre ≡ i.centre)
   by_rule i (Ok a) e =
       let same : next ≡ carrying i a = cc in
       (ap (λ (x : State). x.moment) same, ap (λ (x : State). x.centre) same)
@@ -63,7 +58,7 @@ module _ (b : List ℕ) (setting : Setting) (s : State) (centre : ℕ) (next : S
   unfolding kept
   by_end i = go (finite_injection i)
     where
-      go : (fin : Bool) → (if fin then moved_by (kept b setting i) otherwise Err Refusal.NotFinite) ≡ Ok next → (next.moment ≡ i.moment) × (next.centre ≡ i.centre)
+      go : (fin : Bool) → (if fin then kept b setting i otherwise Err Refusal.NotFinite) ≡ Ok next → (next.moment ≡ i.moment) × (next.centre ≡ i.centre)
       go true e = by_rule i (rule_at b setting i) e
       go false e = let z : ◌≡◌ {A = ℕ} 0 1 = cc in absurd (omega arith)
 

@@ -1,6 +1,6 @@
 -- Demand 3, as document 02's R-6 reads it: "walks in which moves stand at named moments, each the target of the calls before it".
 use Rattle.base.specs.declared.Refusal.{Refusal}
-use Rattle.std.specs.Prelude.{List, [], ◌∷◌, ◌++◌, ◌≡◌, ℕ, ◌-◌, ◌/◌, Result, Ok, Err}
+use Rattle.std.specs.Prelude.{List, [], ◌∷◌, ◌++◌, ◌≡◌, ℕ, ◌-◌, ◌/◌, Ok, Err}
 use Rattle.state.specs.declared.State.{State}
 use Rattle.state.specs.declared.Setting.{Setting}
 use Rattle.run_checks.specs.Start.{start_checks}
@@ -27,18 +27,14 @@ abbrev pub moves_of : List Leg → List Move
 moves_of [] = []
 moves_of (leg ∷ legs) = move_after leg ∷ moves_of legs
 
--- a move as a step of the walk: the moved state, or the number of its refusal
-abbrev pub as_step : Result State Refusal → Moved
-as_step (Ok s) = Ok s
-as_step (Err k) = Err k
-
 module _ (b : List ℕ) (setting : Setting) (h : ℕ) where
   -- the plain walk, step by step, to a moment
   abbrev pub walk_to : ℕ → State → Moved
   walk_to t s = walk (step b setting h) ((t - s.moment) / h) s
 
+  -- a move as a step of the walk: the moved state, or its refusal
   abbrev pub moving : Move → State → Moved
-  moving move s = as_step (move_answer b setting s move.centre)
+  moving move s = move_answer b setting s move.centre
 
   -- the plain walk with its moves: step by step to each named moment, then the move
   unfoldable pub walk_with_moves : List Move → State → Moved
@@ -85,7 +81,7 @@ module _ (b : List ℕ) (setting : Setting) (h : ℕ) where
 
   -- a leg whose move is refused with k, "the number alone". The state before the move is that of the plain walk at the target, and it is
   -- the last state of the calls. The walk with its moves ends there.
-  pub record MoveRefused (injection : State) (before : List Leg) (l : Leg) (k : ℕ) : Type 0 where
+  pub record MoveRefused (injection : State) (before : List Leg) (l : Leg) (k : Refusal) : Type 0 where
     pub start : State
     pub walked : walk_with_moves (moves_of before) injection ≡ Ok start
     pub there : walk_to l.target start ≡ Ok (after b setting h l.target start l.calls)

@@ -4,6 +4,7 @@ use mathlib.Core.Logic.{inl}
 use mathlib.Core.Path.{◌≡◌, refl}
 use Prim.Native.Nat.{ℕ, ◌<◌}
 use Rattle.std.specs.Prelude.{Ok, Err}
+use Rattle.base.specs.declared.Refusal.{Refusal}
 use Rattle.state.specs.declared.State.{State}
 use Rattle.state.specs.declared.Setting.{Setting}
 use Rattle.state.specs.declared.Vector.{Vector}
@@ -55,7 +56,7 @@ module _ (setting : Setting) (h target : ℕ) (injection : State) (b : List ℕ)
       on_air setting h injection b [] d.hand (pane_of_journey b setting h target injection calls) d.desk t p e
 
   -- past the last state that the plain walk reaches, no figure
-  pub journey_off_air : (last : State) (n k t : ℕ) → walk (step b setting h) n injection ≡ Ok last → step b setting h last ≡ Err k → last.moment < t
+  pub journey_off_air : (last : State) (n : ℕ) (k : Refusal) (t : ℕ) → walk (step b setting h) n injection ≡ Ok last → step b setting h last ≡ Err k → last.moment < t
       → OffAir b setting h injection last t (frame_at (pane_of_journey b setting h target injection calls) t)
   unfolding walk_with_moves
   journey_off_air last n k t walked off past =

@@ -14,7 +14,7 @@ use Rattle.pane_live.specs.Laws.{InOrder}
 use Rattle.pane_live.specs.declared.Pane.{Pane}
 use Rattle.pane_live.proofs.Taken.{take_keeps, feed_keeps}
 use Rattle.pane_laws.specs.Desk.{InHand, Desk, begins, runs, tries, offers, clears, renews, moves}
-use Rattle.pane_laws.proofs.Reached.{Reached, itself, ran_on, AllReached, PaneReached, in_hand, taken_on, fed_on, all_still, pane_still}
+use Rattle.pane_laws.proofs.Reached.{itself, ran_on, AllReached, PaneReached, in_hand, taken_on, fed_on, all_still, pane_still}
 
 module _ (setting : Setting) (h : ℕ) (injection : State) where
   pub record Sound (b : List ℕ) (made : List Move) (hand : List State) (pane : Pane) : Type 0 where

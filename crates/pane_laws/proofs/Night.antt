@@ -2,9 +2,11 @@
 use mathlib.Core.Bool.{true}
 use mathlib.Core.List.{List, []}
 use mathlib.Core.Path.{◌≡◌, refl, sym, ap, ◌∙◌}
-use Prim.Native.Nat.{ℕ, zero, suc, ◌≤◌, ◌<◌}
+use Prim.Native.Nat.{ℕ, ◌≤◌, ◌<◌}
 use borrow.Author.Tests.{lt-ltb, le-ltb, eq-eqb}
-use Rattle.std.specs.Prelude.{Ok}
+use Rattle.std.specs.Prelude.{Ok, Err}
+use Rattle.base.specs.Checks.{Checked}
+use Rattle.base.specs.declared.Refusal.{Refusal}
 use Rattle.state.specs.State.{position, velocity, finite_vector}
 use Rattle.state.specs.declared.State.{State}
 use Rattle.state.specs.declared.Setting.{Setting}
@@ -28,13 +30,13 @@ use Rattle.book_laws.proofs.Walks.{walk_fuller, moves_fuller}
 use Rattle.pane_live.specs.Pane.{take, feed_by, feed, clear, after, figure, shown, frame_at}
 use Rattle.pane_live.specs.declared.Pane.{Pane}
 use Rattle.pane_live.specs.declared.Pane.TheVariants.{Blank, One, Two}
-use Rattle.pane_live.specs.declared.TakeAnswer.TheVariants.{Taken, Refused}
+use Rattle.pane_live.specs.declared.TakeAnswer.TheVariants.{Taken}
 use Rattle.pane_live.specs.declared.FrameAnswer.TheVariants as frame
 use Rattle.pane_live.proofs.Frames.{at_newer}
 use Rattle.pane_laws.specs.Desk.{InHand, Desk, renews}
 use Rattle.pane_laws.specs.OnAir.{OnAir, OffAir}
 use Rattle.pane_laws.specs.Night.{Newest, NotRefused, PutOn, Night, NightHolds, pane_of_journey, pane_of_night}
-use Rattle.pane_laws.proofs.Reached.{Reached, same_centre, ran_on, PaneReached, in_hand}
+use Rattle.pane_laws.proofs.Reached.{same_centre, ran_on, PaneReached, in_hand}
 use Rattle.pane_laws.proofs.Kept.{always}
 use Rattle.pane_laws.proofs.Shown.{on_air, off_air, on_air_moving, off_air_moving}
 use Rattle.pane_laws.proofs.Journeys.{DeskWith, flies, ready}
@@ -72,11 +74,11 @@ finite_there_lem : (b : List ℕ) (setting : Setting) (s : State) (h target budg
     → finite_vector (position (run_answer b setting s h target budget given).state) ≡ true
 finite_there_lem b setting s h target budget given goes = go (start_checks b setting s h target) refl
   where
-    go : (k : ℕ) → start_checks b setting s h target ≡ k → finite_vector (position (run_answer b setting s h target budget given).state) ≡ true
-    go zero e =
+    go : (checks : Checked) → start_checks b setting s h target ≡ checks → finite_vector (position (run_answer b setting s h target budget given).state) ≡ true
+    go (Ok tt) e =
         rw (answer_is b setting s h target budget given e)
         (left _ (finite_vector (velocity (run_to (step b setting h) target budget s).state)) (checks_stay b setting h target s budget (passed b setting s h target e)).finite)
-    go (suc k) e = absurd (goes (suc k) (ap (λ (r : RunAnswer). r.outcome) (refused_is b setting s h target budget given k e)))
+    go (Err k) e = absurd (goes k (ap (λ (r : RunAnswer). r.outcome) (refused_is b setting s h target budget given k e)))
 
 module _ (setting : Setting) (h : ℕ) (injection : State) (b : List ℕ) (made : List Move) where
   -- the picture comes back, or continues: a run that is not refused and goes past the newest state of the pane is on air
@@ -95,7 +97,7 @@ module _ (setting : Setting) (h : ℕ) (injection : State) (b : List ℕ) (made 
       }
 
 -- the night, for all actions of the desk
-pub the_night : (setting : Setting) (h : ℕ) (injection : State) (b c : List ℕ) (made : List Move) (start last : State) (n k : ℕ)
+pub the_night : (setting : Setting) (h : ℕ) (injection : State) (b c : List ℕ) (made : List Move) (start last : State) (n : ℕ) (k : Refusal)
     → Night setting h injection b c made start last n k → NightHolds setting h injection b c made start last
 the_night setting h injection b c made start last n k night =
     record {
@@ -120,7 +122,7 @@ the_night setting h injection b c made start last n k night =
     same_walk m s walked = walk_fuller b c night.fuller night.pass setting h m start s (λ some. night.centred) walked
 
 -- The night as journeys: calls toward a target under b, and then, from the state that they reached, calls under the fuller book c.
-module _ (setting : Setting) (h target : ℕ) (injection : State) (b c : List ℕ) (last : State) (n k : ℕ) (night : Night setting h injection b c [] injection last n k)
+module _ (setting : Setting) (h target : ℕ) (injection : State) (b c : List ℕ) (last : State) (n : ℕ) (k : Refusal) (night : Night setting h injection b c [] injection last n k)
     (calls later : List Call) where
   renewed : DeskWith setting h injection c [] (journeys.after c setting h target (journeys.after b setting h target injection calls) later)
       (pane_of_night b c setting h target injection calls later)

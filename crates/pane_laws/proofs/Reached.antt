@@ -10,6 +10,7 @@ use native.Mathlib.Omega.{arith}
 use Rattle.std.specs.Prelude.{Ok, Err}
 use Rattle.base.specs.declared.Refusal.{Refusal}
 use Rattle.base.specs.Choice.{if◌then◌otherwise◌}
+use Rattle.base.specs.Checks.{Checked}
 use Rattle.state.specs.State.{centre_allowed}
 use Rattle.state.specs.declared.State.{State}
 use Rattle.state.specs.declared.Setting.{Setting}
@@ -107,9 +108,9 @@ module _ (b : List ℕ) (setting : Setting) (h : ℕ) where
             allowed = λ some. ap (centre_allowed setting) (sym (same_centre start s r)) ∙ p.centred;
           }
 
-      go : (k : ℕ) → start_checks b setting s h target ≡ k → Reached start (run_answer b setting s h target budget given).state
-      go zero e = rw (answer_is b setting s h target budget given e) (started e)
-      go (suc k) e = rw (refused_is b setting s h target budget given k e) r
+      go : (checks : Checked) → start_checks b setting s h target ≡ checks → Reached start (run_answer b setting s h target budget given).state
+      go (Ok tt) e = rw (answer_is b setting s h target budget given e) (started e)
+      go (Err k) e = rw (refused_is b setting s h target budget given k e) r
 
   -- ---- all that the desk has in hand, and in the pane
 

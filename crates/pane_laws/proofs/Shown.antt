@@ -102,7 +102,7 @@ module _ (setting : Setting) (h : ℕ) (injection : State) (b : List ℕ) (made 
         subst (OffAir b setting h start last t) (sym (frames.late a c t gone)) (late holds.1.n c holds.1.walked within gone)
 
   -- For all actions of the desk: while the step after `last` cannot be taken under the book in use, nothing past `last` is on air.
-  pub off_air : Desk setting h injection b made hand pane → (start last : State) (n k t : ℕ) → walk_with_moves b setting h made injection ≡ Ok start
+  pub off_air : Desk setting h injection b made hand pane → (start last : State) (n : ℕ) (k : Refusal) (t : ℕ) → walk_with_moves b setting h made injection ≡ Ok start
       → walk (step b setting h) n start ≡ Ok last → step b setting h last ≡ Err k → last.moment < t → OffAir b setting h start last t (frame_at pane t)
   off_air desk start last n k t moved walked off past =
       let sound = always setting h injection b made hand pane desk in
@@ -121,7 +121,7 @@ module _ (setting : Setting) (h : ℕ) (injection : State) (b : List ℕ) (made 
         speed = velocity_of shown.older shown.newer t m (subst (λ (p : Pane). motion_at p t ≡ motion.Current m) shown.held e);
       }
 
-  pub off_air_moving : Desk setting h injection b made hand pane → (start last : State) (n k t : ℕ) → walk_with_moves b setting h made injection ≡ Ok start
+  pub off_air_moving : Desk setting h injection b made hand pane → (start last : State) (n : ℕ) (k : Refusal) (t : ℕ) → walk_with_moves b setting h made injection ≡ Ok start
       → walk (step b setting h) n start ≡ Ok last → step b setting h last ≡ Err k → last.moment < t → OffAirMoving b setting h start last t (motion_at pane t)
   off_air_moving desk start last n k t moved walked off past =
       go (frame_at pane t) refl (off_air desk start last n k t moved walked off past)

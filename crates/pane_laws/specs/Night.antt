@@ -56,9 +56,9 @@ pub record PutOn (b : List ℕ) (setting : Setting) (h : ℕ) (pane : Pane) (new
       ≡ frame.Current (position (run_answer b setting s h target budget given).state)
 
 -- What happened. After the moves made, `start`, n steps of the plain walk under the book b lead to `last`. The next step is refused with k:
--- 6 if "a used body has no cover".
+-- Cover if "a used body has no cover".
 -- The book c passes and is fuller.
-pub record Night (setting : Setting) (h : ℕ) (injection : State) (b c : List ℕ) (made : List Move) (start last : State) (n k : ℕ) : Type 0 where
+pub record Night (setting : Setting) (h : ℕ) (injection : State) (b c : List ℕ) (made : List Move) (start last : State) (n : ℕ) (k : Refusal) : Type 0 where
   pub moves : MovesStand b setting h injection made start
   pub centred : centre_allowed setting start.centre ≡ true
   pub walked : walk (step b setting h) n start ≡ Ok last
@@ -75,7 +75,7 @@ pub record NightHolds (setting : Setting) (h : ℕ) (injection : State) (b c : L
   pub same_start : walk_with_moves c setting h made injection ≡ Ok start
   pub same_walk : (m : ℕ) (s : State) → walk (step b setting h) m start ≡ Ok s → walk (step c setting h) m start ≡ Ok s
   -- if the step after `last` cannot be taken under c either, still no frame past `last` shows a position
-  pub still : (j : ℕ) (hand : List State) (pane : Pane) (t : ℕ) → step c setting h last ≡ Err j → Desk setting h injection c made hand pane
+  pub still : (j : Refusal) (hand : List State) (pane : Pane) (t : ℕ) → step c setting h last ≡ Err j → Desk setting h injection c made hand pane
       → last.moment < t → OffAir c setting h start last t (frame_at pane t)
   -- every position that is shown under c is that walk's
   pub shows : (hand : List State) (pane : Pane) (t : ℕ) (p : Vector) → Desk setting h injection c made hand pane → frame_at pane t ≡ frame.Current p

@@ -9,11 +9,10 @@ use Rattle.state.specs.declared.State.{State}
 use Rattle.state.specs.declared.Setting.{Setting}
 use Rattle.gravity.specs.declared.Guesses.{Guesses}
 use Rattle.run.specs.Step.{step}
-use Rattle.run.specs.Walk.{walk}
 use Rattle.run_checks.specs.Start.{start_checks}
 use Rattle.run.specs.Run.{run_to, with_guesses, run_answer}
 use Rattle.run.specs.declared.Outcome.{Outcome}
-use Rattle.run.specs.declared.Outcome.TheVariants.{Going, Refused}
+use Rattle.run.specs.declared.Outcome.TheVariants.{Refused}
 use Rattle.run.specs.declared.RunAnswer.{RunAnswer}
 use Rattle.run.proofs.Runs.{run_going, run_refused}
 use Rattle.run_checks.proofs.Passed.{Passed, passed, passes_all}
@@ -23,7 +22,7 @@ use Rattle.run_laws.proofs.Ran.{Tells}
 use Rattle.run_laws.proofs.Answers.{answer_is, run_from, checks_stay}
 
 -- a refused run stopped short of the target, at a state with no next step
-pub record Stuck (b : List ℕ) (setting : Setting) (h target k : ℕ) (s : State) : Type 0 where
+pub record Stuck (b : List ℕ) (setting : Setting) (h target : ℕ) (k : Refusal) (s : State) : Type 0 where
   pub passes : Passed b setting s h target
   pub short : s.moment ≡ target → ⊥
   pub off : step b setting h s ≡ Err k
@@ -64,7 +63,7 @@ module _ (b : List ℕ) (setting : Setting) (h target : ℕ) where
             off = sym (walk_last (step b setting h) q.steps s q.state r.walked) ∙ t.2;
           }
 
-  pub is_stuck : (s : State) (budget : ℕ) (given : Guesses) (k : ℕ) → start_checks b setting s h target ≡ Ok tt
+  pub is_stuck : (s : State) (budget : ℕ) (given : Guesses) (k : Refusal) → start_checks b setting s h target ≡ Ok tt
       → (run_answer b setting s h target budget given).outcome ≡ Refused k
       → Stuck b setting h target k (run_answer b setting s h target budget given).state
   is_stuck s budget given k e is =

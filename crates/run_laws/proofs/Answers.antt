@@ -5,9 +5,10 @@ use mathlib.Core.Path.{◌≡◌, refl, sym, ap, ◌∙◌}
 use Prim.Native.Nat.{ℕ, zero, suc, ◌+◌, ◌-◌, ◌*◌, ◌/◌, ◌≤◌, ◌<◌}
 use native.Mathlib.Nat.{mul-mod_left}
 use native.Mathlib.Omega.{arith}
-use borrow.Author.Tests.{lt-ltb, le-leb, ltb-true, ne_eqb}
+use borrow.Author.Tests.{lt-ltb, le-leb, ltb-true}
 use Rattle.std.specs.Prelude.{Ok, Err}
 use Rattle.base.specs.Limits.{end_of_time}
+use Rattle.base.specs.declared.Refusal.{Refusal}
 use Rattle.state.specs.State.{position, acceleration, finite_state, centre_allowed}
 use Rattle.state.specs.declared.State.{State}
 use Rattle.state.specs.declared.Setting.{Setting}
@@ -30,10 +31,10 @@ pub answer_is : (b : List ℕ) (setting : Setting) (s : State) (h target budget 
 unfolding run_answer
 answer_is b setting s h target budget given e = rw e
 
-pub refused_is : (b : List ℕ) (setting : Setting) (s : State) (h target budget : ℕ) (given : Guesses) (k : ℕ) → start_checks b setting s h target ≡ suc k
-    → run_answer b setting s h target budget given ≡ refused_at_once (suc k) s given
+pub refused_is : (b : List ℕ) (setting : Setting) (s : State) (h target budget : ℕ) (given : Guesses) (k : Refusal) → start_checks b setting s h target ≡ Err k
+    → run_answer b setting s h target budget given ≡ refused_at_once k s given
 unfolding run_answer
-refused_is b setting s h target budget given k e = rw (e, ne_eqb (suc k) 0 (λ z. absurd (omega arith)))
+refused_is b setting s h target budget given k e = rw e
 
 still_within : (t h left target : ℕ) → t + left * h ≡ target → within_steps t h target ≡ true
 still_within t h left target e =
@@ -59,8 +60,8 @@ module _ (b : List ℕ) (setting : Setting) (h target : ℕ) where
         finite = d.finite;
         rule = d.rule;
         clear = λ ok.
-            ap (λ (c : ℕ). (sights b setting c next.moment).refusal) d.centre
-            ∙ ap (λ (t : ℕ). (sights b setting s.centre t).refusal) d.moment
+            ap (λ (c : ℕ). (sights b setting c next.moment).checked) d.centre
+            ∙ ap (λ (t : ℕ). (sights b setting s.centre t).checked) d.moment
             ∙ d.clear (ap (centre_allowed setting) (sym d.centre) ∙ ok);
       }
 

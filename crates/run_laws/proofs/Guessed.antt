@@ -2,11 +2,13 @@
 use mathlib.Core.Bool.{Bool, true, false}
 use mathlib.Core.List.{List}
 use mathlib.Core.Path.{◌≡◌, refl}
-use Prim.Native.Nat.{ℕ, zero, suc, ◌≤◌}
+use Prim.Native.Nat.{ℕ, ◌≤◌}
 use native.Mathlib.Omega.{arith}
 use lib.Ieee.{Float}
 use borrow.Author.Tests.{ne_eqb, eq-eqb}
-use Rattle.std.specs.Prelude.{Option, Some, None}
+use Rattle.std.specs.Prelude.{Option, Some, None, Ok, Err}
+use Rattle.base.specs.Checks.{Checked}
+use Rattle.base.specs.declared.Refusal.{Refusal}
 use Rattle.state.specs.State.{used, looked_up}
 use Rattle.state.specs.declared.State.{State}
 use Rattle.state.specs.declared.Setting.{Setting}
@@ -30,7 +32,7 @@ one b number m lit t given clear =
   where
     by : looked_up m lit ≡ true → (l : Option ℕ) → lookup b number t ≡ l → lookup b number t ≡ Some (guess_at b t number m lit given)
     by u (Some i) e = rw (u, e)
-    by u None e = let six : ◌≡◌ {A = ℕ} 6 0 = rw (u, e) at clear in absurd (omega arith)
+    by u None e = let six : Err Refusal.Cover ≡ Ok tt = rw (u, e) at clear in let z : ◌≡◌ {A = ℕ} 0 1 = cc in absurd (omega arith)
 
 all : (b : List ℕ) (s : Setting) (c t : ℕ) (given : Guesses) → (sights b s c t).checked ≡ Ok tt → AllGuessed b s t given (guesses_at b s t given)
 unfolding sights found_in all_found guesses_at
@@ -50,9 +52,9 @@ module _ (b : List ℕ) (setting : Setting) (s : State) (h target budget : ℕ) 
       → AllGuessed b setting (run_answer b setting s h target budget given).state.moment given (run_answer b setting s h target budget given).guesses
   guessed = go (start_checks b setting s h target) refl
     where
-      go : (k : ℕ) → start_checks b setting s h target ≡ k → 1 ≤ (run_answer b setting s h target budget given).steps
+      go : (c : Checked) → start_checks b setting s h target ≡ c → 1 ≤ (run_answer b setting s h target budget given).steps
           → AllGuessed b setting (run_answer b setting s h target budget given).state.moment given (run_answer b setting s h target budget given).guesses
-      go zero e =
+      go (Ok tt) e =
           rw (answer_is b setting s h target budget given e)
           (λ some.
           let q = run_to (step b setting h) target budget s in
@@ -60,13 +62,13 @@ module _ (b : List ℕ) (setting : Setting) (s : State) (h target budget : ℕ) 
           let left = (run_from b setting h target s budget p).seen some in
           rw (ne_eqb q.steps 0 (λ z. absurd (omega arith)))
           (all b setting q.state.centre q.state.moment given (left.clear (checks_stay b setting h target s budget p).centred)))
-      go (suc k) e = rw (refused_is b setting s h target budget given k e) (λ some. absurd (omega arith))
+      go (Err k) e = rw (refused_is b setting s h target budget given k e) (λ some. absurd (omega arith))
 
   -- if no step was done, every guess comes back as given
   pub unmoved : (run_answer b setting s h target budget given).steps ≡ 0 → (run_answer b setting s h target budget given).guesses ≡ given
   unmoved none = go (start_checks b setting s h target) refl none
     where
-      go : (k : ℕ) → start_checks b setting s h target ≡ k → (run_answer b setting s h target budget given).steps ≡ 0
+      go : (c : Checked) → start_checks b setting s h target ≡ c → (run_answer b setting s h target budget given).steps ≡ 0
           → (run_answer b setting s h target budget given).guesses ≡ given
-      go zero e = rw (answer_is b setting s h target budget given e) (λ z. rw (eq-eqb _ _ z))
-      go (suc k) e = rw (refused_is b setting s h target budget given k e) (λ z. refl)
+      go (Ok tt) e = rw (answer_is b setting s h target budget given e) (λ z. rw (eq-eqb _ _ z))
+      go (Err k) e = rw (refused_is b setting s h target budget given k e) (λ z. refl)

@@ -4,7 +4,8 @@ use mathlib.Core.List.{List}
 use mathlib.Core.Path.{◌≡◌, refl, sym, ap, ◌∙◌}
 use Prim.Native.Nat.{ℕ, zero, suc}
 use native.Mathlib.Omega.{arith}
-use Rattle.std.specs.Prelude.{Ok}
+use Rattle.std.specs.Prelude.{Ok, Err}
+use Rattle.base.specs.Checks.{Checked}
 use Rattle.state.specs.State.{bare}
 use Rattle.state.specs.declared.State.{State}
 use Rattle.state.specs.declared.Setting.{Setting}
@@ -33,9 +34,9 @@ module _ (b : List ℕ) (setting : Setting) (s : State) (h target budget : ℕ) 
   pub run_in_order : stored_is_rule b setting s ≡ true → stored_is_rule b setting (run_answer b setting s h target budget given).state ≡ true
   run_in_order ok = go (start_checks b setting s h target) refl
     where
-      go : (k : ℕ) → start_checks b setting s h target ≡ k → stored_is_rule b setting (run_answer b setting s h target budget given).state ≡ true
-      go zero e = ends_in_order e
-      go (suc k) e = rw (refused_is b setting s h target budget given k e) ok
+      go : (c : Checked) → start_checks b setting s h target ≡ c → stored_is_rule b setting (run_answer b setting s h target budget given).state ≡ true
+      go (Ok tt) e = ends_in_order e
+      go (Err k) e = rw (refused_is b setting s h target budget given k e) ok
 
 -- If a state is the one that its old coordinates mean, so are the states after it. So a journey through old calls is the same journey.
 module _ (b : List ℕ) (setting : Setting) (h target : ℕ) where
@@ -55,9 +56,9 @@ module _ (b : List ℕ) (setting : Setting) (h target : ℕ) where
       → launched b setting (bare (run_answer b setting s h target budget given).state) ≡ (run_answer b setting s h target budget given).state
   run_launched s budget given self = go (start_checks b setting s h target) refl
     where
-      go : (k : ℕ) → start_checks b setting s h target ≡ k
+      go : (c : Checked) → start_checks b setting s h target ≡ c
           → launched b setting (bare (run_answer b setting s h target budget given).state) ≡ (run_answer b setting s h target budget given).state
-      go zero e =
+      go (Ok tt) e =
           rw (answer_is b setting s h target budget given e)
           (launched_there s budget (passed b setting s h target e) self (run_to (step b setting h) target budget s).steps refl)
-      go (suc k) e = rw (refused_is b setting s h target budget given k e) self
+      go (Err k) e = rw (refused_is b setting s h target budget given k e) self

@@ -1,10 +1,11 @@
 -- Demand 3 over any list of calls, and what holds of every call. Assumes nothing.
 use mathlib.Core.List.{List, [], ◌∷◌}
 use mathlib.Core.Path.{◌≡◌, refl, sym, ap, ◌∙◌}
-use Prim.Native.Nat.{ℕ, zero, suc, ◌+◌, ◌*◌, ◌≤◌, ◌<◌}
+use Prim.Native.Nat.{ℕ, suc, ◌+◌, ◌*◌, ◌≤◌, ◌<◌}
 use native.Mathlib.Nat.{zero-mul, add-suc, add-mul}
 use native.Mathlib.Omega.{arith}
 use Rattle.base.specs.declared.Refusal.{Refusal}
+use Rattle.base.specs.Checks.{Checked}
 use Rattle.std.specs.Prelude.{Ok, Err}
 use Rattle.state.specs.declared.State.{State}
 use Rattle.state.specs.declared.Setting.{Setting}
@@ -134,19 +135,19 @@ pub clock_always : (b : List ℕ) (setting : Setting) (s : State) (h target budg
     → (run_answer b setting s h target budget given).state.moment ≡ s.moment + (run_answer b setting s h target budget given).steps * h
 clock_always b setting s h target budget given = go (start_checks b setting s h target) refl
   where
-    go : (k : ℕ) → start_checks b setting s h target ≡ k
+    go : (c : Checked) → start_checks b setting s h target ≡ c
         → (run_answer b setting s h target budget given).state.moment ≡ s.moment + (run_answer b setting s h target budget given).steps * h
-    go zero e = rw (answer_is b setting s h target budget given e) (run_from b setting h target s budget (passed b setting s h target e)).time
-    go (suc k) e = rw (refused_is b setting s h target budget given k e) (let z = zero-mul h in omega arith)
+    go (Ok tt) e = rw (answer_is b setting s h target budget given e) (run_from b setting h target s budget (passed b setting s h target e)).time
+    go (Err k) e = rw (refused_is b setting s h target budget given k e) (let z = zero-mul h in omega arith)
 
 -- no call does more steps than its budget
 pub spent_always : (b : List ℕ) (setting : Setting) (s : State) (h target budget : ℕ) (given : Guesses)
     → (run_answer b setting s h target budget given).steps ≤ budget
 spent_always b setting s h target budget given = go (start_checks b setting s h target) refl
   where
-    go : (k : ℕ) → start_checks b setting s h target ≡ k → (run_answer b setting s h target budget given).steps ≤ budget
-    go zero e = rw (answer_is b setting s h target budget given e) (run_from b setting h target s budget (passed b setting s h target e)).spent
-    go (suc k) e = rw (refused_is b setting s h target budget given k e) (omega arith)
+    go : (c : Checked) → start_checks b setting s h target ≡ c → (run_answer b setting s h target budget given).steps ≤ budget
+    go (Ok tt) e = rw (answer_is b setting s h target budget given e) (run_from b setting h target s budget (passed b setting s h target e)).spent
+    go (Err k) e = rw (refused_is b setting s h target budget given k e) (omega arith)
 
 -- the answer without its guesses does not depend on the given guesses
 pub record SameButGuesses (r r' : RunAnswer) : Type 0 where
@@ -158,11 +159,11 @@ pub guess_free : (b : List ℕ) (setting : Setting) (s : State) (h target budget
     → SameButGuesses (run_answer b setting s h target budget given) (run_answer b setting s h target budget other)
 guess_free b setting s h target budget given other = go (start_checks b setting s h target) refl
   where
-    go : (k : ℕ) → start_checks b setting s h target ≡ k
+    go : (c : Checked) → start_checks b setting s h target ≡ c
         → SameButGuesses (run_answer b setting s h target budget given) (run_answer b setting s h target budget other)
-    go zero e =
+    go (Ok tt) e =
         rw (answer_is b setting s h target budget given e, answer_is b setting s h target budget other e)
         (record { outcome = refl; steps = refl; state = refl })
-    go (suc k) e =
+    go (Err k) e =
         rw (refused_is b setting s h target budget given k e, refused_is b setting s h target budget other k e)
         (record { outcome = refl; steps = refl; state = refl })

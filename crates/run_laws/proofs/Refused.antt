@@ -1,13 +1,13 @@
 -- A step is refused only with 6 or 7, and a run with these and the numbers of its start checks. Assumes nothing.
-use mathlib.Core.Bool.{Bool, true, false, not, ◌&&◌, ◌||◌, true≢false}
+use mathlib.Core.Bool.{Bool, true, false, ◌&&◌, ◌||◌, true≢false}
 use mathlib.Core.List.{List}
 use mathlib.Core.Logic.{◌⊎◌, inl, inr}
 use mathlib.Core.Path.{◌≡◌, refl, sym, ap, ◌∙◌}
 use Prim.Native.Nat.{ℕ, zero, suc, ◌+◌, ◌/◌}
 use borrow.Author.Tests.{eqb-true}
 use Rattle.base.specs.declared.Refusal.{Refusal}
-use Rattle.std.specs.Prelude.{Result, Ok, Err}
-use Rattle.base.specs.Choice.{if◌then◌otherwise◌, ◌=?◌}
+use Rattle.std.specs.Prelude.{Result, Ok, Err, Some}
+use Rattle.base.specs.Choice.{◌=?◌}
 use Rattle.base.specs.Limits.{is_moment}
 use Rattle.base.proofs.Cases.{by_if}
 use Rattle.state.specs.State.{position, velocity, acceleration, injection_at, bare, same_vector, finite_vector, finite_state, centre_allowed}
@@ -17,8 +17,9 @@ use Rattle.state.specs.declared.Injection.{Injection}
 use Rattle.state.specs.declared.Setting.{Setting}
 use Rattle.gravity.specs.Acceleration.{acceleration_at}
 use Rattle.gravity.specs.declared.Guesses.{Guesses}
-use Rattle.base.specs.Checks.{refused_by}
-use Rattle.base.proofs.Bools.{or_right}
+use Rattle.base.specs.Checks.{Checked, ◌before◌, checked, refused_by}
+use Rattle.base.specs.Refusals.{number_of, refusal_of}
+use Rattle.base.proofs.Refusals.{reads_back}
 use Rattle.state_checks.proofs.Numbers.{common_meets}
 use Rattle.gravity.proofs.Refused.{rule_refused}
 use Rattle.gravity_stored.specs.Injection.{rule_at, kept_by, stored_check_by, stored_check}
@@ -30,12 +31,12 @@ use Rattle.run.specs.Run.{Reached, at_target, afterwards, run_to, with_guesses, 
 use Rattle.run.specs.declared.Outcome.{Outcome}
 use Rattle.run.specs.declared.Outcome.TheVariants as outcome
 
-abbrev pub off_by : (ℕ → Bool) → Moved → Bool
+abbrev pub off_by : (Refusal → Bool) → Moved → Bool
 off_by ok (Ok s) = true
 off_by ok (Err k) = ok k
 
 -- an outcome whose refusal, if it is one, meets the test
-abbrev pub outcome_by : (ℕ → Bool) → Outcome → Bool
+abbrev pub outcome_by : (Refusal → Bool) → Outcome → Bool
 outcome_by ok outcome.Arrived = true
 outcome_by ok outcome.Going = true
 outcome_by ok (outcome.Refused k) = ok k
@@ -91,48 +92,51 @@ module _ (ok : Refusal → Bool) (six : ok Refusal.Cover ≡ true) (seven : ok R
 
   module _ (one : ok Refusal.Book ≡ true) (four : ok Refusal.Setting ≡ true) (fourteen : ok Refusal.Centre ≡ true) (three : ok Refusal.Moment ≡ true) (fifteen : ok Refusal.Stored ≡ true) (two : ok Refusal.Step ≡ true)
       (five : ok Refusal.Target ≡ true) where
-    stored_by_off : (s : State) (a : Result Vector Refusal) → refused_by ok a ≡ true → ((stored_check_by s a =? 0) || ok (stored_check_by s a)) ≡ true
-    stored_by_off s (Ok a) e = let p : ℕ → Bool = λ k. (k =? 0) || ok k in by_if p (same_vector a (acceleration s)) refl fifteen
-    stored_by_off s (Err k) e = or_right (k =? 0) (ok k) e
+    stored_by_off : (s : State) (a : Result Vector Refusal) → refused_by ok a ≡ true → refused_by ok (stored_check_by s a) ≡ true
+    stored_by_off s (Ok a) e = by_if (refused_by ok) (same_vector a (acceleration s)) refl fifteen
+    stored_by_off s (Err k) e = e
 
-    stored_off : (b : List ℕ) (setting : Setting) (s : State) → ((stored_check b setting s =? 0) || ok (stored_check b setting s)) ≡ true
+    stored_off : (b : List ℕ) (setting : Setting) (s : State) → refused_by ok (stored_check b setting s) ≡ true
     unfolding stored_check
     stored_off b setting s = stored_by_off s (rule_at b setting (bare s)) (rule_refused ok six seven b setting s.centre s.moment (position s))
 
-    -- 0, or a number of the checks
-    start_off : (b : List ℕ) (setting : Setting) (s : State) (h target : ℕ)
-        → ((start_checks b setting s h target =? 0) || ok (start_checks b setting s h target)) ≡ true
+    all_off : (c later : Checked) → refused_by ok c ≡ true → refused_by ok later ≡ true → refused_by ok (c before later) ≡ true
+    all_off (Ok tt) later first rest = rest
+    all_off (Err k) later first rest = first
+
+    -- no refusal, or one of the checks
+    start_off : (b : List ℕ) (setting : Setting) (s : State) (h target : ℕ) → refused_by ok (start_checks b setting s h target) ≡ true
     unfolding start_checks inputs_checks target_checks
     start_off b setting s h target =
-        let p : ℕ → Bool = λ k. (k =? 0) || ok k in
-        common_meets p (λ k. k) _ one four fourteen three seven
-        (by_if p (stored_check b setting s =? 0)
-        (by_if p (not (step_allowed h)) two (by_if p (not (within_steps s.moment h target)) five refl))
-        (stored_off b setting s))
+        common_meets (refused_by ok) Err _ one four fourteen three seven
+        (all_off (stored_check b setting s) _ (stored_off b setting s)
+        (all_off _ _ (by_if (refused_by ok) (step_allowed h) refl two) (by_if (refused_by ok) (within_steps s.moment h target) refl five)))
         b setting (centre_allowed setting s.centre) (is_moment s.moment && is_moment target) (finite_state s)
 
     -- a run only with 1, 4, 14, 3, 7, 6, 15, 2 and 5
     pub run_refused_lem : (b : List ℕ) (setting : Setting) (s : State) (h target budget : ℕ) (given : Guesses)
         → outcome_by ok (run_answer b setting s h target budget given).outcome ≡ true
     unfolding run_answer
-    run_refused_lem b setting s h target budget given = go (start_checks b setting s h target =? 0) (start_off b setting s h target)
+    run_refused_lem b setting s h target budget given = go (start_checks b setting s h target) (start_off b setting s h target)
       where
-        go : (none : Bool) → (none || ok (start_checks b setting s h target)) ≡ true
-            → outcome_by ok (if none then with_guesses b setting given (run_to (step b setting h) target budget s)
-            otherwise refused_at_once (start_checks b setting s h target) s given).outcome ≡ true
-        go true e = run_off (step b setting h) (step_off b setting h) target budget s
-        go false e = e
+        go : (c : Checked) → refused_by ok c ≡ true
+            → outcome_by ok (checked c (with_guesses b setting given (run_to (step b setting h) target budget s))
+            (λ k. refused_at_once k s given)).outcome ≡ true
+        go (Ok tt) e = run_off (step b setting h) (step_off b setting h) target budget s
+        go (Err k) e = e
 
 -- "refused by 6 or 7 alone"
 pub six_or_seven : (b : List ℕ) (setting : Setting) (h : ℕ) (k : Refusal) (s : State) → step b setting h s ≡ Err k → (k ≡ Refusal.Cover) ⊎ (k ≡ Refusal.NotFinite)
-six_or_seven b setting h k s e = go (k =? 6) refl (k =? 7) refl
+six_or_seven b setting h k s e =
+    go (number_of k =? 6) (number_of k =? 7) refl refl (sym (ap (off_by six_seven) e) ∙ step_off six_seven refl refl b setting h s)
   where
-    holds : ((k =? 6) || (k =? 7)) ≡ true
-    holds =
-        sym (ap (off_by (λ (j : ℕ). (j =? 6) || (j =? 7))) e)
-        ∙ step_off (λ (j : ℕ). (j =? 6) || (j =? 7)) refl refl b setting h s
+    six_seven : Refusal → Bool
+    six_seven j = (number_of j =? 6) || (number_of j =? 7)
 
-    go : (six : Bool) → (k =? 6) ≡ six → (seven : Bool) → (k =? 7) ≡ seven → (k ≡ 6) ⊎ (k ≡ 7)
-    go true is seven or = inl (eqb-true k 6 is)
-    go false is true or = inr (eqb-true k 7 or)
-    go false is false or = let clash : ◌≡◌ {A = Bool} false true = rw (is, or) at holds in absurd (true≢false (sym clash))
+    named : (j : Refusal) (n : ℕ) → number_of k ≡ n → refusal_of n ≡ Some j → k ≡ j
+    named j n is reads = let same : Some k ≡ Some j = sym (reads_back k) ∙ ap refusal_of is ∙ reads in cc
+
+    go : (six seven : Bool) → (number_of k =? 6) ≡ six → (number_of k =? 7) ≡ seven → (six || seven) ≡ true → (k ≡ Refusal.Cover) ⊎ (k ≡ Refusal.NotFinite)
+    go true seven is or e = inl (named Refusal.Cover 6 (eqb-true (number_of k) 6 is) refl)
+    go false true is or e = inr (named Refusal.NotFinite 7 (eqb-true (number_of k) 7 or) refl)
+    go false false is or e = absurd (true≢false (sym e))

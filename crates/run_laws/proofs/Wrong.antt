@@ -9,13 +9,11 @@ use Rattle.base.specs.Floats.{whole}
 use Rattle.state.specs.State.{setting_allowed, coefficients_allowed, terms_allowed, coefficient_of, centre_allowed, same_vector, n}
 use Rattle.state.specs.declared.Vector.{Vector}
 use Rattle.state.specs.declared.State.{State}
-use Rattle.state.specs.declared.Setting.{Setting}
 use Rattle.book.specs.Passes.{passes}
 use Rattle.base_bytes.specs.Bytes.{u16_at, u32_at, u64_at}
 use Rattle.root.specs.Root.{root_of}
 use Rattle.gravity.specs.Pull.{g, sound, r3}
 use Rattle.gravity.specs.Acceleration.{sky, acceleration_at}
-use Rattle.gravity.specs.declared.Guesses.{Guesses}
 use Rattle.gravity_stored.specs.Injection.{stored_check}
 use Rattle.state_checks.specs.Common.{common_checks}
 use Rattle.run_checks.specs.Start.{inputs_checks, start_checks}

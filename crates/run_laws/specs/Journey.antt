@@ -59,7 +59,7 @@ AllHold f injection h target n (call ∷ calls) (r ∷ answers) =
 
 -- "A refused step costs nothing and is met again by each later call with budget": the answer of a call from the state s, if the next step
 -- is refused with k. Without budget the answer is going.
-abbrev pub met_again : ℕ → State → Call → RunAnswer
+abbrev pub met_again : Refusal → State → Call → RunAnswer
 met_again k s call =
     record { outcome = if call.budget =? 0 then Going otherwise Refused k; steps = 0; state = s; guesses = call.guesses }
 

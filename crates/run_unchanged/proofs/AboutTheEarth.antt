@@ -1,6 +1,6 @@
 -- Document 02, R-7: with J and K zero all bits and refusals are what they were; and R-6: "About the Earth all bits stay as they were". Assumes
 -- nothing.
-use mathlib.Core.Bool.{Bool, true, false, not, ◌&&◌, ◌||◌, and-true}
+use mathlib.Core.Bool.{Bool, true, false, ◌&&◌, ◌||◌, and-true}
 use mathlib.Core.List.{List, [], ◌∷◌}
 use mathlib.Core.Path.{◌≡◌, refl, sym, ap, ◌∙◌}
 use Prim.Native.Nat.{ℕ}
@@ -28,8 +28,8 @@ use Rattle.gravity.specs.Pull.{minus, sound}
 use Rattle.gravity.specs.Acceleration.{all_sound, Body, Sky, Listed, standing, nowhere, at_rest, stands, seen, sky_of, sky, others}
 use Rattle.gravity.specs.Acceleration.{place_of, rule, view_from, seen_then, acceleration_at, acceleration_answer}
 use Rattle.gravity.proofs.SoFar.{from_centre}
-use Rattle.base.specs.Checks.{or_later}
-use Rattle.state_checks.proofs.Numbers.{check_by_check}
+use Rattle.base.specs.Checks.{Checked, require, ◌before◌}
+use Rattle.state_checks.specs.Common.{common_checks}
 use Rattle.run_target.specs.Target.{target_checks}
 use Rattle.run_checks.specs.Start.{inputs_checks, start_checks}
 use Rattle.gravity_stored.specs.Injection.{stored_check}
@@ -148,8 +148,8 @@ module _ (s : Setting) (flat : used s.j ≡ false) (dark : used s.k ≡ false) w
   pub about_the_earth : (b : List ℕ) (t : ℕ) (P : Vector) → acceleration_at b s 1 t P ≡ acceleration_before b s t P
   unfolding without_terms acceleration_before coefficient_of
   about_the_earth b t P =
-      let before = rule_before s.earth P in
-      switched_off b 1 t P ∙ from_centre_lem before 1 nowhere (sky b s t) ∙ ap (seen_then before) (sky_before b s t dark)
+      let old = rule_before s.earth P in
+      switched_off b 1 t P ∙ from_centre_lem old 1 nowhere (sky b s t) ∙ ap (seen_then old) (sky_before b s t dark)
 
 -- ---- the calls
 
@@ -172,37 +172,40 @@ earth_used s e =
     (left E (coefficient_allowed s.jupiter) (left F (terms_allowed s) (left G (is_dut s.dut) (left (G && is_dut s.dut) (is_rule s.rule) e))))))))
 
 -- so 14 never comes about the Earth
-module _ {A : Type 0} (s : Setting) (four fourteen rest : A) where
-  no_fourteen : (if not (setting_allowed s) then four otherwise if not (centre_allowed s 1) then fourteen otherwise rest) ≡ (if not (setting_allowed s) then four otherwise rest)
-  no_fourteen = go (setting_allowed s) refl
-    where
-      go : (ok : Bool) → setting_allowed s ≡ ok
-          → (if not ok then four otherwise if not (centre_allowed s 1) then fourteen otherwise rest) ≡ (if not ok then four otherwise rest)
-      go true e = rw (earth_used s e)
-      go false e = refl
+no_fourteen : {A : Type 0} (s : Setting) (book timed finite : Bool) (x : Result A Refusal)
+    → ((require book Refusal.Book before require (setting_allowed s) Refusal.Setting before require (centre_allowed s 1) Refusal.Centre before require timed Refusal.Moment before require finite Refusal.NotFinite) before x)
+    ≡ (require book Refusal.Book before require (setting_allowed s) Refusal.Setting before require timed Refusal.Moment before require finite Refusal.NotFinite before x)
+no_fourteen s book timed finite x = go book (setting_allowed s) refl timed finite
+  where
+    go : (book set : Bool) → setting_allowed s ≡ set → (timed finite : Bool)
+        → ((require book Refusal.Book before require set Refusal.Setting before require (centre_allowed s 1) Refusal.Centre before require timed Refusal.Moment before require finite Refusal.NotFinite) before x)
+        ≡ (require book Refusal.Book before require set Refusal.Setting before require timed Refusal.Moment before require finite Refusal.NotFinite before x)
+    go false set e timed finite = refl
+    go true false e timed finite = refl
+    go true true e false finite = rw (earth_used s e)
+    go true true e true false = rw (earth_used s e)
+    go true true e true true = rw (earth_used s e)
 
 pub answer_as_before : (b : List ℕ) (s : Setting) (t : ℕ) (P : Vector) → used s.j ≡ false → used s.k ≡ false
     → acceleration_answer b s 1 t P ≡ answer_before b s t P
-unfolding acceleration_answer answer_before
+unfolding acceleration_answer common_checks answer_before
 answer_as_before b s t P flat dark =
-    check_by_check Err (acceleration_at b s 1 t P) b s (centre_allowed s 1) (is_moment t) (finite_vector P)
-    ∙ ap (λ (x : Result Vector Refusal). if not (passes b) then Err Refusal.Book otherwise x)
-    (no_fourteen s (Err Refusal.Setting) (Err Refusal.Centre) _
-    ∙ ap (λ (x : Result Vector Refusal). if not (setting_allowed s) then Err Refusal.Setting otherwise if not (is_moment t) then Err Refusal.Moment otherwise if not (finite_vector P) then Err Refusal.NotFinite otherwise x)
-    (about_the_earth s flat dark b t P))
+    no_fourteen s (passes b) (is_moment t) (finite_vector P) (acceleration_at b s 1 t P)
+    ∙ ap
+    (λ (x : Result Vector Refusal). require (passes b) Refusal.Book before require (setting_allowed s) Refusal.Setting before require (is_moment t) Refusal.Moment before require (finite_vector P) Refusal.NotFinite before x)
+    (about_the_earth s flat dark b t P)
 
--- two moments that give the same number, checked together or one after the other
-both_moments : (p q : Bool) (k rest : ℕ) → (if not (p && q) then k otherwise rest) ≡ (if not p then k otherwise if not q then k otherwise rest)
+-- two moments that give the same refusal, checked together or one after the other
+both_moments : (p q : Bool) (k : Refusal) (rest : Checked) → (require (p && q) k before rest) ≡ (require p k before require q k before rest)
 both_moments true q k rest = refl
 both_moments false q k rest = refl
 
 -- a state about the Earth that is in order starts as it did
 module _ (b : List ℕ) (setting : Setting) (s : State) (h : ℕ) (earth : s.centre ≡ 1) where
   pub start_as_before : stored_check b setting s ≡ Ok tt → (target : ℕ) → start_checks b setting s h target ≡ start_before b setting s h target
-  unfolding start_checks inputs_checks target_checks start_before
+  unfolding start_checks inputs_checks common_checks target_checks start_before
   start_as_before ordered target =
-      check_by_check (λ k. k) (or_later (stored_check b setting s) (target_checks s.moment h target)) b setting (centre_allowed setting s.centre)
-      (is_moment s.moment && is_moment target) (finite_state s)
-      ∙ rw (ordered, earth)
-      (ap (λ (k : ℕ). if not (passes b) then 1 otherwise k)
-      (no_fourteen setting 4 14 _ ∙ ap (λ (k : ℕ). if not (setting_allowed setting) then 4 otherwise k) (both_moments (is_moment s.moment) (is_moment target) 3 _)))
+      rw (ordered, earth)
+      (no_fourteen setting (passes b) (is_moment s.moment && is_moment target) (finite_state s) (target_checks s.moment h target)
+      ∙ ap (λ (x : Checked). require (passes b) Refusal.Book before require (setting_allowed setting) Refusal.Setting before x)
+      (both_moments (is_moment s.moment) (is_moment target) Refusal.Moment _))

@@ -4,9 +4,9 @@ use mathlib.Core.List.{List}
 use mathlib.Core.Path.{◌≡◌, refl, sym, ap, ◌∙◌}
 use Prim.Native.Nat.{ℕ, zero, suc, ◌+◌}
 use native.Mathlib.Decide.{ℕ_discrete}
-use lib.Dec.{eqb-suc-zero}
 use Rattle.base.specs.declared.Refusal.{Refusal}
 use Rattle.std.specs.Prelude.{Result, Ok, Err}
+use Rattle.base.specs.Checks.{Checked}
 use Rattle.state.specs.State.{position, acceleration, carrying, bare, used}
 use Rattle.state.specs.declared.Vector.{Vector}
 use Rattle.state.specs.declared.State.{State}
@@ -20,7 +20,6 @@ use Rattle.run.specs.Step.{Moved, and_then, step}
 use Rattle.run.specs.Stages.{stage2}
 use Rattle.run.specs.Walk.{onward, walk}
 use Rattle.run.specs.Run.{Reached, counted, run_to, run_answer}
-use Rattle.run.specs.declared.Outcome.TheVariants.{Arrived, Going, Refused}
 use Rattle.run.proofs.OneStep.{done}
 use Rattle.run.proofs.Runs.{run_arrived, run_going, run_refused, run_on}
 use Rattle.run_laws.proofs.Answers.{answer_is, refused_is, centre_stays}
@@ -157,7 +156,7 @@ module _ (b : List ℕ) (setting : Setting) (flat : used setting.j ≡ false) (d
       checks : start_checks b setting s h target ≡ start_before b setting s h target
       checks = start_as_before b setting s h c.earth (stored_passes b setting s (carries_rule b setting s c.rule)) target
 
-      go : (k : ℕ) → start_checks b setting s h target ≡ k
+      go : (checked : Checked) → start_checks b setting s h target ≡ checked
           → AsBefore b setting (reached_by (run_answer b setting s h target budget given)) (run_before b setting s h target budget)
-      go zero e = rw (answer_is b setting s h target budget given e, sym checks ∙ e) (run_from_lem target budget s (acceleration s) c)
-      go (suc k) e = rw (refused_is b setting s h target budget given k e, sym checks ∙ e, eqb-suc-zero) (same refl refl refl)
+      go (Ok tt) e = rw (answer_is b setting s h target budget given e, sym checks ∙ e) (run_from_lem target budget s (acceleration s) c)
+      go (Err k) e = rw (refused_is b setting s h target budget given k e, sym checks ∙ e) (same refl refl refl)

@@ -1,8 +1,8 @@
 -- The acceleration before document 02's R-7: about any centre, without the last terms. Also document 01's acceleration and start checks
 -- before R-6: about the Earth, over the bodies from 2 on.
 use Rattle.base.specs.declared.Refusal.{Refusal}
-use Rattle.std.specs.Prelude.{false, not, ◌&&◌, List, [], ◌∷◌, ℕ, Float, Result, Err}
-use Rattle.base.specs.Choice.{if◌then◌otherwise◌}
+use Rattle.std.specs.Prelude.{false, ◌&&◌, List, [], ◌∷◌, ℕ, Float, Result}
+use Rattle.base.specs.Checks.{Checked, require, ◌before◌}
 use Rattle.base.specs.Limits.{is_moment}
 use Rattle.state.specs.State.{finite_vector, finite_state, setting_allowed, coefficient_of}
 use Rattle.state.specs.declared.Vector.{Vector}
@@ -40,19 +40,19 @@ acceleration_before b s t P = seen_then (rule_before s.earth P) (sky_of b t (bod
 -- "Acceleration: 1, 4, 3, 7 (position), then its own rule"
 unfoldable pub answer_before : List ℕ → Setting → ℕ → Vector → Result Vector Refusal
 answer_before b s t P =
-    if not (passes b) then Err Refusal.Book otherwise
-    if not (setting_allowed s) then Err Refusal.Setting otherwise
-    if not (is_moment t) then Err Refusal.Moment otherwise
-    if not (finite_vector P) then Err Refusal.NotFinite otherwise
-    acceleration_before b s t P
+    require (passes b) Refusal.Book
+    before require (setting_allowed s) Refusal.Setting
+    before require (is_moment t) Refusal.Moment
+    before require (finite_vector P) Refusal.NotFinite
+    before acceleration_before b s t P
 
 -- "Run call order: 1, 4, 3 (state, then target), 7 (state), 2, 5": before R-8 the stored acceleration was not checked
-unfoldable pub start_before : List ℕ → Setting → State → ℕ → ℕ → ℕ
+unfoldable pub start_before : List ℕ → Setting → State → ℕ → ℕ → Checked
 start_before b setting s h target =
-    if not (passes b) then 1 otherwise
-    if not (setting_allowed setting) then 4 otherwise
-    if not (is_moment s.moment) then 3 otherwise
-    if not (is_moment target) then 3 otherwise
-    if not (finite_state s) then 7 otherwise
-    if not (step_allowed h) then 2 otherwise
-    if not (within_steps s.moment h target) then 5 otherwise 0
+    require (passes b) Refusal.Book
+    before require (setting_allowed setting) Refusal.Setting
+    before require (is_moment s.moment) Refusal.Moment
+    before require (is_moment target) Refusal.Moment
+    before require (finite_state s) Refusal.NotFinite
+    before require (step_allowed h) Refusal.Step
+    before require (within_steps s.moment h target) Refusal.Target

@@ -2,7 +2,7 @@
 -- velocity only.
 use Rattle.base.specs.declared.Refusal.{Refusal}
 use Rattle.std.specs.Prelude.{List, ◌≡◌, ℕ, ◌+◌, Err}
-use Rattle.base.specs.Choice.{if◌then◌otherwise◌, ◌=?◌}
+use Rattle.base.specs.Checks.{checked}
 use Rattle.state.specs.State.{position, bare}
 use Rattle.state.specs.declared.State.{State}
 use Rattle.state.specs.declared.Setting.{Setting}
@@ -15,8 +15,9 @@ use Rattle.run_unchanged.specs.Step.{step_before}
 -- its outcome, steps and state
 abbrev pub run_before : List ℕ → Setting → State → ℕ → ℕ → ℕ → Reached
 run_before b setting s h target budget =
-    let k = start_before b setting s h target in
-    if k =? 0 then run_to (step_before (acceleration_before b setting) h) target budget s otherwise ended (Refused k) s
+    checked (start_before b setting s h target)
+    (run_to (step_before (acceleration_before b setting) h) target budget s)
+    (λ k. ended (Refused k) s)
 
 abbrev pub reached_by : RunAnswer → Reached
 reached_by r = record { outcome = r.outcome; steps = r.steps; state = r.state }
