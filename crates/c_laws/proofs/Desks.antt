@@ -7,6 +7,7 @@ use Prim.Native.Nat.{ℕ, ◌-◌, ◌≤◌, ◌<◌}
 use native.Mathlib.Omega.{arith}
 use lib.Ieee.{Float}
 use borrow.Author.Tests.{leb-true}
+use Rattle.base.specs.Refusals.{number_of}
 use Rattle.base.specs.declared.Refusal.{Refusal}
 use Rattle.std.specs.Prelude.{Result, Ok, Err}
 use Rattle.base.specs.Choice.{if◌then◌otherwise◌, ◌<?◌, ◌≤?◌}
@@ -50,13 +51,13 @@ use Rattle.c_run.specs.Lent.{state_of, guesses_of, whole_in}
 use Rattle.c_run.specs.Answers.{outcome_number, of_move}
 use Rattle.c_pane.specs.Lent.{Kept, pane_of, fed_with, left}
 use Rattle.belfry_pane.specs.Answers.{late, empty, of_frame, of_motion}
-use Rattle.c_laws.specs.Table.{tabled, in_table}
+use Rattle.c_laws.specs.Table.{in_table}
 use Rattle.c_laws.specs.Linked.{LinkedCall, as_call}
 use Rattle.c_laws.specs.Desks.{Held, state_in, HeldIn, flown, moved_to, fed_by, frame_in, motion_in, LinkedLeg, as_leg, setting_in, flight, move}
 use Rattle.c_laws.specs.Desks.{LinkedDesk, begins, runs, tries, offers, clears, renews, moves, OnAirIn, OffAirIn, empty_in, late_in}
 use Rattle.c_laws.specs.Desks.{OnAirMovingIn, OffAirMovingIn, empty_moving_in, late_moving_in, NightIn}
 use Rattle.c_laws.specs.Desks.{flights_from, LinkedFlown, no_leg, leg}
-use Rattle.c_laws.proofs.Numbers.{run_told, move_told}
+use Rattle.c_laws.proofs.Numbers.{number_told, move_told}
 use Rattle.c_laws.proofs.Journeys.{state_reads_back}
 use Rattle.c_laws.proofs.Panes.{pane_reads_back, fed_as_answered}
 
@@ -134,9 +135,8 @@ module _ (m extras : List Float) (dut rule : ℕ) where
                 ∙ ap (λ (c : ℕ). state_of next.moment c (whole_in next)) (sym keeps.1);
           }
       go (Err k) e is none =
-          let number : k ≡ 0 = sym (ap (λ (a : Result State Refusal). (answered before (of_move a)).returned) e) ∙ none in
-          let some : tabled k ≡ true = sym (ap (λ (a : Result State Refusal). in_table (of_move a)) e) ∙ is in
-          let least : 1 ≤ k = leb-true 1 k (bools.left (1 ≤? k) (k ≤? 18) some) in
+          let number : number_of k ≡ 0 = sym (ap (λ (a : Result State Refusal). (answered before (of_move a)).returned) e) ∙ none in
+          let least : 1 ≤ number_of k = leb-true 1 (number_of k) (bools.left (1 ≤? number_of k) (number_of k ≤? 18) (number_told k)) in
           absurd (omega arith)
 
   -- ---- the desk
@@ -198,12 +198,12 @@ module _ (m extras : List Float) (dut rule : ℕ) where
               let clash : ◌≡◌ {A = ℕ} 103 0 = sym (ap (λ (a : FrameAnswer). (of_frame a).returned) e) ∙ none in
               absurd (omega arith)
           go (frame.Refused k) e none =
-              let number : k ≡ 0 = sym (ap (λ (a : FrameAnswer). (of_frame a).returned) e) ∙ none in
-              let seven = by_seven (pane_of kept.numbers kept.places) t k e in
+              let number : number_of k ≡ 0 = sym (ap (λ (a : FrameAnswer). (of_frame a).returned) e) ∙ none in
+              let seven : number_of k ≡ 7 = ap number_of (by_seven (pane_of kept.numbers kept.places) t k e) in
               absurd (omega arith)
 
       -- past the last state, while the step after it cannot be taken under the book in use
-      pub off_air_in_memory : (start last : State) (n k : ℕ) → walk_with_moves b setting h made (state_in injection) ≡ Ok start
+      pub off_air_in_memory : (start last : State) (n : ℕ) (k : Refusal) → walk_with_moves b setting h made (state_in injection) ≡ Ok start
           → walk (step b setting h) n start ≡ Ok last → step b setting h last ≡ Err k → last.moment < t
           → OffAirIn m extras dut rule b h start last t (frame_in kept t)
       off_air_in_memory start last n k moved walked off past =
@@ -234,11 +234,11 @@ module _ (m extras : List Float) (dut rule : ℕ) where
               let clash : ◌≡◌ {A = ℕ} 103 0 = sym (ap (λ (a : FrameMotion). (of_motion a).returned) e) ∙ none in
               absurd (omega arith)
           go (motion.Refused k) e none =
-              let number : k ≡ 0 = sym (ap (λ (a : FrameMotion). (of_motion a).returned) e) ∙ none in
-              let seven = moving_by_seven (pane_of kept.numbers kept.places) t k e in
+              let number : number_of k ≡ 0 = sym (ap (λ (a : FrameMotion). (of_motion a).returned) e) ∙ none in
+              let seven : number_of k ≡ 7 = ap number_of (moving_by_seven (pane_of kept.numbers kept.places) t k e) in
               absurd (omega arith)
 
-      pub off_air_moving_in_memory : (start last : State) (n k : ℕ) → walk_with_moves b setting h made (state_in injection) ≡ Ok start
+      pub off_air_moving_in_memory : (start last : State) (n : ℕ) (k : Refusal) → walk_with_moves b setting h made (state_in injection) ≡ Ok start
           → walk (step b setting h) n start ≡ Ok last → step b setting h last ≡ Err k → last.moment < t
           → OffAirMovingIn m extras dut rule b h start last t (motion_in kept t)
       off_air_moving_in_memory start last n k moved walked off past =
@@ -249,7 +249,7 @@ module _ (m extras : List Float) (dut rule : ℕ) where
           go answer air.empty_moving = empty_moving_in
           go answer (air.late_moving n s walked within gone) = late_moving_in n s walked within gone
 
-  pub the_night_in_memory : (h : ℕ) (injection : Held) (b c : List ℕ) (made : List Move) (start last : State) (n k : ℕ)
+  pub the_night_in_memory : (h : ℕ) (injection : Held) (b c : List ℕ) (made : List Move) (start last : State) (n : ℕ) (k : Refusal)
       → Night setting h (state_in injection) b c made start last n k → NightIn m extras dut rule h injection b c made start last
   the_night_in_memory h injection b c made start last n k night =
       record {
@@ -265,7 +265,7 @@ module _ (m extras : List Float) (dut rule : ℕ) where
 
   -- a move that is refused returns its number, and leaves the memory unchanged
   pub refused_move_unwritten : (b : List ℕ) (s : Held) (centre : ℕ) (before : List Float) (k : Refusal) → move_answer b setting (state_in s) centre ≡ Err k
-      → move m extras dut rule b s centre before ≡ handed k before
+      → move m extras dut rule b s centre before ≡ handed (number_of k) before
   refused_move_unwritten b s centre before k e = ap (λ (a : Result State Refusal). answered before (of_move a)) e
 
   -- ---- legs

@@ -2,8 +2,10 @@
 -- of demand 3. Assumes nothing.
 use mathlib.Core.List.{List, [], ◌∷◌, map}
 use mathlib.Core.Path.{◌≡◌, refl, sym, ap, ◌∙◌}
-use Prim.Native.Nat.{ℕ, zero, suc}
+use Prim.Native.Nat.{ℕ}
 use lib.Ieee.{Float}
+use Rattle.std.specs.Prelude.{Ok, Err}
+use Rattle.base.specs.Checks.{Checked}
 use Rattle.state.specs.declared.State.{State}
 use Rattle.state.specs.declared.Injection.{Injection}
 use Rattle.state.specs.declared.Setting.{Setting}
@@ -27,12 +29,12 @@ centre_stays_lem : (b : List ℕ) (setting : Setting) (s : State) (h target budg
     → (run_answer b setting s h target budget given).state.centre ≡ s.centre
 centre_stays_lem b setting s h target budget given = go (start_checks b setting s h target) refl
   where
-    go : (k : ℕ) → start_checks b setting s h target ≡ k → (run_answer b setting s h target budget given).state.centre ≡ s.centre
-    go zero e =
+    go : (c : Checked) → start_checks b setting s h target ≡ c → (run_answer b setting s h target budget given).state.centre ≡ s.centre
+    go (Ok tt) e =
         rw (answer_is b setting s h target budget given e)
         (let r = run_from b setting h target s budget (passed b setting s h target e) in
         centre_stays b setting h target (run_to (step b setting h) target budget s).steps s _ r.walked)
-    go (suc k) e = rw (refused_is b setting s h target budget given k e)
+    go (Err k) e = rw (refused_is b setting s h target budget given k e)
 
 pub state_reads_back : (b : List ℕ) (setting : Setting) (s : State) (h target budget : ℕ) (given : Guesses)
     → (let r = run_answer b setting s h target budget given in state_of (of_flight r).moment s.centre (of_flight r).coordinates ≡ r.state)

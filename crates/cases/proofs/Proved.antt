@@ -14,7 +14,7 @@ use Rattle.book.specs.Series.{argument, clenshaw, series, slopes, slope, place, 
 use Rattle.state_checks.specs.Common.{common_checks}
 use Rattle.gravity.specs.Pull.{g, sound, r3}
 use Rattle.gravity.specs.Acceleration.{sky, acceleration_at, acceleration_answer}
-use Rattle.conic.specs.Conic.{cross, eccentricity, last_figure, orbit, unfit, ◌before◌, refusal, conic_of, orbit_answer, conic_answer, figures_about}
+use Rattle.conic.specs.Conic.{cross, eccentricity, last_figure, orbit, fit, fit_nonzero, orbit_checks, conic_of, orbit_answer, conic_answer, figures_about}
 use Rattle.cases.specs.Table.{AllRight, table}
 
 infixr 5 ◌&◌
@@ -25,7 +25,7 @@ a & b = (a, b)
 pub all : AllRight table
 unfolding days_before_month days_of_years sidereal_angle u16_at u32_at u64_at passes lookup body_at position_answer argument clenshaw series slopes slope place velocity
     setting_allowed coefficients_allowed terms_allowed centre_allowed coefficient_of common_checks sky acceleration_at acceleration_answer g sound r3 n
-    cross eccentricity last_figure orbit unfit ◌before◌ refusal conic_of orbit_answer conic_answer figures_about root_of neg add sub mul div lt eq of_bits of_int of_fields odd size
+    cross eccentricity last_figure orbit fit fit_nonzero orbit_checks conic_of orbit_answer conic_answer figures_about root_of neg add sub mul div lt eq of_bits of_int of_fields odd size
 all =
     date_call_and_back (ymd 1958 1 1) refl
     & date_call_and_back (ymd 2000 2 29) refl
