@@ -9,7 +9,6 @@ use borrow.Author.Tests.{lt-ltb, le-ltb, leb-true, eq-eqb, ne_eqb}
 use lib.Dec.{leb, ltb}
 use lib.ListN.{length, get_or, drop, drop_of_length-le}
 use lib.Seq.{drop-cons}
-use Rattle.base.specs.declared.Refusal.{Refusal}
 use Rattle.base.specs.Limits.{end_of_time}
 use Rattle.listing_scan.specs.declared.Row.{Row}
 use Rattle.listing_scan.specs.declared.Line.{Line}
@@ -44,7 +43,7 @@ arrived_first : Takes Start 65 (Letters Arrived 1)
 unfolding told kind_of arrived_line word
 arrived_first = record { same = λ rest. refl; on = refl }
 
-refused_first : Takes Start 82 (Letters Refused Refusal.Book)
+refused_first : Takes Start 82 (Letters Refused 1)
 unfolding told kind_of refused_line word
 refused_first = record { same = λ rest. refl; on = refl }
 
@@ -55,8 +54,8 @@ module _ (b : ℕ) where
   pub first_arrived : b ≡ 65 → Takes Start b (Letters Arrived 1)
   first_arrived e = subst (λ (n : ℕ). Takes Start n (Letters Arrived 1)) (sym e) arrived_first
 
-  pub first_refused : b ≡ 82 → Takes Start b (Letters Refused Refusal.Book)
-  first_refused e = subst (λ (n : ℕ). Takes Start n (Letters Refused Refusal.Book)) (sym e) refused_first
+  pub first_refused : b ≡ 82 → Takes Start b (Letters Refused 1)
+  first_refused e = subst (λ (n : ℕ). Takes Start n (Letters Refused 1)) (sym e) refused_first
 
   module _ (h : b ≡ 83 → ⊥) (a : b ≡ 65 → ⊥) (r : b ≡ 82 → ⊥) where
     pub first_digit : is_decimal b ≡ true → Takes Start b (Moment (b - 48))

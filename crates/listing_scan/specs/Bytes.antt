@@ -1,5 +1,4 @@
 -- How a line is read byte by byte: what each value of a scan says about the rest of its line.
-use Rattle.base.specs.declared.Refusal.{Refusal}
 use Rattle.std.specs.Prelude.{ℕ, suc, ◌+◌, ◌-◌, ◌*◌, Bool, true, false, ◌&&◌, List, [], ◌∷◌, ◌≡◌, length, drop, get_or}
 use Rattle.base.specs.Choice.{if◌then◌otherwise◌, ◌<?◌, ◌=?◌}
 use Rattle.base.specs.Limits.{is_moment}
@@ -67,7 +66,7 @@ abbrev pub on_first : ℕ → Scan
 on_first b =
     if b =? 83 then Letters Strip 1 otherwise
     if b =? 65 then Letters Arrived 1 otherwise
-    if b =? 82 then Letters Refused Refusal.Book otherwise
+    if b =? 82 then Letters Refused 1 otherwise
     if is_decimal b then Moment (b - 48) otherwise Bad
 
 abbrev pub on_letter : Word → ℕ → ℕ → Scan

@@ -9,6 +9,7 @@ use borrow.Author.Tests.{eq-eqb, ne_eqb, ltb-true, ltb-false}
 use lib.Dec.{ltb}
 use lib.ListN.{length, take, drop, get_or}
 use lib.Seq.{drop-cons}
+use Rattle.std.specs.Prelude.{Option, Some, None}
 use Rattle.base.specs.Choice.{if◌then◌otherwise◌}
 use Rattle.base.specs.Limits.{end_of_time}
 use Rattle.text_write.specs.Written.{Wrote}
@@ -16,8 +17,6 @@ use Rattle.text_write.proofs.Writing.{nothing, both, inside}
 use Rattle.listing_scan.specs.declared.Row.{Row}
 use Rattle.listing_scan.specs.declared.Line.{Line}
 use Rattle.listing_scan.specs.declared.Line.TheVariants as line
-use Rattle.listing_read.specs.declared.Found.{Found}
-use Rattle.listing_read.specs.declared.Found.TheVariants.{Is, None}
 use Rattle.listing_read.specs.declared.Place.{Place}
 use Rattle.listing_read.specs.declared.Place.TheVariants.{Top, First, After, Done, Off}
 use Rattle.listing_scan.specs.declared.Scan.{Scan}
@@ -48,19 +47,19 @@ choice false q e = absurd (omega (arith, e))
 pub state_fits : (r : Row) → state_refusal r ≡ 0 → (r.moment < end_of_time) × (has_large r ≡ false)
 state_fits r e = let c = choice (ltb r.moment end_of_time) (has_large r) e in (ltb-true r.moment end_of_time c.0, c.1)
 
-pub fits_of : (f : Found) (r : Row) → f ≡ Is r → found_refusal f ≡ 0 → state_refusal r ≡ 0
+pub fits_of : (f : Option Row) (r : Row) → f ≡ Some r → found_refusal f ≡ 0 → state_refusal r ≡ 0
 fits_of f r e h = sym (ap found_refusal e) ∙ h
 
 unless_off : (b : Bool) (n : ℕ) → (if b then 13 otherwise n) ≡ 0 → n ≡ 0
 unless_off true n e = absurd (omega (arith, e))
 unless_off false n e = e
 
-pub found_fits : (p : Place) (f : Found) → refusal_at p f ≡ 0 → found_refusal f ≡ 0
+pub found_fits : (p : Place) (f : Option Row) → refusal_at p f ≡ 0 → found_refusal f ≡ 0
 found_fits p f e = unless_off (is_off p) (found_refusal f) e
 
-found_short : (f : Found) → found_refusal f ≡ 0 → length (found_text f) ≤ 157
+found_short : (f : Option Row) → found_refusal f ≡ 0 → length (found_text f) ≤ 157
 found_short None e = omega arith
-found_short (Is r) e = row_short r (state_fits r e).1
+found_short (Some r) e = row_short r (state_fits r e).1
 
 -- ---- there are at most as many lines as milliseconds
 
@@ -71,7 +70,7 @@ line_most (After t) n h = omega (arith, h.0, h.1)
 line_most Done n h = h
 line_most Off n h = absurd h
 
-later_held : (t m n : ℕ) (b : Bool) (f : Found) → ltb t m ≡ b → (n ≤ t + 3) × (t < end_of_time) → m < end_of_time → refusal_at (if b then After m otherwise Off) f ≡ 0 → Held (if b then After m otherwise Off) (n + 1)
+later_held : (t m n : ℕ) (b : Bool) (f : Option Row) → ltb t m ≡ b → (n ≤ t + 3) × (t < end_of_time) → m < end_of_time → refusal_at (if b then After m otherwise Off) f ≡ 0 → Held (if b then After m otherwise Off) (n + 1)
 later_held t m n true f e h l z = let p = h.0 in let g = ltb-true t m e in (omega arith, l)
 later_held t m n false f e h l z = absurd (omega (arith, z))
 
@@ -86,7 +85,7 @@ held_on First n line.Header h z = absurd (omega (arith, z))
 held_on First n line.Lone h z = absurd (omega (arith, z))
 held_on First n line.Outcome h z = absurd (omega (arith, z))
 held_on First n line.Bad h z = absurd (omega (arith, z))
-held_on (After t) n (line.State r) h z = later_held t r.moment n (ltb t r.moment) (Is r) refl h (state_fits r (found_fits (placed (After t) (line.State r)) (Is r) z)).0 z
+held_on (After t) n (line.State r) h z = later_held t r.moment n (ltb t r.moment) (Some r) refl h (state_fits r (found_fits (placed (After t) (line.State r)) (Some r) z)).0 z
 held_on (After t) n line.Outcome h z = omega (arith, h.0, h.1)
 held_on (After t) n line.Header h z = absurd (omega (arith, z))
 held_on (After t) n line.Lone h z = absurd (omega (arith, z))
@@ -124,7 +123,7 @@ pub stands_held : (p : Place) (s : Scan) (n : ℕ) → Stands (Going p s n) → 
 unfolding Stands
 stands_held p s n h = h
 
-module _ (place : Place) (scan : Scan) (n : ℕ) (kind : Line) (q : Place) (f : Found) (r : ℕ)
+module _ (place : Place) (scan : Scan) (n : ℕ) (kind : Line) (q : Place) (f : Option Row) (r : ℕ)
     (k : kind ≡ told scan []) (e : q ≡ placed place kind) (g : f ≡ row_of kind) (m : r ≡ refusal_at q f) where
   at_line : r ≡ refusal_at (placed place (told scan [])) (row_of (told scan []))
   at_line = m ∙ ap₂ refusal_at e g ∙ ap (λ (l : Line). refusal_at (placed place l) (row_of l)) k
@@ -136,7 +135,7 @@ module _ (place : Place) (scan : Scan) (n : ℕ) (kind : Line) (q : Place) (f : 
       let ls = kinds_from Start rest in
       ap (table_from place n) (kinds_feed scan rest)
       ∙ line_told place n l ls (sym at_line ∙ z)
-      ∙ ap₂ (λ (x : Found) (p : Place). behind (found_text x) (table_from p (n + 1) ls)) (sym (g ∙ ap row_of k)) (sym (e ∙ ap (placed place) k))
+      ∙ ap₂ (λ (x : Option Row) (p : Place). behind (found_text x) (table_from p (n + 1) ls)) (sym (g ∙ ap row_of k)) (sym (e ∙ ap (placed place) k))
 
   pub feeds_row : (before after : List ℕ) (at next : ℕ) → Held place n → r ≡ 0 → Wrote before at (found_text f) after next
       → Feeds (Going place scan n) before at after (record { standing = Going q Start (n + 1); next = next })

@@ -1,14 +1,12 @@
 -- Document 02, R-13, "Tables for the graphics house": the table of a text, as one definition, refusals included.
 -- "Refusals: what R-1 refuses is 13, a magnitude of 10^12 or more 17, each with its line; the first such line decides, and rows before it have been written."
-use Rattle.std.specs.Prelude.{ℕ, ◌+◌, List, [], ◌∷◌, ◌++◌}
+use Rattle.std.specs.Prelude.{ℕ, ◌+◌, List, [], ◌∷◌, ◌++◌, Option, Some, None}
 use Rattle.base.specs.Choice.{if◌then◌otherwise◌, ◌=?◌}
 use Rattle.base.specs.Limits.{is_moment}
 use Rattle.text_write.specs.Numerals.{decimal_of}
 use Rattle.listing_words.specs.Words.{space, line_feed, refused_word}
 use Rattle.listing_scan.specs.declared.Row.{Row}
 use Rattle.listing_scan.specs.declared.Line.{Line}
-use Rattle.listing_read.specs.declared.Found.{Found}
-use Rattle.listing_read.specs.declared.Found.TheVariants.{Is, None}
 use Rattle.listing_read.specs.declared.Place.{Place}
 use Rattle.listing_read.specs.declared.Place.TheVariants.{Top, First, After, Done, Off}
 use Rattle.listing_read.specs.Form.{kinds_of, row_of, placed, is_off}
@@ -34,18 +32,18 @@ behind text t = record { rows = text ++ t.rows; number = t.number; line = t.line
 abbrev pub state_refusal : Row → ℕ
 state_refusal r = if is_moment r.moment then (if has_large r then 17 otherwise 0) otherwise 13
 
-abbrev pub found_refusal : Found → ℕ
+abbrev pub found_refusal : Option Row → ℕ
 found_refusal None = 0
-found_refusal (Is r) = state_refusal r
+found_refusal (Some r) = state_refusal r
 
 -- the check of a line by the stage that it leads to: 13 if it is not of R-1's form
-abbrev pub refusal_at : Place → Found → ℕ
+abbrev pub refusal_at : Place → Option Row → ℕ
 refusal_at place found = if is_off place then 13 otherwise found_refusal found
 
 -- the line of a state gives a row, any other line none
-abbrev pub found_text : Found → List ℕ
+abbrev pub found_text : Option Row → List ℕ
 found_text None = []
-found_text (Is r) = row_text r
+found_text (Some r) = row_text r
 
 -- the end of the text: after the outcome nothing is missing, otherwise the line after the last is
 abbrev pub at_end : Place → ℕ → Table

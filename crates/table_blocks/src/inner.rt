@@ -7,23 +7,23 @@ ghost use Rattle.table_blocks.specs.Steps.{Held, Stands, Fresh, Steps, Feeds, Ta
 
 use crate::feed::to_line_end;
 use crate::{End, Portion, Standing, Step, refusal_at};
-use listing_read::{Found, Place, place_after, row_of};
-use listing_scan::Scan;
+use listing_read::{Place, place_after, row_of};
 use listing_scan::scanning::{has_begun, line_end, take_byte};
+use listing_scan::{Row, Scan};
 use table_rows::inner::put_row;
 use text_write::inner::{put_bytes, put_decimal};
 
 // Room for one row.
 const LONGEST_ROW: usize = 157;
 
-fn put_found(out: &mut [u8], at: usize, found: Found) -> usize
+fn put_found(out: &mut [u8], at: usize, found: Option<Row>) -> usize
     requires found_value { found_refusal found ≡ 0 }
     requires at_in_bounds { at + 157 ≤ length out.old }
     ensures { Wrote out.old at (found_text found) out.new result }
 {
     match found {
-        Found::Is(row) => put_row(out, at, row),
-        Found::None => at,
+        Some(row) => put_row(out, at, row),
+        None => at,
     }
 }
 

@@ -9,8 +9,8 @@ ghost use Rattle.std.specs.Prelude.{◌≡◌};
 ghost use Rattle.table_blocks.specs.Table.{state_refusal, found_refusal, refusal_at};
 ghost use Rattle.table_blocks.specs.Steps.{opened};
 
+use listing_read::Place;
 use listing_read::inner::is_off;
-use listing_read::{Found, Place};
 use listing_scan::{Row, Scan};
 use table_rows::has_large;
 
@@ -71,17 +71,17 @@ fn state_refusal(row: Row) -> u64
     13
 }
 
-fn found_refusal(found: Found) -> u64
+fn found_refusal(found: Option<Row>) -> u64
     ensures { result ≡ found_refusal found }
 {
     match found {
-        Found::Is(row) => state_refusal(row),
-        Found::None => 0,
+        Some(row) => state_refusal(row),
+        None => 0,
     }
 }
 
 // The refusal number of a line that leads to a stage, or 0.
-pub fn refusal_at(place: Place, found: Found) -> u64
+pub fn refusal_at(place: Place, found: Option<Row>) -> u64
     ensures { result ≡ refusal_at place found }
 {
     if is_off(place) {

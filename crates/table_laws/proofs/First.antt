@@ -7,13 +7,12 @@ use mathlib.Core.Path.{◌≡◌, refl, sym, ap, ap₂, ◌∙◌}
 use native.Mathlib.Omega.{arith}
 use borrow.Author.Tests.{eq-eqb, ne_eqb, lt-ltb, le-ltb, eqb-true, eqb-false}
 use lib.Dec.{ltb, eqb}
+use Rattle.std.specs.Prelude.{Option, Some, None}
 use Rattle.base.specs.Choice.{if◌then◌otherwise◌}
 use Rattle.base.specs.Limits.{end_of_time}
 use Rattle.listing_scan.specs.declared.Row.{Row}
 use Rattle.listing_scan.specs.declared.Line.{Line}
 use Rattle.listing_scan.specs.declared.Line.TheVariants as line
-use Rattle.listing_read.specs.declared.Found.{Found}
-use Rattle.listing_read.specs.declared.Found.TheVariants.{Is, None}
 use Rattle.listing_read.specs.declared.Place.{Place}
 use Rattle.listing_read.specs.declared.Place.TheVariants.{Top, First, After, Done, Off}
 use Rattle.listing_read.specs.Form.{kinds_of, row_of, found_rows, placed, is_off, refused_from, form_refusal, rows_of, rows_in}
@@ -46,14 +45,14 @@ module _ (p : Place) (n : ℕ) (l : Line) (ls : List Line) where
   unfolding lines_before
   before_on line e = rw (ne_eqb n line e)
 
-abbrev InRangeFound : Found → Type 0
+abbrev InRangeFound : Option Row → Type 0
 InRangeFound None = Unit {0}
-InRangeFound (Is r) = r.moment < end_of_time
+InRangeFound (Some r) = r.moment < end_of_time
 
 -- a line in range is refused with 13 if it is not of the form, else with 17 if a component is large
-by_large : (f : Found) (b : Bool) → found_large f ≡ b → InRangeFound f → found_refusal f ≡ (if b then 17 otherwise 0)
+by_large : (f : Option Row) (b : Bool) → found_large f ≡ b → InRangeFound f → found_refusal f ≡ (if b then 17 otherwise 0)
 by_large None b e h = rw (sym e)
-by_large (Is r) b e h = rw (lt-ltb r.moment end_of_time h, e)
+by_large (Some r) b e h = rw (lt-ltb r.moment end_of_time h, e)
 
 range_of : (l : Line) → InRange l → InRangeFound (row_of l)
 range_of (line.State r) h = h
@@ -177,9 +176,9 @@ line_later p n (l ∷ ls) h = go (eqb (refusal_at (placed p l) (row_of l)) 0) h 
     go true h later = let s = later h in omega arith
     go false h later = omega arith
 
-found_text_lem : (f : Found) (rs : List Row) → rows_text (found_rows f ++ rs) ≡ found_text f ++ rows_text rs
+found_text_lem : (f : Option Row) (rs : List Row) → rows_text (found_rows f ++ rs) ≡ found_text f ++ rows_text rs
 found_text_lem None rs = refl
-found_text_lem (Is r) rs = refl
+found_text_lem (Some r) rs = refl
 
 none_before : (line n : ℕ) → [] ≡ rows_text (rows_of (lines_before line n []))
 unfolding lines_before rows_of

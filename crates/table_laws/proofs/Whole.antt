@@ -2,7 +2,7 @@
 use Prim.Native.Nat.{ℕ}
 use mathlib.Core.List.{List, [], ◌∷◌, ◌++◌, append_assoc, append-nil}
 use mathlib.Core.Path.{◌≡◌, refl, sym, ap, ◌∙◌}
-use lib.ListN.{length, take, drop, drop_of_length-le}
+use lib.ListN.{take, drop, drop_of_length-le}
 use Rattle.listing_read.proofs.Lines.{kinds_start}
 use Rattle.listing_read.specs.declared.Place.TheVariants.{Top}
 use Rattle.table_rows.specs.Text.{heading}

@@ -1,10 +1,8 @@
 -- Definitions for the laws of a table: the blocks and portions of the program, one after the other.
-use Rattle.std.specs.Prelude.{ℕ, ◌+◌, ◌≤◌, Bool, true, false, List, [], ◌∷◌, ◌++◌, ◌≡◌, length, take}
+use Rattle.std.specs.Prelude.{ℕ, ◌+◌, ◌≤◌, Bool, true, false, List, [], ◌∷◌, ◌++◌, ◌≡◌, length, take, Option, Some, None}
 use Rattle.base.specs.Choice.{if◌then◌otherwise◌, ◌<?◌, ◌=?◌}
 use Rattle.listing_scan.specs.declared.Row.{Row}
 use Rattle.listing_scan.specs.declared.Line.{Line}
-use Rattle.listing_read.specs.declared.Found.{Found}
-use Rattle.listing_read.specs.declared.Found.TheVariants.{Is, None}
 use Rattle.listing_read.specs.Form.{kinds_of, row_of, form_refusal}
 use Rattle.text_write.specs.Written.{Wrote}
 use Rattle.table_rows.specs.Text.{heading, row_text, has_large}
@@ -97,9 +95,9 @@ rows_text [] = []
 rows_text (r ∷ rs) = row_text r ++ rows_text rs
 
 -- "a magnitude of 10^12 or more": the line of the first state that has one, from line n on; 0 if none has
-abbrev pub found_large : Found → Bool
+abbrev pub found_large : Option Row → Bool
 found_large None = false
-found_large (Is r) = has_large r
+found_large (Some r) = has_large r
 
 unfoldable pub large_from : ℕ → List Line → ℕ
 large_from n [] = 0
