@@ -4,17 +4,17 @@ use mathlib.Core.Path.{refl}
 use Rattle.base.proofs.OneAnswer.{OneAnswer, one_answer, Tell, OneOutcome, one_outcome}
 use Rattle.pane_live.specs.Pane.{frame_at}
 use Rattle.c_answer.specs.Handed.{Handed, handed}
-use Rattle.c_pane.specs.Lent.{Kept, kept_in, pane_of, numbers_in, places_in, flown_to, left}
-use Rattle.c_pane.specs.contracts.flown_to as flown_to
+use Rattle.c_pane.specs.Lent.{Kept, kept_in, pane_of, numbers_in, places_in, fed_with, left}
+use Rattle.c_pane.specs.contracts.feed as feed
 use Rattle.c_pane.specs.contracts.keep as keep
 use Rattle.c_pane.specs.contracts.numbers_in as numbers_in
 use Rattle.c_pane.specs.contracts.pane_of as pane_of
 use Rattle.c_pane.specs.contracts.places_in as places_in
 use Rattle.c_pane.specs.contracts.shown_at as shown_at
 
-pub flown_to_answers_once : OneAnswer flown_to.ended (λ M 𝓤 𝓛. flown_to.clauses 𝓛)
-flown_to_answers_once =
-    one_answer (λ κs inputs. flown_to inputs.0 inputs.1.0) (λ M 𝓤 𝓛 mem run κs inputs g r after. refl)
+pub feed_answers_once : OneAnswer feed.ended (λ M 𝓤 𝓛. feed.clauses 𝓛)
+feed_answers_once =
+    one_answer (λ κs inputs. fed_with inputs.0 inputs.1.0 inputs.1.1.0) (λ M 𝓤 𝓛 mem run κs inputs g r after. refl)
 
 abbrev tell_keep : Tell keep.ended (λ κs. Handed Kept)
 tell_keep κs r after = handed r (kept_in after.1.0.now after.1.1.0.now)

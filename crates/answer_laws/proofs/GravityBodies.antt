@@ -5,7 +5,7 @@ use Rattle.base.proofs.OneAnswer.{OneAnswer, one_answer}
 use Rattle.gravity_bodies.specs.contracts.beside as beside
 use Rattle.gravity_bodies.specs.contracts.blank_sight as blank_sight
 use Rattle.gravity_bodies.specs.contracts.centre_place as centre_place
-use Rattle.gravity_bodies.specs.contracts.refusal_of as refusal_of
+use Rattle.gravity_bodies.specs.contracts.all_found as all_found
 
 pub beside_answers_once : OneAnswer beside.ended (λ M 𝓤 𝓛. beside.clauses 𝓛)
 beside_answers_once =
@@ -19,6 +19,6 @@ pub centre_place_answers_once : OneAnswer centre_place.ended (λ M 𝓤 𝓛. ce
 centre_place_answers_once =
     one_answer (λ κs inputs. place_in inputs.1.0 inputs.0) (λ M 𝓤 𝓛 mem run κs inputs g r after. refl)
 
-pub refusal_of_answers_once : OneAnswer refusal_of.ended (λ M 𝓤 𝓛. refusal_of.clauses 𝓛)
-refusal_of_answers_once =
+pub all_found_answers_once : OneAnswer all_found.ended (λ M 𝓤 𝓛. all_found.clauses 𝓛)
+all_found_answers_once =
     one_answer (λ κs inputs. all_found inputs.0) (λ M 𝓤 𝓛 mem run κs inputs g r after. refl)
