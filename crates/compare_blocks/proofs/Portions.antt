@@ -7,12 +7,11 @@ use native.Mathlib.Omega.{arith}
 use borrow.Author.Tests.{lt-ltb, le-ltb}
 use lib.Dec.{ltb}
 use lib.ListN.{length, take, drop}
+use Rattle.std.specs.Prelude.{Option, Some, None}
 use Rattle.base.specs.Choice.{if◌then◌otherwise◌}
 use Rattle.text_write.specs.Written.{Wrote}
 use Rattle.text_write.proofs.Writing.{inside, later}
 use Rattle.listing_scan.specs.declared.Row.{Row}
-use Rattle.listing_read.specs.declared.Found.{Found}
-use Rattle.listing_read.specs.declared.Found.TheVariants.{Is, None}
 use Rattle.listing_read.specs.Form.{found_rows, rows_of}
 use Rattle.listing_read.specs.Bytes.{kinds_from}
 use Rattle.compare_report.specs.Report.{parted, text_of}
@@ -159,17 +158,17 @@ ahead a b f g = length (coming f a []) + length (coming g b [])
 
 both_ahead : (x y : Bool) (r s : Row) (ra rb : List Row)
     → let t = if x then takes true false otherwise if y then takes false true otherwise takes true true in
-    length (left t.first (Is r) ra) + length (left t.second (Is s) rb) < length (found_rows (Is r) ++ ra) + length (found_rows (Is s) ++ rb)
+    length (left t.first (Some r) ra) + length (left t.second (Some s) rb) < length (found_rows (Some r) ++ ra) + length (found_rows (Some s) ++ rb)
 both_ahead true y r s ra rb = omega arith
 both_ahead false true r s ra rb = omega arith
 both_ahead false false r s ra rb = omega arith
 
-fewer : (f g : Found) (ra rb : List Row) → ((side_of f g).first ≡ false → (side_of f g).second ≡ true)
+fewer : (f g : Option Row) (ra rb : List Row) → ((side_of f g).first ≡ false → (side_of f g).second ≡ true)
     → length (left (side_of f g).first f ra) + length (left (side_of f g).second g rb) < length (found_rows f ++ ra) + length (found_rows g ++ rb)
 fewer None None ra rb h = let e : ◌≡◌ {A = Bool} false true = h refl in let z : ◌≡◌ {A = ℕ} 0 1 = cc in absurd (omega arith)
-fewer (Is r) None ra rb h = omega arith
-fewer None (Is s) ra rb h = omega arith
-fewer (Is r) (Is s) ra rb h = both_ahead (ltb r.moment s.moment) (ltb s.moment r.moment) r s ra rb
+fewer (Some r) None ra rb h = omega arith
+fewer None (Some s) ra rb h = omega arith
+fewer (Some r) (Some s) ra rb h = both_ahead (ltb r.moment s.moment) (ltb s.moment r.moment) r s ra rb
 
 turn_ahead : (a b : List ℕ) (f g : Reading) → stops (halt_of f g) ≡ false
     → ahead a b (leaving (side_of f.found g.found).first f) (leaving (side_of f.found g.found).second g) < ahead a b f g

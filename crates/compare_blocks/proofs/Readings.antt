@@ -7,9 +7,9 @@ use native.Mathlib.Omega.{arith}
 use borrow.Author.Tests.{ltb-false}
 use lib.Dec.{ltb}
 use lib.ListN.{length, drop, drop_of_length-le}
+use Rattle.listing_scan.specs.declared.Row.{Row}
+use Rattle.std.specs.Prelude.{Option, Some, None}
 use Rattle.base.specs.Choice.{if◌then◌otherwise◌}
-use Rattle.listing_read.specs.declared.Found.{Found}
-use Rattle.listing_read.specs.declared.Found.TheVariants.{Is, None}
 use Rattle.listing_scan.specs.declared.Scan.TheVariants.{Start}
 use Rattle.listing_read.specs.declared.Next.{Next}
 use Rattle.listing_read.specs.Form.{lines_of, rows_of}
@@ -20,22 +20,22 @@ use Rattle.compare_blocks.specs.declared.Reading.{Reading}
 use Rattle.compare_blocks.specs.Sides.{coming, Rests, Shut, is_none, waiting, Fills, leaving, onward, going_on}
 
 -- a reading waits if its text continues and its next state is not known
-abbrev waits : Bool → Found → Bool
+abbrev waits : Bool → Option Row → Bool
 waits over f = if over then false otherwise is_none f
 
-open_waits : (over : Bool) (f : Found) → waits over f ≡ true → over ≡ false
+open_waits : (over : Bool) (f : Option Row) → waits over f ≡ true → over ≡ false
 open_waits true f e = sym e
 open_waits false f e = refl
 
-none_waits : (over : Bool) (f : Found) → waits over f ≡ true → f ≡ None
+none_waits : (over : Bool) (f : Option Row) → waits over f ≡ true → f ≡ None
 none_waits true f e = let z : ◌≡◌ {A = ℕ} 0 1 = cc in absurd (omega arith)
 none_waits false None e = refl
-none_waits false (Is r) e = let z : ◌≡◌ {A = ℕ} 0 1 = cc in absurd (omega arith)
+none_waits false (Some r) e = let z : ◌≡◌ {A = ℕ} 0 1 = cc in absurd (omega arith)
 
-over_none : (over : Bool) (f : Found) → waits over f ≡ false → f ≡ None → over ≡ true
+over_none : (over : Bool) (f : Option Row) → waits over f ≡ false → f ≡ None → over ≡ true
 over_none true f e n = refl
 over_none false None e n = sym e
-over_none false (Is r) e n = let z : ◌≡◌ {A = ℕ} 0 1 = cc in absurd (omega arith)
+over_none false (Some r) e n = let z : ◌≡◌ {A = ℕ} 0 1 = cc in absurd (omega arith)
 
 module _ (r : Reading) where
   pub waiting_open : waiting r ≡ true → r.over ≡ false

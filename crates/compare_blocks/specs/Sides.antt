@@ -1,9 +1,7 @@
 -- Two listings read side by side: which states of each are still to come, what the report waits for, and what a portion of it is.
-use Rattle.std.specs.Prelude.{ℕ, ◌+◌, ◌<◌, ◌≤◌, Bool, true, false, List, [], ◌++◌, ◌≡◌, length, take, drop}
+use Rattle.std.specs.Prelude.{ℕ, ◌+◌, ◌≤◌, Bool, true, false, List, [], ◌++◌, ◌≡◌, length, take, drop, Option, Some, None}
 use Rattle.base.specs.Choice.{if◌then◌otherwise◌, ◌<?◌}
 use Rattle.listing_scan.specs.declared.Row.{Row}
-use Rattle.listing_read.specs.declared.Found.{Found}
-use Rattle.listing_read.specs.declared.Found.TheVariants.{Is, None}
 use Rattle.listing_scan.specs.declared.Scan.TheVariants.{Start}
 use Rattle.listing_read.specs.Form.{row_of, found_rows, rows_of}
 use Rattle.listing_scan.specs.Bytes.{told}
@@ -28,9 +26,9 @@ pub record Shut (n : ℕ) (r : Reading) : Type 0 where
   pub start : r.over ≡ true → r.scan ≡ Start
   pub used : r.over ≡ true → n ≤ r.at
 
-abbrev pub is_none : Found → Bool
+abbrev pub is_none : Option Row → Bool
 is_none None = true
-is_none (Is r) = false
+is_none (Some r) = false
 
 -- whether more must be read before the next state is known
 abbrev pub waiting : Reading → Bool

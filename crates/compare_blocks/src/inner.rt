@@ -2,34 +2,22 @@
 // block.
 
 ghost use Rattle.std.specs.Prelude.{true, ◌≡◌, length};
-ghost use Rattle.compare_blocks.specs.Sides.{is_none, waiting, Fills, waits_for, stops, halt_of, leaving, Shut, Reported, portion_of};
+ghost use Rattle.compare_blocks.specs.Sides.{waiting, Fills, waits_for, stops, halt_of, leaving, Shut, Reported, portion_of};
 
 use crate::{Halt, Portion, Reading};
 use compare_report::side_of;
 use compare_text::inner::put_turn;
-use listing_read::{Found, next_row};
+use listing_read::next_row;
+use listing_scan::Row;
 
 // Room for what is reported of one moment.
 const LONGEST_TURN: usize = 300;
-
-fn is_none(found: Found) -> bool
-    ensures { result ≡ is_none found }
-{
-    match found {
-        Found::Is(_) => false,
-        Found::None => true,
-    }
-}
 
 // Whether more of the listing must be read before its next state is known.
 fn waits(r: Reading) -> bool
     ensures { result ≡ waiting r }
 {
-    if r.over {
-        return false;
-    }
-    let found = r.found;
-    is_none(found)
+    !r.over && r.found.is_none()
 }
 
 fn searched(block: &[u8], r: Reading) -> Reading
@@ -108,7 +96,7 @@ fn leave(r: Reading, reported: bool) -> Reading
     if reported {
         let scan = r.scan;
         return Reading {
-            found: Found::None,
+            found: None,
             scan,
             at: r.at,
             over: r.over,

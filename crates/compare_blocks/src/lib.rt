@@ -8,14 +8,14 @@ pub mod inner;
 ghost use Rattle.std.specs.Prelude.{◌≡◌};
 ghost use Rattle.compare_blocks.specs.Sides.{opened, onward, going_on};
 
-use listing_read::{Found, last_row};
-use listing_scan::Scan;
+use listing_read::last_row;
+use listing_scan::{Row, Scan};
 
 // The stage of reading a listing: the next state, if it is known; how far its line is read; the place in its block.
 // Also whether the text is over: then no state follows the next.
 #[derive(Clone, Copy)]
 pub struct Reading {
-    pub found: Found,
+    pub found: Option<Row>,
     pub scan: Scan,
     pub at: usize,
     pub over: bool,
@@ -43,7 +43,7 @@ pub fn opening() -> Reading
     ensures { result ≡ opened }
 {
     Reading {
-        found: Found::None,
+        found: None,
         scan: Scan::Start,
         at: 0,
         over: false,
@@ -57,7 +57,7 @@ fn next_block(r: Reading, n: usize) -> Reading
     let scan = r.scan;
     if 0 < n {
         return Reading {
-            found: Found::None,
+            found: None,
             scan,
             at: 0,
             over: false,

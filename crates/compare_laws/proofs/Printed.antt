@@ -12,6 +12,8 @@ use lib.Ieee.{Float, binary64, fits, of_bits}
 use lib.Ieee.Bits.{of_bits-fits}
 use lib.Ieee.Fits.{add-fits}
 use lib.Ieee.Scale.{finite}
+use Rattle.base.specs.Refusals.{number_of}
+use Rattle.base.specs.Checks.{Checked}
 use Rattle.base.specs.declared.Refusal.{Refusal}
 use Rattle.std.specs.Prelude.{Result, Ok, Err}
 use Rattle.base.specs.Choice.{if◌then◌otherwise◌}
@@ -185,7 +187,7 @@ module _ (b : List ℕ) (setting : Setting) (h : ℕ) (some : 1 ≤ h) where
       go : (m : Moved) → step b setting h s ≡ m
           → ((did n : ℕ) (s : State) → s.moment + left * h < end_of_time → refused_from (After s.moment) n (kinds_of (course_text (step b setting h) left did s)) ≡ 0)
           → refused_from (After s.moment) n (kinds_of (after_step (course_text (step b setting h) left (did + 1)) did m)) ≡ 0
-      go (Err k) e later = ap (refused_from (After s.moment) n) (kinds_refused k did) ∙ outcome_ends s.moment n
+      go (Err k) e later = ap (refused_from (After s.moment) n) (kinds_refused (number_of k) did) ∙ outcome_ends s.moment n
       go (Ok next) e later =
           let d = done b setting h s next e in
           let clock = d.moment in
@@ -221,17 +223,17 @@ order_fits : (form : Form) (input : List ℕ) → Fits (order_of form input).inj
 order_fits form input =
     record { x = of_bits-fits binary64 _; y = of_bits-fits binary64 _; z = of_bits-fits binary64 _; vx = of_bits-fits binary64 _; vy = of_bits-fits binary64 _; vz = of_bits-fits binary64 _ }
 
-not_started : (b : List ℕ) (o : Order) → eqb (start_checks b o.setting (launched b o.setting o.injection) o.h o.target) 0 ≡ false
-    → order_text b o ≡ lone_refusal (start_checks b o.setting (launched b o.setting o.injection) o.h o.target)
+not_started : (b : List ℕ) (o : Order) (k : Refusal) → start_checks b o.setting (launched b o.setting o.injection) o.h o.target ≡ Err k
+    → order_text b o ≡ lone_refusal (number_of k)
 unfolding order_text
-not_started b o e = rw e
+not_started b o k e = rw e
 
 any_order : (b : List ℕ) (o : Order) → Fits o.injection → form_refusal (order_text b o) ≡ 0
-any_order b o f = go (eqb (start_checks b o.setting (launched b o.setting o.injection) o.h o.target) 0) refl
+any_order b o f = go (start_checks b o.setting (launched b o.setting o.injection) o.h o.target) refl
   where
-    go : (t : Bool) → eqb (start_checks b o.setting (launched b o.setting o.injection) o.h o.target) 0 ≡ t → form_refusal (order_text b o) ≡ 0
-    go true e = order_form b o f (eqb-true _ 0 e)
-    go false e = ap form_refusal (not_started b o e) ∙ lone_form _
+    go : (c : Checked) → start_checks b o.setting (launched b o.setting o.injection) o.h o.target ≡ c → form_refusal (order_text b o) ≡ 0
+    go (Ok tt) e = order_form b o f e
+    go (Err k) e = ap form_refusal (not_started b o k e) ∙ lone_form (number_of k)
 
 -- for every input of both programs: a lone refusal, or a header, states whose moments rise and whose components are finite, and an outcome
 pub strip_of_the_form : (form : Form) (input : List ℕ) → form_refusal (strip_text form input) ≡ 0

@@ -7,12 +7,12 @@ use native.Mathlib.Omega.{arith}
 use borrow.Author.Tests.{lt-ltb, eq-eqb, ne_eqb, ltb-true, ltb-false}
 use lib.Dec.{ltb}
 use lib.ListN.{length, take, drop}
+use Rattle.std.specs.Prelude.{None}
 use Rattle.base.specs.Choice.{if◌then◌otherwise◌}
 use Rattle.listing_words.specs.Words.{header_word, outcome_word, refused13, dash}
 use Rattle.listing_read.specs.declared.Judge.{Judge}
 use Rattle.listing_read.specs.declared.Verdict.{Verdict}
 use Rattle.listing_scan.specs.declared.Row.{Row}
-use Rattle.listing_read.specs.declared.Found.TheVariants.{None}
 use Rattle.listing_read.specs.Form.{form_refusal, rows_in}
 use Rattle.listing_read.specs.Bytes.{at_top, Goes, Counted}
 use Rattle.listing_read.proofs.Judging.{goes_nowhere, goes_on}

@@ -8,10 +8,9 @@ use native.Mathlib.Omega.{arith}
 use borrow.Author.Tests.{lt-ltb}
 use lib.Dec.{ltb}
 use lib.ListN.{length, drop, drop_of_length-le}
+use Rattle.std.specs.Prelude.{Option, Some, None}
 use Rattle.base.specs.Choice.{if◌then◌otherwise◌}
 use Rattle.listing_scan.specs.declared.Row.{Row}
-use Rattle.listing_read.specs.declared.Found.{Found}
-use Rattle.listing_read.specs.declared.Found.TheVariants.{Is, None}
 use Rattle.listing_scan.specs.declared.Scan.{Scan}
 use Rattle.listing_scan.specs.declared.Scan.TheVariants.{Start, Letters, Digits, Moment, Component, Behind, Bad}
 use Rattle.listing_read.specs.Form.{lines_of, row_of, found_rows, rows_of, rows_in, form_refusal}
@@ -60,11 +59,11 @@ one_next true y e f = let z : ◌≡◌ {A = ℕ} 0 1 = cc in absurd (omega arit
 one_next false true e f = let z : ◌≡◌ {A = ℕ} 0 1 = cc in absurd (omega arith)
 one_next false false e f = let z : ◌≡◌ {A = ℕ} 0 1 = cc in absurd (omega arith)
 
-neither : (f g : Found) → (side_of f g).first ≡ false → (side_of f g).second ≡ false → (f ≡ None) × (g ≡ None)
+neither : (f g : Option Row) → (side_of f g).first ≡ false → (side_of f g).second ≡ false → (f ≡ None) × (g ≡ None)
 neither None None e q = (refl, refl)
-neither (Is r) None e q = let z : ◌≡◌ {A = ℕ} 0 1 = cc in absurd (omega arith)
-neither None (Is s) e q = let z : ◌≡◌ {A = ℕ} 0 1 = cc in absurd (omega arith)
-neither (Is r) (Is s) e q = absurd (one_next (ltb r.moment s.moment) (ltb s.moment r.moment) e q)
+neither (Some r) None e q = let z : ◌≡◌ {A = ℕ} 0 1 = cc in absurd (omega arith)
+neither None (Some s) e q = let z : ◌≡◌ {A = ℕ} 0 1 = cc in absurd (omega arith)
+neither (Some r) (Some s) e q = absurd (one_next (ltb r.moment s.moment) (ltb s.moment r.moment) e q)
 
 pub record Ended (p q x y : Bool) : Type 0 where
   pub first_known : p ≡ false

@@ -1,9 +1,7 @@
 -- Definitions for the laws of the report.
-use Rattle.std.specs.Prelude.{ℕ, ◌+◌, ◌≤◌, List, [], ◌∷◌, length}
+use Rattle.std.specs.Prelude.{ℕ, ◌+◌, ◌≤◌, List, [], ◌∷◌, length, Option, Some, None}
 use Rattle.base.specs.Choice.{if◌then◌otherwise◌, ◌=?◌}
 use Rattle.listing_scan.specs.declared.Row.{Row}
-use Rattle.listing_read.specs.declared.Found.{Found}
-use Rattle.listing_read.specs.declared.Found.TheVariants.{Is, None}
 use Rattle.listing_read.specs.declared.Verdict.{Verdict}
 use Rattle.listing_read.specs.Form.{form_refusal, rows_in}
 use Rattle.listing_read.specs.Bytes.{last_start}
@@ -19,9 +17,9 @@ Rising low [] = 0 ≤ low
 Rising low (r ∷ rs) = (low ≤ r.moment) × Rising (r.moment + 1) rs
 
 -- the state of a moment, if a listing has one
-abbrev pub state_of : ℕ → List Row → Found
+abbrev pub state_of : ℕ → List Row → Option Row
 state_of t [] = None
-state_of t (r ∷ rs) = if r.moment =? t then Is r otherwise state_of t rs
+state_of t (r ∷ rs) = if r.moment =? t then Some r otherwise state_of t rs
 
 abbrev pub moment_of : Difference → ℕ
 moment_of (only k t) = t

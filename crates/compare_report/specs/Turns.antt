@@ -1,10 +1,8 @@
 -- How the states of two listings are compared as they are read: the next state of each side, if there is one.
-use Rattle.std.specs.Prelude.{ℕ, ◌+◌, ◌≤◌, Bool, true, false, List, [], ◌∷◌, ◌++◌, ◌≡◌}
+use Rattle.std.specs.Prelude.{ℕ, ◌+◌, ◌≤◌, Bool, true, false, List, [], ◌∷◌, ◌++◌, ◌≡◌, Option, Some, None}
 use Rattle.base.specs.Choice.{if◌then◌otherwise◌, ◌<?◌}
 use Rattle.text_write.specs.Written.{Wrote}
 use Rattle.listing_scan.specs.declared.Row.{Row}
-use Rattle.listing_read.specs.declared.Found.{Found}
-use Rattle.listing_read.specs.declared.Found.TheVariants.{Is, None}
 use Rattle.listing_read.specs.Form.{found_rows}
 use Rattle.compare_report.specs.declared.Side.{Side}
 use Rattle.compare_report.specs.Report.{Difference, only, at_one, text_of}
@@ -21,28 +19,28 @@ only_text listing moment = text_of (only listing moment ∷ [])
 abbrev pub takes : Bool → Bool → Side
 takes first second = record { first = first; second = second }
 
-abbrev pub side_of : Found → Found → Side
+abbrev pub side_of : Option Row → Option Row → Side
 side_of None None = takes false false
-side_of (Is r) None = takes true false
-side_of None (Is s) = takes false true
-side_of (Is r) (Is s) =
+side_of (Some r) None = takes true false
+side_of None (Some s) = takes false true
+side_of (Some r) (Some s) =
     if r.moment <? s.moment then takes true false otherwise
     if s.moment <? r.moment then takes false true otherwise takes true true
 
 -- what the report says about it
-abbrev pub differences_at : Found → Found → List Difference
+abbrev pub differences_at : Option Row → Option Row → List Difference
 differences_at None None = []
-differences_at (Is r) None = only 1 r.moment ∷ []
-differences_at None (Is s) = only 2 s.moment ∷ []
-differences_at (Is r) (Is s) =
+differences_at (Some r) None = only 1 r.moment ∷ []
+differences_at None (Some s) = only 2 s.moment ∷ []
+differences_at (Some r) (Some s) =
     if r.moment <? s.moment then only 1 r.moment ∷ [] otherwise
     if s.moment <? r.moment then only 2 s.moment ∷ [] otherwise at_one r s
 
 -- the rows of a listing after its state was taken or not
-abbrev pub left : Bool → Found → List Row → List Row
+abbrev pub left : Bool → Option Row → List Row → List Row
 left true f rest = rest
 left false f rest = found_rows f ++ rest
 
 -- a listing without a next state has none after it either
-abbrev pub Ended : Found → List Row → Type 0
+abbrev pub Ended : Option Row → List Row → Type 0
 Ended f rest = f ≡ None → rest ≡ []

@@ -4,11 +4,10 @@
 
 pub mod same;
 
-ghost use Rattle.std.specs.Prelude.{◌≡◌};
+ghost use Rattle.std.specs.Prelude.{◌≡◌, Some, None};
 ghost use Rattle.compare_report.specs.Report.{part_after};
 ghost use Rattle.compare_report.specs.Turns.{takes, side_of};
 
-use listing_read::Found;
 use listing_scan::Row;
 
 #[derive(Clone, Copy)]
@@ -58,7 +57,7 @@ fn next_of(first: bool, second: bool) -> Side
 }
 
 fn side_of_rows(r: Row, s: Row) -> Side
-    ensures { result ≡ side_of (Found.Is r) (Found.Is s) }
+    ensures { result ≡ side_of (Some r) (Some s) }
 {
     if r.moment < s.moment {
         return next_of(true, false);
@@ -69,29 +68,29 @@ fn side_of_rows(r: Row, s: Row) -> Side
     next_of(true, true)
 }
 
-fn side_with(r: Row, second: Found) -> Side
-    ensures { result ≡ side_of (Found.Is r) second }
+fn side_with(r: Row, second: Option<Row>) -> Side
+    ensures { result ≡ side_of (Some r) second }
 {
     match second {
-        Found::Is(s) => side_of_rows(r, s),
-        Found::None => next_of(true, false),
+        Some(s) => side_of_rows(r, s),
+        None => next_of(true, false),
     }
 }
 
-fn side_without(second: Found) -> Side
-    ensures { result ≡ side_of Found.None second }
+fn side_without(second: Option<Row>) -> Side
+    ensures { result ≡ side_of None second }
 {
     match second {
-        Found::Is(_) => next_of(false, true),
-        Found::None => next_of(false, false),
+        Some(_) => next_of(false, true),
+        None => next_of(false, false),
     }
 }
 
-pub fn side_of(first: Found, second: Found) -> Side
+pub fn side_of(first: Option<Row>, second: Option<Row>) -> Side
     ensures { result ≡ side_of first second }
 {
     match first {
-        Found::Is(row) => side_with(row, second),
-        Found::None => side_without(second),
+        Some(row) => side_with(row, second),
+        None => side_without(second),
     }
 }

@@ -1,12 +1,11 @@
 // The lines of the report, for a buffer with room for them.
 
-ghost use Rattle.std.specs.Prelude.{◌+◌, ◌≤◌, length};
+ghost use Rattle.std.specs.Prelude.{◌+◌, ◌≤◌, length, Some, None};
 ghost use Rattle.compare_report.specs.Report.{component, at_one, numbered, two_numbers, name, diff_line, text_of, end_text, first_refusal, refusal_text};
 ghost use Rattle.compare_report.specs.Turns.{Put, only_text, differences_at};
 
 use compare_report::Component;
 use compare_steps::steps_between;
-use listing_read::Found;
 use listing_scan::Row;
 use text_write::inner::{put_bytes, put_decimal};
 
@@ -85,7 +84,7 @@ fn put_only(out: &mut [u8], at: usize, listing: u64, moment: u64) -> usize
 
 fn put_rows(out: &mut [u8], at: usize, r: Row, s: Row) -> usize
     requires { at + 300 ≤ length out.old }
-    ensures { Put out.old at (text_of (differences_at (Found.Is r) (Found.Is s))) out.new result 300 }
+    ensures { Put out.old at (text_of (differences_at (Some r) (Some s))) out.new result 300 }
 {
     if r.moment < s.moment {
         return put_only(out, at, 1, r.moment);
@@ -96,34 +95,34 @@ fn put_rows(out: &mut [u8], at: usize, r: Row, s: Row) -> usize
     put_one(out, at, r, s)
 }
 
-fn put_with(out: &mut [u8], at: usize, r: Row, second: Found) -> usize
+fn put_with(out: &mut [u8], at: usize, r: Row, second: Option<Row>) -> usize
     requires { at + 300 ≤ length out.old }
-    ensures { Put out.old at (text_of (differences_at (Found.Is r) second)) out.new result 300 }
+    ensures { Put out.old at (text_of (differences_at (Some r) second)) out.new result 300 }
 {
     match second {
-        Found::Is(s) => put_rows(out, at, r, s),
-        Found::None => put_only(out, at, 1, r.moment),
+        Some(s) => put_rows(out, at, r, s),
+        None => put_only(out, at, 1, r.moment),
     }
 }
 
-fn put_without(out: &mut [u8], at: usize, second: Found) -> usize
+fn put_without(out: &mut [u8], at: usize, second: Option<Row>) -> usize
     requires { at + 300 ≤ length out.old }
-    ensures { Put out.old at (text_of (differences_at Found.None second)) out.new result 300 }
+    ensures { Put out.old at (text_of (differences_at None second)) out.new result 300 }
 {
     match second {
-        Found::Is(s) => put_only(out, at, 2, s.moment),
-        Found::None => at,
+        Some(s) => put_only(out, at, 2, s.moment),
+        None => at,
     }
 }
 
 // The report on the next state in moment order.
-pub fn put_turn(out: &mut [u8], at: usize, first: Found, second: Found) -> usize
+pub fn put_turn(out: &mut [u8], at: usize, first: Option<Row>, second: Option<Row>) -> usize
     requires { at + 300 ≤ length out.old }
     ensures { Put out.old at (text_of (differences_at first second)) out.new result 300 }
 {
     match first {
-        Found::Is(row) => put_with(out, at, row, second),
-        Found::None => put_without(out, at, second),
+        Some(row) => put_with(out, at, row, second),
+        None => put_without(out, at, second),
     }
 }
 

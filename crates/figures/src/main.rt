@@ -103,11 +103,11 @@ fn root_of(rt: &impl Print, bits: u64) -> io::Result<()> {
 
 // A line of bit patterns: the argument, the library's result, and the published one.
 fn published(rt: &impl Print, line: &[u8]) -> io::Result<()> {
-    let Field::Value(x, at) = text_write::read_hex16(line, 0) else {
+    let Some(Field { value: x, next: at }) = text_write::read_hex16(line, 0) else {
         return Ok(());
     };
     if at < line.len() {
-        let Field::Value(y, _) = text_write::read_hex16(line, at + 1) else {
+        let Some(Field { value: y, .. }) = text_write::read_hex16(line, at + 1) else {
             return Ok(());
         };
         say(rt, "root ")?;

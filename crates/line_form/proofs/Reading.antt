@@ -10,7 +10,8 @@ use borrow.Author.Tests.{eq-eqb, ne_eqb}
 use lib.Dec.{eqb}
 use lib.ListN.{length, get_or, take, drop, set}
 use lib.Seq.{drop-cons, drop-length, take-suc-set}
-use Rattle.text_read.specs.declared.Field.TheVariants.{Value, Bad}
+use Rattle.std.specs.Prelude.{None}
+use Rattle.text_read.specs.Fields.{field}
 use Rattle.line_form.specs.Call.{Call, These, Unreadable, ahead, and_then, field_at, fields_from, starts_with, or_unreadable}
 
 pub same_byte : (line name : List ℕ) (i : ℕ) → i < length line → i < length name → get_or line i 0 ≡ get_or name i 0
@@ -70,11 +71,11 @@ module _ (line kinds : List ℕ) (from : ℕ) where
   next_field i at h = rw (add-one, drop-cons kinds i 0 h)
 
   pub read_more : (numbers : List ℕ) (i at n next : ℕ) → i < length kinds → i < length numbers → Read line kinds from numbers i at
-      → field_at (get_or kinds i 0) line at ≡ Value n next → Read line kinds from (set numbers i n) (i + 1) next
+      → field_at (get_or kinds i 0) line at ≡ field n next → Read line kinds from (set numbers i n) (i + 1) next
   read_more numbers i at n next hk hn r e =
       r ∙ rw (next_field i at hk, e, add-one i, take-suc-set numbers i n hn, prepend_one)
 
-  pub read_bad : (numbers : List ℕ) (i at : ℕ) → i < length kinds → Read line kinds from numbers i at → field_at (get_or kinds i 0) line at ≡ Bad → Unreadable ≡ fields_from line kinds from
+  pub read_bad : (numbers : List ℕ) (i at : ℕ) → i < length kinds → Read line kinds from numbers i at → field_at (get_or kinds i 0) line at ≡ None → Unreadable ≡ fields_from line kinds from
   read_bad numbers i at hk r e = sym (r ∙ rw (next_field i at hk, e, prepend_unreadable))
 
   pub read_all : (numbers : List ℕ) (at : ℕ) → Read line kinds from numbers (length kinds) at → or_unreadable (eqb at (length line)) (take (length kinds) numbers) ≡ fields_from line kinds from

@@ -22,16 +22,14 @@ fn starts_with(line: &[u8], name: &[u8]) -> bool
     true
 }
 
-fn small(field: Field) -> Field
+fn small(field: Option<Field>) -> Option<Field>
     ensures { result ≡ below32 field }
 {
-    let Field::Value(number, next) = field else {
-        return Field::Bad;
-    };
-    if number < 4_294_967_296 {
-        return Field::Value(number, next);
+    let field = field?;
+    if field.value < 4_294_967_296 {
+        return Some(field);
     }
-    Field::Bad
+    None
 }
 
 // No angle is this large.
@@ -44,32 +42,34 @@ fn capped(number: u64) -> u64
     0x4000_0000_0000_0000
 }
 
-fn above_zero(field: Field) -> Field
+fn above_zero(field: Option<Field>) -> Option<Field>
     ensures { result ≡ above_zero field }
 {
-    let Field::Value(number, next) = field else {
-        return Field::Bad;
-    };
-    Field::Value(capped(number), next)
+    let Field { value, next } = field?;
+    Some(Field {
+        value: capped(value),
+        next,
+    })
 }
 
-fn below_zero(field: Field) -> Field
+fn below_zero(field: Option<Field>) -> Option<Field>
     ensures { result ≡ below_zero field }
 {
-    let Field::Value(number, next) = field else {
-        return Field::Bad;
-    };
-    if number == 0 {
-        return Field::Value(0, next);
+    let Field { value, next } = field?;
+    if value == 0 {
+        return Some(Field { value, next });
     }
-    Field::Value(0xffff_ffff_ffff_ffff - capped(number) + 1, next)
+    Some(Field {
+        value: 0xffff_ffff_ffff_ffff - capped(value) + 1,
+        next,
+    })
 }
 
-fn read_signed(line: &[u8], at: usize) -> Field
+fn read_signed(line: &[u8], at: usize) -> Option<Field>
     ensures { result ≡ read_signed line.now at }
 {
     if line.len() <= at {
-        return Field::Bad;
+        return None;
     }
     if line[at] == b'-' {
         return below_zero(text_write::read_decimal(line, at + 1));
@@ -78,28 +78,31 @@ fn read_signed(line: &[u8], at: usize) -> Field
 }
 
 // A float as it is printed: sixteen digits, or `nan`.
-fn read_printed(line: &[u8], at: usize) -> Field
+fn read_printed(line: &[u8], at: usize) -> Option<Field>
     ensures { result ≡ read_printed line.now at }
 {
     if line.len() < at {
         return text_write::read_hex16(line, at);
     }
     if starts_with(&line[at..], b"nan") {
-        return Field::Value(0x7ff8_0000_0000_0000, at + 3);
+        return Some(Field {
+            value: 0x7ff8_0000_0000_0000,
+            next: at + 3,
+        });
     }
     text_write::read_hex16(line, at)
 }
 
 // The field after a space. Kinds: D a decimal, N one that may have a minus sign, S one of 32 bits, F a float, P a
 // float as it is printed.
-fn field_at(kind: u8, line: &[u8], at: usize) -> Field
+fn field_at(kind: u8, line: &[u8], at: usize) -> Option<Field>
     ensures { result ≡ field_at kind line.now at }
 {
     if line.len() <= at {
-        return Field::Bad;
+        return None;
     }
     if line[at] != b' ' {
-        return Field::Bad;
+        return None;
     }
     match kind {
         b'F' => text_write::read_hex16(line, at + 1),
@@ -116,11 +119,11 @@ fn fields_from(line: &[u8], from: usize, kinds: &[u8], numbers: &mut [u64]) -> b
 {
     let mut at = from;
     for i in 0..kinds.len() {
-        let Field::Value(number, next) = field_at(kinds[i], line, at) else {
+        let Some(field) = field_at(kinds[i], line, at) else {
             return false;
         };
-        numbers[i] = number;
-        at = next;
+        numbers[i] = field.value;
+        at = field.next;
     }
     at == line.len()
 }

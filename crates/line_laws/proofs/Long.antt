@@ -10,9 +10,9 @@ use lib.ListN.{length, take, drop, get_or}
 use lib.Seq.{length-take-le, take_all}
 use Rattle.base.specs.Choice.{if◌then◌otherwise◌, ◌<?◌, ◌≤?◌, ◌=?◌}
 use Rattle.base.proofs.Bools.{left, right}
+use Rattle.std.specs.Prelude.{Option, Some, None}
 use Rattle.text_read.specs.declared.Field.{Field}
-use Rattle.text_read.specs.declared.Field.TheVariants.{Value, Bad}
-use Rattle.text_read.specs.Fields.{until_space, all_digits, value_after, sized, read_number, read_decimal, read_hex16}
+use Rattle.text_read.specs.Fields.{until_space, field, all_digits, value_after, sized, read_number, read_decimal, read_hex16}
 use Rattle.line_form.specs.Call.{below32, cap, above_zero, below_zero, read_signed, starts_with, read_printed, number_at, field_at, Call, These, Unreadable, ahead, and_then, fields_from, call_of}
 use Rattle.line_types.specs.declared.Answer.TheVariants as answer
 use Rattle.line_answers.specs.Calls.{Question, answer_of, questions, answer_to}
@@ -20,22 +20,22 @@ use Rattle.line_laws.specs.Long.{longest, widest, most, all_short}
 
 -- ---- a field ends before a place
 
-abbrev Before : ℕ → Field → Type 0
-Before end Bad = Unit {0}
-Before end (Value n next) = next ≤ end
+abbrev Before : ℕ → Option Field → Type 0
+Before end None = Unit {0}
+Before end (Some f) = f.next ≤ end
 
-later : (a b : ℕ) (f : Field) → a ≤ b → Before a f → Before b f
-later a b Bad h w = tt
-later a b (Value n next) h w = omega arith
+later : (a b : ℕ) (f : Option Field) → a ≤ b → Before a f → Before b f
+later a b None h w = tt
+later a b (Some f) h w = omega arith
 
-if_else : (end : ℕ) (t : Bool) (f g : Field) → Before end f → Before end g → Before end (if t then f otherwise g)
+if_else : (end : ℕ) (t : Bool) (f g : Option Field) → Before end f → Before end g → Before end (if t then f otherwise g)
 if_else end true f g w v = w
 if_else end false f g w v = v
 
 sized_before : (least count_most count n at : ℕ) → Before (at + count_most) (sized least count_most count n (at + count))
 sized_before least count_most count n at = go (leb least count) (leb count count_most) (leb-true count count_most)
   where
-    go : (t u : Bool) → (u ≡ true → count ≤ count_most) → Before (at + count_most) (if t && u then Value n (at + count) otherwise Bad)
+    go : (t u : Bool) → (u ≡ true → count ≤ count_most) → Before (at + count_most) (if t && u then field n (at + count) otherwise None)
     go true true h = let k : count ≤ count_most = h refl in omega arith
     go true false h = tt
     go false u h = tt
@@ -44,21 +44,21 @@ number_before : (base least count_most : ℕ) (s : List ℕ) (at : ℕ) → Befo
 unfolding read_number
 number_before base least count_most s at =
     let f = until_space (drop at s) in
-    if_else (at + count_most) (all_digits base f && (value_after base 0 f <? 0x1_0000_0000_0000_0000)) (sized least count_most (length f) (value_after base 0 f) (at + length f)) Bad
+    if_else (at + count_most) (all_digits base f && (value_after base 0 f <? 0x1_0000_0000_0000_0000)) (sized least count_most (length f) (value_after base 0 f) (at + length f)) None
     (sized_before least count_most (length f) (value_after base 0 f) at)
     tt
 
-below32_before : (end : ℕ) (f : Field) → Before end f → Before end (below32 f)
-below32_before end Bad w = tt
-below32_before end (Value n next) w = if_else end (n <? 0x1_0000_0000) (Value n next) Bad w tt
+below32_before : (end : ℕ) (f : Option Field) → Before end f → Before end (below32 f)
+below32_before end None w = tt
+below32_before end (Some f) w = if_else end (f.value <? 0x1_0000_0000) (Some f) None w tt
 
-above_before : (end : ℕ) (f : Field) → Before end f → Before end (above_zero f)
-above_before end Bad w = tt
-above_before end (Value n next) w = w
+above_before : (end : ℕ) (f : Option Field) → Before end f → Before end (above_zero f)
+above_before end None w = tt
+above_before end (Some f) w = w
 
-below_before : (end : ℕ) (f : Field) → Before end f → Before end (below_zero f)
-below_before end Bad w = tt
-below_before end (Value n next) w = w
+below_before : (end : ℕ) (f : Option Field) → Before end f → Before end (below_zero f)
+below_before end None w = tt
+below_before end (Some f) w = w
 
 decimal_before : (line : List ℕ) (at : ℕ) → Before (at + 20) (read_decimal line at)
 decimal_before line at = number_before 10 1 20 line at
@@ -69,7 +69,7 @@ hex_before line at = later (at + 16) (at + 21) (read_hex16 line at) (omega arith
 signed_before : (line : List ℕ) (at : ℕ) → Before (at + 21) (read_signed line at)
 unfolding read_signed
 signed_before line at =
-    if_else (at + 21) (at <? length line) (if get_or line at 0 =? 45 then below_zero (read_decimal line (at + 1)) otherwise above_zero (read_decimal line at)) Bad
+    if_else (at + 21) (at <? length line) (if get_or line at 0 =? 45 then below_zero (read_decimal line (at + 1)) otherwise above_zero (read_decimal line at)) None
     (if_else (at + 21) (get_or line at 0 =? 45) (below_zero (read_decimal line (at + 1))) (above_zero (read_decimal line at))
     (below_before (at + 21) (read_decimal line (at + 1)) (later (at + 1 + 20) (at + 21) (read_decimal line (at + 1)) (omega arith) (decimal_before line (at + 1))))
     (above_before (at + 21) (read_decimal line at) (later (at + 20) (at + 21) (read_decimal line at) (omega arith) (decimal_before line at))))
@@ -78,7 +78,7 @@ signed_before line at =
 printed_before : (line : List ℕ) (at : ℕ) → Before (at + 21) (read_printed line at)
 unfolding read_printed
 printed_before line at =
-    if_else (at + 21) ((at ≤? length line) && starts_with (drop at line) (110 ∷ 97 ∷ 110 ∷ [])) (Value 0x7ff8_0000_0000_0000 (at + 3)) (read_hex16 line at) (omega arith) (hex_before line at)
+    if_else (at + 21) ((at ≤? length line) && starts_with (drop at line) (110 ∷ 97 ∷ 110 ∷ [])) (field 0x7ff8_0000_0000_0000 (at + 3)) (read_hex16 line at) (omega arith) (hex_before line at)
 
 at_before : (kind : ℕ) (line : List ℕ) (at : ℕ) → Before (at + 21) (number_at kind line at)
 at_before kind line at =
@@ -91,8 +91,8 @@ at_before kind line at =
 field_before : (kind : ℕ) (line : List ℕ) (at : ℕ) → Before (at + widest) (field_at kind line at)
 unfolding field_at
 field_before kind line at =
-    if_else (at + widest) (at <? length line) (if get_or line at 0 =? 32 then number_at kind line (at + 1) otherwise Bad) Bad
-    (if_else (at + widest) (get_or line at 0 =? 32) (number_at kind line (at + 1)) Bad
+    if_else (at + widest) (at <? length line) (if get_or line at 0 =? 32 then number_at kind line (at + 1) otherwise None) None
+    (if_else (at + widest) (get_or line at 0 =? 32) (number_at kind line (at + 1)) None
     (later (at + 1 + 21) (at + widest) (number_at kind line (at + 1)) (omega arith) (at_before kind line (at + 1)))
     tt)
     tt
@@ -111,11 +111,11 @@ ahead_fits : (size end n : ℕ) (c : Call) → NoLonger size end c → NoLonger 
 ahead_fits size end n (These v) w = w
 ahead_fits size end n Unreadable w = tt
 
-then_fits : (size at count : ℕ) (f : Field) (rest : ℕ → Call) → Before (at + widest) f → ((next : ℕ) → NoLonger size (next + widest * count) (rest next))
+then_fits : (size at count : ℕ) (f : Option Field) (rest : ℕ → Call) → Before (at + widest) f → ((next : ℕ) → NoLonger size (next + widest * count) (rest next))
     → NoLonger size (at + widest * suc count) (and_then f rest)
-then_fits size at count Bad rest w all = tt
-then_fits size at count (Value n next) rest w all =
-    ahead_fits size (at + widest * suc count) n (rest next) (fits_later size (next + widest * count) (at + widest * suc count) (rest next) (omega arith) (all next))
+then_fits size at count None rest w all = tt
+then_fits size at count (Some f) rest w all =
+    ahead_fits size (at + widest * suc count) f.value (rest f.next) (fits_later size (f.next + widest * count) (at + widest * suc count) (rest f.next) (omega arith) (all f.next))
 
 fields_fit : (line kinds : List ℕ) (at : ℕ) → NoLonger (length line) (at + widest * length kinds) (fields_from line kinds at)
 unfolding fields_from

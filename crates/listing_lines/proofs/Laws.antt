@@ -8,13 +8,14 @@ use native.Mathlib.Nat.{add-zero, zero-add}
 use native.Mathlib.Numerals.{add-one}
 use native.Mathlib.Omega.{arith}
 use borrow.Author.Tests.{lt-ltb, le-ltb, ltb-true, le-leb, lt-leb, leb-true, ltb-false, eqb-true}
-use lib.Dec.{T, leb, ltb, eqb}
+use lib.Dec.{leb, ltb, eqb}
 use lib.ListN.{length, get_or, drop, drop_of_length-le}
 use lib.Seq.{drop-cons}
+use Rattle.std.specs.Prelude.{Some, None}
 use Rattle.base.specs.Limits.{end_of_time}
 use Rattle.base.specs.Choice.{◌<?◌}
 use Rattle.listing_lines.specs.Digits.{is_decimal, hex_value, appended, finite_bits, FiniteBits}
-use Rattle.listing_lines.specs.Whole.{Values, unspelled, spelled_from, goes_on, moment_on}
+use Rattle.listing_lines.specs.Whole.{Values, spelled_from, goes_on, moment_on}
 
 both : (p q : Bool) → (p && q) ≡ true → (p ≡ true) × (q ≡ true)
 both true q e = (refl, e)
@@ -80,12 +81,12 @@ module _ (block : List ℕ) (at bits d : ℕ) (e : d ≡ hex_value (get_or block
       next : d < 16 → appended bits (hex_value (get_or block at 0)) ≡ bits % 0x1000_0000_0000_0000 * 16 + d
       next h = omega (arith, e)
 
-  pub spelled_off : (left : ℕ) → 0 < left → 16 ≤ d → spelled_from block left at bits ≡ unspelled
+  pub spelled_off : (left : ℕ) → 0 < left → 16 ≤ d → spelled_from block left at bits ≡ None
   unfolding spelled_from
   spelled_off zero some h = absurd (omega arith)
   spelled_off (suc left) some h = rw (le-ltb (hex_value (get_or block at 0)) 16 (rw e at h))
 
-pub spelled_all : (block : List ℕ) (at bits left : ℕ) → left ≤ 0 → spelled_from block left at bits ≡ record { bits = bits; whole = true }
+pub spelled_all : (block : List ℕ) (at bits left : ℕ) → left ≤ 0 → spelled_from block left at bits ≡ Some bits
 unfolding spelled_from
 spelled_all block at bits zero h = refl
 spelled_all block at bits (suc left) h = absurd (omega arith)

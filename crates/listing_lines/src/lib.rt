@@ -4,13 +4,6 @@
 
 pub mod inner;
 
-// The bits that sixteen digits spell, and whether all of them are digits.
-#[derive(Clone, Copy)]
-pub struct Spelled {
-    pub bits: u64,
-    pub whole: bool,
-}
-
 // A number, and the place after its digits.
 #[derive(Clone, Copy)]
 pub struct Numbered {
@@ -18,11 +11,9 @@ pub struct Numbered {
     pub end: usize,
 }
 
-// Whether a line is that of a state. If so: its moment, the bits of its six components and the place of its line
-// feed.
+// The line of a state: its moment, the bits of its six components and the place of its line feed.
 #[derive(Clone, Copy)]
 pub struct WholeLine {
-    pub whole: bool,
     pub moment: u64,
     pub x: u64,
     pub y: u64,

@@ -7,10 +7,10 @@ use native.Mathlib.Omega.{arith}
 use borrow.Author.Tests.{eq-eqb, ne_eqb}
 use lib.ListN.{length, get_or, drop, drop_of_length-le, length-drop}
 use lib.Seq.{drop-cons, drop-drop}
+use Rattle.listing_scan.specs.declared.Row.{Row}
+use Rattle.std.specs.Prelude.{Option, Some, None}
 use Rattle.listing_scan.specs.declared.Scan.{Scan}
 use Rattle.listing_scan.specs.declared.Scan.TheVariants.{Start}
-use Rattle.listing_read.specs.declared.Found.{Found}
-use Rattle.listing_read.specs.declared.Found.TheVariants.{Is, None}
 use Rattle.listing_read.specs.Form.{rows_of}
 use Rattle.listing_scan.specs.Bytes.{on_byte}
 use Rattle.listing_read.specs.Bytes.{kinds_from, row_here, behind_byte, found_or, searched, next_row, Passes, Finds}
@@ -38,9 +38,9 @@ module _ (b : ℕ) (bytes block : List ℕ) (i : ℕ) (s : Scan) (e : drop i blo
   next_drop : drop (i + 1) block ≡ bytes
   next_drop = sym (drop-drop 1 i block) ∙ ap (drop 1) e
 
-  found_here : (f : Found) → row_here s b ≡ f → Finds block (i + 1) (behind_byte s b) (searched bytes (i + 1) (behind_byte s b))
+  found_here : (f : Option Row) → row_here s b ≡ f → Finds block (i + 1) (behind_byte s b) (searched bytes (i + 1) (behind_byte s b))
       → Finds block i s (found_or f (behind_byte s b) (i + 1) (searched bytes (i + 1) (behind_byte s b)))
-  found_here (Is r) h later =
+  found_here (Some r) h later =
       record {
         rows = λ rest. rw (e, next_drop) (passes s b (bytes ++ rest) ∙ rw h);
         ended = λ n. (let z : ◌≡◌ {A = ℕ} 0 1 = cc in absurd (omega arith));

@@ -6,11 +6,11 @@ use native.Mathlib.Numerals.{add-one}
 use borrow.Author.Tests.{ne_eqb}
 use lib.ListN.{length, get_or, drop}
 use lib.Seq.{drop-cons}
+use Rattle.std.specs.Prelude.{Option}
 use Rattle.listing_scan.specs.declared.Row.{Row}
 use Rattle.listing_scan.specs.declared.Line.{Line}
 use Rattle.listing_scan.specs.declared.Scan.{Scan}
 use Rattle.listing_scan.specs.declared.Scan.TheVariants.{Start}
-use Rattle.listing_read.specs.declared.Found.{Found}
 use Rattle.listing_scan.specs.Reading.{kind_of}
 use Rattle.listing_read.specs.Form.{in_first, lines_of, kinds_of, found_rows, rows_of}
 use Rattle.listing_scan.specs.Bytes.{told, Takes}
@@ -51,6 +51,6 @@ pub passes_byte : (s r : Scan) (b : ℕ) → (b ≡ 10 → ⊥) → Takes s b r 
 passes_byte s r b n t rest = rw (ne_eqb b 10 n) (ap rows_of (kinds_byte s r b rest n t))
 
 -- the next byte of a block
-pub finds_on : (block rest : List ℕ) (i : ℕ) (s r : Scan) (f : Found) → i < length block → f ≡ row_here s (get_or block i 0) → Passes s (get_or block i 0) r
+pub finds_on : (block rest : List ℕ) (i : ℕ) (s r : Scan) (f : Option Row) → i < length block → f ≡ row_here s (get_or block i 0) → Passes s (get_or block i 0) r
     → rows_of (kinds_from s (drop i block ++ rest)) ≡ found_rows f ++ rows_of (kinds_from r (drop (i + 1) block ++ rest))
 finds_on block rest i s r f h e p = rw (drop-cons block i 0 h, add-one i, e) (p (drop (suc i) block ++ rest))

@@ -1,6 +1,6 @@
 -- Reading the line of a state at once gives the same as reading it byte by byte. Assumes nothing.
 use Prim.Native.Nat.{ℕ, zero, suc, ◌+◌, ◌-◌, ◌*◌, ◌<◌, ◌≤◌}
-use mathlib.Core.Bool.{Bool, true, false, ◌&&◌, true≢false, false≢true}
+use mathlib.Core.Bool.{Bool, true, false, ◌&&◌, true≢false}
 use mathlib.Core.List.{List, [], ◌∷◌}
 use mathlib.Core.Path.{◌≡◌, refl, sym, ap, subst, ◌∙◌}
 use native.Mathlib.Numerals.{add-one}
@@ -9,11 +9,12 @@ use borrow.Author.Tests.{lt-ltb, ltb-true, leb-true, eq-eqb, ne_eqb, eqb-true}
 use lib.Dec.{leb, ltb, eqb}
 use lib.ListN.{length, get_or, drop, drop_of_length-le}
 use lib.Seq.{drop-cons, drop-drop}
+use Rattle.std.specs.Prelude.{Option, Some, None}
 use Rattle.base.specs.Choice.{◌<?◌}
 use Rattle.listing_lines.specs.Digits.{is_decimal, hex_value, appended, finite_bits}
-use Rattle.listing_lines.specs.Whole.{spelled_from, finite_only, component_at, goes_on, moment_on, six_at, after_moment, state_line_at}
+use Rattle.listing_lines.specs.Whole.{spelled_from, finite_only, component_at, goes_on, moment_on, with_bits, six_at, after_moment, state_line_at}
 use Rattle.listing_lines.specs.declared.Numbered.{Numbered}
-use Rattle.listing_lines.specs.declared.Spelled.{Spelled}
+use Rattle.listing_lines.specs.declared.WholeLine.{WholeLine}
 use Rattle.listing_lines.proofs.Laws.{more_least}
 use Rattle.listing_scan.specs.declared.Row.{Row}
 use Rattle.listing_scan.specs.declared.Scan.{Scan}
@@ -25,6 +26,12 @@ use Rattle.listing_read.specs.Reached.{up_to_feed, to_feed, row_in}
 both : (p q : Bool) → (p && q) ≡ true → (p ≡ true) × (q ≡ true)
 both true q e = (refl, e)
 both false q e = (e, (cc))
+
+nothing_found : {A : Type 0} (x : A) → ◌≡◌ {A = Option A} None (Some x) → ⊥
+nothing_found x e = let z : ◌≡◌ {A = ℕ} 0 1 = cc in absurd (omega arith)
+
+same_found : {A : Type 0} (x y : A) → ◌≡◌ {A = Option A} (Some x) (Some y) → x ≡ y
+same_found x y e = cc
 
 pub not_begun : (s : Scan) → begun s ≡ false → s ≡ Start
 not_begun Start e = refl
@@ -80,81 +87,81 @@ module _ (block : List ℕ) (more : ℕ) (r : Row) where
         feed_on block at (Component more 0 bits r) room (hex_no_feed (get_or block at 0) h) ∙ ap (to_feed block (at + 1)) e
 
   -- if all are digits, this byte is one
-  hex_here : (left at bits : ℕ) → (spelled_from block (suc left) at bits).whole ≡ true → hex_value (get_or block at 0) < 16
+  hex_here : (left at bits n : ℕ) → spelled_from block (suc left) at bits ≡ Some n → hex_value (get_or block at 0) < 16
   unfolding spelled_from
-  hex_here left at bits e = go (hex_value (get_or block at 0) <? 16) refl e
+  hex_here left at bits n e = go (hex_value (get_or block at 0) <? 16) refl e
     where
-      go : (t : Bool) → (hex_value (get_or block at 0) <? 16) ≡ t → (spelled_from block (suc left) at bits).whole ≡ true → hex_value (get_or block at 0) < 16
+      go : (t : Bool) → (hex_value (get_or block at 0) <? 16) ≡ t → spelled_from block (suc left) at bits ≡ Some n → hex_value (get_or block at 0) < 16
       go true p e = ltb-true (hex_value (get_or block at 0)) 16 p
-      go false p e = absurd (false≢true (rw p at e))
+      go false p e = absurd (nothing_found n (rw p at e))
 
   spelled_next : (left at bits : ℕ) → hex_value (get_or block at 0) < 16
       → spelled_from block (suc left) at bits ≡ spelled_from block left (at + 1) (appended bits (hex_value (get_or block at 0)))
   unfolding spelled_from
   spelled_next left at bits h = rw (lt-ltb (hex_value (get_or block at 0)) 16 h)
 
-  digits : (left at bits : ℕ) → at + suc left ≤ length block → (s : Spelled) → spelled_from block (suc left) at bits ≡ s → s.whole ≡ true → finite_bits s.bits ≡ true
-      → to_feed block at (Component more left bits r) ≡ to_feed block (at + suc left) (Behind more (pushed r s.bits))
+  digits : (left at bits n : ℕ) → at + suc left ≤ length block → spelled_from block (suc left) at bits ≡ Some n → finite_bits n ≡ true
+      → to_feed block at (Component more left bits r) ≡ to_feed block (at + suc left) (Behind more (pushed r n))
   unfolding spelled_from
-  digits zero at bits room s e w f =
-      let h = hex_here 0 at bits (ap (λ (s : Spelled). s.whole) e ∙ w) in
-      let last : appended bits (hex_value (get_or block at 0)) ≡ s.bits = ap (λ (s : Spelled). s.bits) (sym (spelled_next 0 at bits h) ∙ e) in
+  digits zero at bits n room e f =
+      let h = hex_here 0 at bits n e in
+      let last : appended bits (hex_value (get_or block at 0)) ≡ n = same_found _ n (sym (spelled_next 0 at bits h) ∙ e) in
       let inside : at < length block = omega arith in
       last_digit at bits inside h (rw last f) ∙ rw (last, one at)
     where
       one : (at : ℕ) → at + 1 ≡ at + suc zero
       one at = omega arith
-  digits (suc left) at bits room s e w f =
-      let h = hex_here (suc left) at bits (ap (λ (s : Spelled). s.whole) e ∙ w) in
+  digits (suc left) at bits n room e f =
+      let h = hex_here (suc left) at bits n e in
       let inside : at < length block = omega arith in
       let later : at + 1 + suc left ≤ length block = omega arith in
       let place : at + 1 + suc left ≡ at + suc (suc left) = omega arith in
       digit at bits inside h left
-      ∙ digits left (at + 1) (appended bits (hex_value (get_or block at 0))) later s (sym (spelled_next (suc left) at bits h) ∙ e) w f
-      ∙ ap (λ (i : ℕ). to_feed block i (Behind more (pushed r s.bits))) place
+      ∙ digits left (at + 1) (appended bits (hex_value (get_or block at 0))) n later (sym (spelled_next (suc left) at bits h) ∙ e) f
+      ∙ ap (λ (i : ℕ). to_feed block i (Behind more (pushed r n))) place
 
 -- ---- a space and a component
 
-whole_finite : (s : Spelled) → (finite_only s).whole ≡ true → (s.whole ≡ true) × (finite_bits s.bits ≡ true) × (finite_only s ≡ s)
-whole_finite s e = go s.whole (finite_bits s.bits) refl refl
+found_finite : (s : Option ℕ) (n : ℕ) → finite_only s ≡ Some n → (s ≡ Some n) × (finite_bits n ≡ true)
+found_finite None n e = absurd (nothing_found n e)
+found_finite (Some m) n e = go (finite_bits m) refl e
   where
-    go : (p q : Bool) → s.whole ≡ p → finite_bits s.bits ≡ q → (s.whole ≡ true) × (finite_bits s.bits ≡ true) × (finite_only s ≡ s)
-    go true true a b = (a, b, rw (a, b))
-    go true false a b = absurd (false≢true (rw (a, b) at e))
-    go false q a b = absurd (false≢true (rw a at e))
+    go : (t : Bool) → finite_bits m ≡ t → finite_only (Some m) ≡ Some n → (◌≡◌ {A = Option ℕ} (Some m) (Some n)) × (finite_bits n ≡ true)
+    go true p e =
+        let found : ◌≡◌ {A = Option ℕ} (Some m) (Some n) = rw p at e in
+        (found, ap finite_bits (sym (same_found m n found)) ∙ p)
+    go false p e = absurd (nothing_found n (rw p at e))
 
-record Spaced (block : List ℕ) (at : ℕ) : Type 0 where
+record Spaced (block : List ℕ) (at n : ℕ) : Type 0 where
   space : get_or block at 0 ≡ 32
-  spelled : component_at block at ≡ spelled_from block 16 (at + 1) 0
-  whole : (spelled_from block 16 (at + 1) 0).whole ≡ true
-  finite : finite_bits (spelled_from block 16 (at + 1) 0).bits ≡ true
+  spelled : spelled_from block 16 (at + 1) 0 ≡ Some n
+  finite : finite_bits n ≡ true
 
-spaced : (block : List ℕ) (at : ℕ) → (component_at block at).whole ≡ true → Spaced block at
+spaced : (block : List ℕ) (at n : ℕ) → component_at block at ≡ Some n → Spaced block at n
 unfolding component_at
-spaced block at e = go (eqb (get_or block at 0) 32) refl
+spaced block at n e = go (eqb (get_or block at 0) 32) refl
   where
-    go : (t : Bool) → eqb (get_or block at 0) 32 ≡ t → Spaced block at
+    go : (t : Bool) → eqb (get_or block at 0) 32 ≡ t → Spaced block at n
     go true p =
-        let w = whole_finite (spelled_from block 16 (at + 1) 0) (rw p at e) in
-        record { space = eqb-true (get_or block at 0) 32 p; spelled = rw p w.2; whole = w.0; finite = w.1 }
-    go false p = absurd (false≢true (rw p at e))
+        let w = found_finite (spelled_from block 16 (at + 1) 0) n (rw p at e) in
+        record { space = eqb-true (get_or block at 0) 32 p; spelled = w.0; finite = w.1 }
+    go false p = absurd (nothing_found n (rw p at e))
 
 space_no_feed : (b : ℕ) → b ≡ 32 → b ≡ 10 → ⊥
 space_no_feed b e f = omega arith
 
-component : (block : List ℕ) (at more : ℕ) (r : Row) (s : Scan) → on_byte s 32 ≡ Component more 15 0 r → (component_at block at).whole ≡ true → at + 17 ≤ length block
-    → to_feed block at s ≡ to_feed block (at + 17) (Behind more (pushed r (component_at block at).bits))
-component block at more r s on w room =
-    let p = spaced block at w in
+component : (block : List ℕ) (at more n : ℕ) (r : Row) (s : Scan) → on_byte s 32 ≡ Component more 15 0 r → component_at block at ≡ Some n → at + 17 ≤ length block
+    → to_feed block at s ≡ to_feed block (at + 17) (Behind more (pushed r n))
+component block at more n r s on e room =
+    let p = spaced block at n e in
     let inside : at < length block = omega arith in
     let later : at + 1 + 16 ≤ length block = omega arith in
     let place : at + 1 + 16 ≡ at + 17 = omega arith in
     feed_on block at s inside (space_no_feed (get_or block at 0) p.space)
     ∙ ap (λ (b : ℕ). to_feed block (at + 1) (on_byte s b)) p.space
     ∙ ap (to_feed block (at + 1)) on
-    ∙ digits block more r 15 (at + 1) 0 later (spelled_from block 16 (at + 1) 0) refl p.whole p.finite
-    ∙ ap (λ (i : ℕ). to_feed block i (Behind more (pushed r (spelled_from block 16 (at + 1) 0).bits))) place
-    ∙ ap (λ (s : Spelled). to_feed block (at + 17) (Behind more (pushed r s.bits))) (sym p.spelled)
+    ∙ digits block more r 15 (at + 1) 0 n later p.spelled p.finite
+    ∙ ap (λ (i : ℕ). to_feed block i (Behind more (pushed r n))) place
 
 -- ---- the moment
 
@@ -194,71 +201,89 @@ moment_on_lem : (t : ℕ) → on_byte (Moment t) 32 ≡ Component 5 15 0 (blank 
 unfolding on_byte
 moment_on_lem t = refl
 
-record AllSix (block : List ℕ) (at : ℕ) : Type 0 where
-  x : (component_at block at).whole ≡ true
-  y : (component_at block (at + 17)).whole ≡ true
-  z : (component_at block (at + 34)).whole ≡ true
-  vx : (component_at block (at + 51)).whole ≡ true
-  vy : (component_at block (at + 68)).whole ≡ true
-  vz : (component_at block (at + 85)).whole ≡ true
+record Given (s : Option ℕ) (rest : ℕ → Option WholeLine) (l : WholeLine) : Type 0 where
+  bits : ℕ
+  is : s ≡ Some bits
+  later : rest bits ≡ Some l
 
-all_six : (block : List ℕ) (at t : ℕ) → (six_at block at t).whole ≡ true → AllSix block at
+given : (s : Option ℕ) (rest : ℕ → Option WholeLine) (l : WholeLine) → with_bits s rest ≡ Some l → Given s rest l
+given None rest l e = absurd (nothing_found l e)
+given (Some n) rest l e = record { bits = n; is = refl; later = e }
+
+record AllSix (block : List ℕ) (at t : ℕ) (l : WholeLine) : Type 0 where
+  moment : t ≡ l.moment
+  x : component_at block at ≡ Some l.x
+  y : component_at block (at + 17) ≡ Some l.y
+  z : component_at block (at + 34) ≡ Some l.z
+  vx : component_at block (at + 51) ≡ Some l.vx
+  vy : component_at block (at + 68) ≡ Some l.vy
+  vz : component_at block (at + 85) ≡ Some l.vz
+  end : at + 102 ≡ l.end
+
+module _ (block : List ℕ) (at t x y z vx vy vz : ℕ) (l : WholeLine) where
+  in_line : record { moment = t; x = x; y = y; z = z; vx = vx; vy = vy; vz = vz; end = at + 102 } ≡ l → component_at block at ≡ Some x → component_at block (at + 17) ≡ Some y
+      → component_at block (at + 34) ≡ Some z → component_at block (at + 51) ≡ Some vx → component_at block (at + 68) ≡ Some vy → component_at block (at + 85) ≡ Some vz → AllSix block at t l
+  in_line same ex ey ez evx evy evz = record {
+    moment = ap (λ (l : WholeLine). l.moment) same;
+    x = ex ∙ ap (λ (l : WholeLine). Some l.x) same;
+    y = ey ∙ ap (λ (l : WholeLine). Some l.y) same;
+    z = ez ∙ ap (λ (l : WholeLine). Some l.z) same;
+    vx = evx ∙ ap (λ (l : WholeLine). Some l.vx) same;
+    vy = evy ∙ ap (λ (l : WholeLine). Some l.vy) same;
+    vz = evz ∙ ap (λ (l : WholeLine). Some l.vz) same;
+    end = ap (λ (l : WholeLine). l.end) same;
+  }
+
+all_six : (block : List ℕ) (at t : ℕ) (l : WholeLine) → six_at block at t ≡ Some l → AllSix block at t l
 unfolding six_at
-all_six block at t e =
-    let halves = both (((component_at block at).whole && (component_at block (at + 17)).whole) && (component_at block (at + 34)).whole) _ e in
-    let place = both ((component_at block at).whole && (component_at block (at + 17)).whole) _ halves.0 in
-    let speed = both ((component_at block (at + 51)).whole && (component_at block (at + 68)).whole) _ halves.1 in
-    let two = both (component_at block at).whole _ place.0 in
-    let four = both (component_at block (at + 51)).whole _ speed.0 in
-    record { x = two.0; y = two.1; z = place.1; vx = four.0; vy = four.1; vz = speed.1 }
+all_six block at t l e =
+    let x = given (component_at block at) _ l e in
+    let y = given (component_at block (at + 17)) _ l x.later in
+    let z = given (component_at block (at + 34)) _ l y.later in
+    let vx = given (component_at block (at + 51)) _ l z.later in
+    let vy = given (component_at block (at + 68)) _ l vx.later in
+    let vz = given (component_at block (at + 85)) _ l vy.later in
+    in_line block at t x.bits y.bits z.bits vx.bits vy.bits vz.bits l (same_found _ l vz.later) x.is y.is z.is vx.is vy.is vz.is
 
-module _ (block : List ℕ) (at t : ℕ) (w : AllSix block at) (room : at + 102 ≤ length block) where
-  first : to_feed block at (Moment t) ≡ to_feed block (at + 17) (Behind 5 (pushed (blank t) (component_at block at).bits))
-  first = let fits : at + 17 ≤ length block = omega arith in component block at 5 (blank t) (Moment t) (moment_on_lem t) w.x fits
+module _ (block : List ℕ) (at t : ℕ) (l : WholeLine) (w : AllSix block at t l) (room : at + 102 ≤ length block) where
+  first : to_feed block at (Moment l.moment) ≡ to_feed block (at + 17) (Behind 5 (pushed (blank l.moment) l.x))
+  first = let fits : at + 17 ≤ length block = omega arith in component block at 5 l.x (blank l.moment) (Moment l.moment) (moment_on_lem l.moment) w.x fits
 
   -- one component further
-  later : (i more : ℕ) (r : Row) → i + 17 ≤ at + 102 → (component_at block i).whole ≡ true
-      → to_feed block i (Behind (suc more) r) ≡ to_feed block (i + 17) (Behind more (pushed r (component_at block i).bits))
-  later i more r h c = let fits : i + 17 ≤ length block = omega arith in component block i more r (Behind (suc more) r) (row_on more r) c fits
+  later : (i more n : ℕ) (r : Row) → i + 17 ≤ at + 102 → component_at block i ≡ Some n → to_feed block i (Behind (suc more) r) ≡ to_feed block (i + 17) (Behind more (pushed r n))
+  later i more n r h c = let fits : i + 17 ≤ length block = omega arith in component block i more n r (Behind (suc more) r) (row_on more r) c fits
 
-  on : (i more : ℕ) (r : Row) (j : ℕ) → i + 17 ≤ at + 102 → i + 17 ≡ j → (component_at block i).whole ≡ true
-      → to_feed block i (Behind (suc more) r) ≡ to_feed block j (Behind more (pushed r (component_at block i).bits))
-  on i more r j h e c = subst (λ (k : ℕ). to_feed block i (Behind (suc more) r) ≡ to_feed block k (Behind more (pushed r (component_at block i).bits))) e (later i more r h c)
+  on : (i more n : ℕ) (r : Row) (j : ℕ) → i + 17 ≤ at + 102 → i + 17 ≡ j → component_at block i ≡ Some n → to_feed block i (Behind (suc more) r) ≡ to_feed block j (Behind more (pushed r n))
+  on i more n r j h e c = subst (λ (k : ℕ). to_feed block i (Behind (suc more) r) ≡ to_feed block k (Behind more (pushed r n))) e (later i more n r h c)
 
-  six_on : to_feed block at (Moment t) ≡ to_feed block (at + 102) (Behind 0 (row_in (six_at block at t)))
-  unfolding six_at
+  six_on : to_feed block at (Moment t) ≡ to_feed block (at + 102) (Behind 0 (row_in l))
   six_on =
-      first
-      ∙ on (at + 17) 4 _ (at + 34) (omega arith) (omega arith) w.y
-      ∙ on (at + 34) 3 _ (at + 51) (omega arith) (omega arith) w.z
-      ∙ on (at + 51) 2 _ (at + 68) (omega arith) (omega arith) w.vx
-      ∙ on (at + 68) 1 _ (at + 85) (omega arith) (omega arith) w.vy
-      ∙ on (at + 85) 0 _ (at + 102) (omega arith) (omega arith) w.vz
+      ap (λ (t : ℕ). to_feed block at (Moment t)) w.moment
+      ∙ first
+      ∙ on (at + 17) 4 l.y _ (at + 34) (omega arith) (omega arith) w.y
+      ∙ on (at + 34) 3 l.z _ (at + 51) (omega arith) (omega arith) w.z
+      ∙ on (at + 51) 2 l.vx _ (at + 68) (omega arith) (omega arith) w.vx
+      ∙ on (at + 68) 1 l.vy _ (at + 85) (omega arith) (omega arith) w.vy
+      ∙ on (at + 85) 0 l.vz _ (at + 102) (omega arith) (omega arith) w.vz
 
 -- ---- the whole line
 
-end_is : (block : List ℕ) (at t : ℕ) → at + 102 ≡ (six_at block at t).end
-unfolding six_at
-end_is block at t = refl
-
 -- a line after its moment
-behind_moment : (block : List ℕ) (m : Numbered) → (after_moment block m).whole ≡ true
-    → to_feed block m.end (Moment m.t) ≡ record { scan = Behind 0 (row_in (after_moment block m)); at = (after_moment block m).end }
+behind_moment : (block : List ℕ) (m : Numbered) (l : WholeLine) → after_moment block m ≡ Some l → to_feed block m.end (Moment m.t) ≡ record { scan = Behind 0 (row_in l); at = l.end }
 unfolding after_moment
-behind_moment block m e = go (ltb (m.end + 102) (length block)) (eqb (get_or block (m.end + 102) 0) 10) refl refl e
+behind_moment block m l e = go (ltb (m.end + 102) (length block)) (eqb (get_or block (m.end + 102) 0) 10) refl refl e
   where
-    go : (p q : Bool) → ltb (m.end + 102) (length block) ≡ p → eqb (get_or block (m.end + 102) 0) 10 ≡ q → (after_moment block m).whole ≡ true
-        → to_feed block m.end (Moment m.t) ≡ record { scan = Behind 0 (row_in (after_moment block m)); at = (after_moment block m).end }
-    go false q a b e = absurd (false≢true (rw a at e))
-    go true false a b e = absurd (false≢true (rw (a, b) at e))
+    go : (p q : Bool) → ltb (m.end + 102) (length block) ≡ p → eqb (get_or block (m.end + 102) 0) 10 ≡ q → after_moment block m ≡ Some l
+        → to_feed block m.end (Moment m.t) ≡ record { scan = Behind 0 (row_in l); at = l.end }
+    go false q a b e = absurd (nothing_found l (rw a at e))
+    go true false a b e = absurd (nothing_found l (rw (a, b) at e))
     go true true a b e =
         let inside = ltb-true (m.end + 102) (length block) a in
         let fits : m.end + 102 ≤ length block = omega arith in
-        let w = all_six block m.end m.t (rw (a, b) at e) in
-        rw (a, b)
-        (six_on block m.end m.t w fits
-        ∙ feed_here block (m.end + 102) (Behind 0 (row_in (six_at block m.end m.t))) inside (eqb-true (get_or block (m.end + 102) 0) 10 b)
-        ∙ ap (λ (i : ℕ). record { scan = Behind 0 (row_in (six_at block m.end m.t)); at = i }) (end_is block m.end m.t))
+        let w = all_six block m.end m.t l (rw (a, b) at e) in
+        six_on block m.end m.t l w fits
+        ∙ feed_here block (m.end + 102) (Behind 0 (row_in l)) inside (eqb-true (get_or block (m.end + 102) 0) 10 b)
+        ∙ ap (λ (i : ℕ). record { scan = Behind 0 (row_in l); at = i }) w.end
 
 first_moment : (b : ℕ) → is_decimal b ≡ true → on_byte Start b ≡ Moment (b - 48)
 unfolding on_byte
@@ -267,21 +292,19 @@ first_moment b e =
     rw (ne_eqb b 83 (λ q. omega arith), ne_eqb b 65 (λ q. omega arith), ne_eqb b 82 (λ q. omega arith), e)
 
 -- The law: reading the line of a state at once gives the same as reading it byte by byte.
-pub whole_line : (block : List ℕ) (at : ℕ) → (state_line_at block at).whole ≡ true
-    → to_feed block at Start ≡ record { scan = Behind 0 (row_in (state_line_at block at)); at = (state_line_at block at).end }
+pub whole_line : (block : List ℕ) (at : ℕ) (l : WholeLine) → state_line_at block at ≡ Some l → to_feed block at Start ≡ record { scan = Behind 0 (row_in l); at = l.end }
 unfolding state_line_at
-whole_line block at e = go (ltb at (length block)) (is_decimal (get_or block at 0)) refl refl e
+whole_line block at l e = go (ltb at (length block)) (is_decimal (get_or block at 0)) refl refl e
   where
-    go : (p q : Bool) → ltb at (length block) ≡ p → is_decimal (get_or block at 0) ≡ q → (state_line_at block at).whole ≡ true
-        → to_feed block at Start ≡ record { scan = Behind 0 (row_in (state_line_at block at)); at = (state_line_at block at).end }
-    go false q a d e = absurd (false≢true (rw a at e))
-    go true false a d e = absurd (false≢true (rw (a, d) at e))
+    go : (p q : Bool) → ltb at (length block) ≡ p → is_decimal (get_or block at 0) ≡ q → state_line_at block at ≡ Some l
+        → to_feed block at Start ≡ record { scan = Behind 0 (row_in l); at = l.end }
+    go false q a d e = absurd (nothing_found l (rw a at e))
+    go true false a d e = absurd (nothing_found l (rw (a, d) at e))
     go true true a d e =
         let b = get_or block at 0 in
         let m = moment_on (drop (at + 1) block) (b - 48) (at + 1) in
         let low = leb-true 48 b (both (leb 48 b) (leb b 57) d).0 in
-        rw (a, d)
-        (feed_on block at Start (ltb-true at (length block) a) (decimal_no_feed b low)
+        feed_on block at Start (ltb-true at (length block) a) (decimal_no_feed b low)
         ∙ ap (to_feed block (at + 1)) (first_moment b d)
         ∙ moments block (drop (at + 1) block) (at + 1) (b - 48) refl
-        ∙ behind_moment block m (rw (a, d) at e))
+        ∙ behind_moment block m l (rw (a, d) at e)

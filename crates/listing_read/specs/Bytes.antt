@@ -1,5 +1,6 @@
 -- How a listing is read byte by byte, in blocks.
-use Rattle.std.specs.Prelude.{ℕ, ◌+◌, ◌≤◌, List, [], ◌∷◌, ◌++◌, map, ◌≡◌, length, drop}
+use Rattle.listing_scan.specs.declared.Row.{Row}
+use Rattle.std.specs.Prelude.{ℕ, ◌+◌, ◌≤◌, List, [], ◌∷◌, ◌++◌, map, ◌≡◌, length, drop, Option, Some, None}
 use Rattle.base.specs.Choice.{if◌then◌otherwise◌, ◌<?◌, ◌=?◌}
 use Rattle.listing_scan.specs.declared.Line.{Line}
 use Rattle.listing_scan.specs.declared.Line.TheVariants as line
@@ -9,8 +10,6 @@ use Rattle.listing_read.specs.declared.Place.{Place}
 use Rattle.listing_read.specs.declared.Place.TheVariants.{Top}
 use Rattle.listing_read.specs.declared.Judge.{Judge}
 use Rattle.listing_read.specs.declared.Verdict.{Verdict}
-use Rattle.listing_read.specs.declared.Found.{Found}
-use Rattle.listing_read.specs.declared.Found.TheVariants.{Is, None}
 use Rattle.listing_read.specs.declared.Next.{Next}
 use Rattle.listing_read.specs.Form.{lines_of, row_of, found_rows, placed, is_off, missing, refused_from, rows_of}
 use Rattle.listing_scan.specs.Reading.{kind_of}
@@ -92,7 +91,7 @@ abbrev pub closed : Judge → Verdict
 closed j = record { refusal = missing j.place j.line; rows = j.rows; outcome = j.last }
 
 -- a byte ends the line of a state if it is a line feed
-abbrev pub row_here : Scan → ℕ → Found
+abbrev pub row_here : Scan → ℕ → Option Row
 row_here s b = if b =? 10 then row_of (told s []) otherwise None
 
 -- after one more byte of the text: a line feed starts a new line
@@ -100,8 +99,8 @@ abbrev pub behind_byte : Scan → ℕ → Scan
 behind_byte s b = if b =? 10 then Start otherwise on_byte s b
 
 -- the search ends at a state, otherwise it continues
-abbrev pub found_or : Found → Scan → ℕ → Next → Next
-found_or (Is r) s at later = record { found = Is r; scan = s; at = at }
+abbrev pub found_or : Option Row → Scan → ℕ → Next → Next
+found_or (Some r) s at later = record { found = Some r; scan = s; at = at }
 found_or None s at later = later
 
 -- the first state whose line ends in some bytes, which begin at `at`. The scan and the place are those after its line feed, or after all

@@ -1,12 +1,10 @@
 -- The form of a listing as a whole (document 02, R-1): a lone refusal, or a header, states whose moments rise, and an outcome.
 -- "Form is judged line by line, not by h or the step count; a missing line is the one after the last."
-use Rattle.std.specs.Prelude.{ℕ, ◌+◌, Bool, true, false, List, [], ◌∷◌, ◌++◌, map}
+use Rattle.std.specs.Prelude.{ℕ, ◌+◌, Bool, true, false, List, [], ◌∷◌, ◌++◌, map, Option, Some, None}
 use Rattle.base.specs.Choice.{if◌then◌otherwise◌, ◌<?◌, ◌=?◌}
 use Rattle.listing_scan.specs.declared.Row.{Row}
 use Rattle.listing_scan.specs.declared.Line.{Line}
 use Rattle.listing_scan.specs.declared.Line.TheVariants as line
-use Rattle.listing_read.specs.declared.Found.{Found}
-use Rattle.listing_read.specs.declared.Found.TheVariants.{Is, None}
 use Rattle.listing_read.specs.declared.Place.{Place}
 use Rattle.listing_read.specs.declared.Place.TheVariants.{Top, First, After, Done, Off}
 use Rattle.listing_scan.specs.Reading.{kind_of}
@@ -24,16 +22,16 @@ unfoldable pub kinds_of : List ℕ → List Line
 kinds_of text = map kind_of (lines_of text)
 
 -- the state that a line holds, if it holds one
-abbrev pub row_of : Line → Found
-row_of (line.State r) = Is r
+abbrev pub row_of : Line → Option Row
+row_of (line.State r) = Some r
 row_of line.Header = None
 row_of line.Outcome = None
 row_of line.Lone = None
 row_of line.Bad = None
 
-abbrev pub found_rows : Found → List Row
+abbrev pub found_rows : Option Row → List Row
 found_rows None = []
-found_rows (Is r) = r ∷ []
+found_rows (Some r) = r ∷ []
 
 -- "whose moments do not rise" is not of the form
 abbrev pub later : ℕ → ℕ → Place
@@ -48,8 +46,8 @@ after_top line.Outcome = Off
 after_top line.Bad = Off
 
 -- after the header: a state
-abbrev pub headed : Found → Place
-headed (Is r) = After r.moment
+abbrev pub headed : Option Row → Place
+headed (Some r) = After r.moment
 headed None = Off
 
 abbrev pub after_header : Line → Place

@@ -45,8 +45,7 @@ pub fn to_feed(block: &[u8], at: usize, scan: Scan) -> Reached
     if has_begun(scan) {
         return byte_by_byte(block, at, scan);
     }
-    let line = state_line(block, at);
-    if line.whole {
+    if let Some(line) = state_line(block, at) {
         return Reached {
             scan: Scan::Behind(0, row_in(line)),
             at: line.end,

@@ -53,16 +53,10 @@ pub struct Verdict {
     pub outcome: u64,
 }
 
-#[derive(Clone, Copy)]
-pub enum Found {
-    Is(Row),
-    None,
-}
-
 // What was found in a block, and where to go on.
 #[derive(Clone, Copy)]
 pub struct Next {
-    pub found: Found,
+    pub found: Option<Row>,
     pub scan: Scan,
     pub at: usize,
 }
@@ -102,10 +96,9 @@ fn after_top(line: Line) -> Place
 fn after_header(line: Line) -> Place
     ensures { result ≡ after_header line }
 {
-    let found = row_of(line);
-    match found {
-        Found::Is(row) => Place::After(row.moment),
-        Found::None => Place::Off,
+    match row_of(line) {
+        Some(row) => Place::After(row.moment),
+        None => Place::Off,
     }
 }
 
@@ -146,31 +139,31 @@ pub fn top() -> Judge
 }
 
 // The state whose line a byte ends, if it is a line feed.
-fn row_here(scan: Scan, b: u8) -> Found
+fn row_here(scan: Scan, b: u8) -> Option<Row>
     ensures { result ≡ row_here scan b }
 {
     if b == 10 {
         return last_row(scan);
     }
-    Found::None
+    None
 }
 
 // The state whose line ends here.
-pub fn last_row(scan: Scan) -> Found
+pub fn last_row(scan: Scan) -> Option<Row>
     ensures { result ≡ row_of (told scan []) }
 {
     row_of(line_end(scan))
 }
 
-pub fn row_of(line: Line) -> Found
+pub fn row_of(line: Line) -> Option<Row>
     ensures { result ≡ row_of line }
 {
     match line {
-        Line::State(row) => Found::Is(row),
-        Line::Header => Found::None,
-        Line::Outcome => Found::None,
-        Line::Lone => Found::None,
-        Line::Bad => Found::None,
+        Line::State(row) => Some(row),
+        Line::Header => None,
+        Line::Outcome => None,
+        Line::Lone => None,
+        Line::Bad => None,
     }
 }
 
@@ -197,9 +190,9 @@ pub fn next_row(block: &[u8], at: usize, scan: Scan) -> Next
         let found = row_here(s, b);
         let behind = after_byte(s, b);
         i += 1;
-        if let Found::Is(row) = found {
+        if let Some(row) = found {
             return Next {
-                found: Found::Is(row),
+                found: Some(row),
                 scan: behind,
                 at: i,
             };
@@ -209,7 +202,7 @@ pub fn next_row(block: &[u8], at: usize, scan: Scan) -> Next
         i = next.at;
     }
     Next {
-        found: Found::None,
+        found: None,
         scan: s,
         at: i,
     }

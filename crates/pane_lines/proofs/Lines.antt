@@ -1,7 +1,7 @@
 -- The lines of the pane, each by the numbers read from it. Assumes nothing.
 use Prim.Native.Nat.{ℕ}
 use mathlib.Core.List.{List, []}
-use mathlib.Core.Path.{◌≡◌, refl}
+use mathlib.Core.Path.{◌≡◌}
 use native.Mathlib.Omega.{arith}
 use lib.ListN.{take}
 use Rattle.std.specs.Prelude.{Option, Some, None}
@@ -44,11 +44,11 @@ module _ (p : Pane) (line : List ℕ) (v : List ℕ) where
 
     module _ (m : call_of line going_name run_kinds ≡ Unreadable) where
       pub refuses : call_of line refused_name refused_kinds ≡ These (take 18 v) → run_line p line ≡ told_refused p v (refusal_of (number v 0))
-      refuses e = rw (n, m, e, number_taken 18 v 0 (omega arith)) (go (refusal_of (number v 0)))
+      refuses e = rw (n, m, e, number_taken 18 v 0 (omega arith)) (by (refusal_of (number v 0)))
         where
-          go : (k : Option Refusal) → told_refused p (take 18 v) k ≡ told_refused p v k
-          go (Some k) = rw (number_taken 18 v 1 (omega arith), state_taken 18 v 2 (omega arith), guesses_taken 18 v 13 (omega arith))
-          go None = refl
+          by : (k : Option Refusal) → told_refused p (take 18 v) k ≡ told_refused p v k
+          by (Some k) = rw (number_taken 18 v 1 (omega arith), state_taken 18 v 2 (omega arith), guesses_taken 18 v 13 (omega arith))
+          by None = refl
 
       pub unreadable : call_of line refused_name refused_kinds ≡ Unreadable → run_line p line ≡ told_unreadable p
       unreadable e = rw (n, m, e)

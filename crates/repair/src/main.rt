@@ -25,7 +25,7 @@ fn room_of(word: &[u8]) -> usize
     ensures { result ≤ 61_441 }
 {
     let field = text_write::read_decimal(word, 0);
-    let Field::Value(n, next) = field else {
+    let Some(Field { value: n, next }) = field else {
         return NOT_ALLOWED;
     };
     if next < word.len() {

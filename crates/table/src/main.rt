@@ -12,7 +12,7 @@ ghost use Rattle.table_blocks.specs.Steps.{Stands};
 
 use std::io::Read;
 use table_blocks::inner::{finish, portion, put_refusal};
-use table_blocks::{Standing, opening};
+use table_blocks::{RefusedLine, Standing, opening};
 use table_rows::inner::put_heading;
 
 // The stage of reading, and whether all rows so far were written.
@@ -69,13 +69,13 @@ fn print_block(rt: &(impl Print + Eprint), block: &[u8], from: Standing, out: &m
 fn is_refused(s: Standing) -> bool {
     match s {
         Standing::Going(_, _, _) => false,
-        Standing::Refused(_, _) => true,
+        Standing::Refused(_) => true,
     }
 }
 
-fn tell_refusal(rt: &impl Eprint, number: u64, line: u64) {
+fn tell_refusal(rt: &impl Eprint, refused: Option<RefusedLine>) {
     let mut room = [0u8; 64];
-    let n = put_refusal(&mut room, number, line);
+    let n = put_refusal(&mut room, refused);
     let _ = rt.eprint(str::from_utf8(&room[..n]).unwrap_or(""));
 }
 
@@ -87,7 +87,7 @@ fn print_end(rt: &(impl Print + Eprint), standing: Standing, out: &mut [u8])
     let end = finish(out, standing);
     let n = end.next;
     if print(rt, &out[..n]) {
-        tell_refusal(rt, end.number, end.line);
+        tell_refusal(rt, end.refused);
     }
 }
 

@@ -16,17 +16,17 @@ module _ (block : List ℕ) (at : ℕ) where
   pub ahead_least : (s : Standing) → at ≤ (ahead_of block at s).at
   unfolding ahead_of
   ahead_least (Going place scan line) = feed_least block at scan
-  ahead_least (Refused number line) = omega arith
+  ahead_least (Refused r) = omega arith
 
   ahead_table : (s : Standing) (rest : List ℕ) → table_with s (drop at block ++ rest) ≡ table_with (ahead_of block at s).standing (drop (ahead_of block at s).at block ++ rest)
   unfolding ahead_of table_with
   ahead_table (Going place scan line) rest = ap (table_from place line) (kinds_skip block at scan rest)
-  ahead_table (Refused number line) rest = refl
+  ahead_table (Refused r) rest = refl
 
   ahead_stands : (s : Standing) → Stands s → Stands (ahead_of block at s).standing
   unfolding ahead_of Stands
   ahead_stands (Going place scan line) h = h
-  ahead_stands (Refused number line) h = h
+  ahead_stands (Refused r) h = h
 
 pub made_ahead : (block : List ℕ) (from : ℕ) (s₀ : Standing) (out₀ : List ℕ) (s : Standing) (i at : ℕ) (out : List ℕ) → from < i → Made block from s₀ out₀ s i at out
     → Made block from s₀ out₀ (ahead_of block i s).standing (ahead_of block i s).at at out

@@ -13,4 +13,4 @@ line_ahead block at place scan line =
 
 unfoldable pub ahead_of : List ℕ → ℕ → Standing → Ahead
 ahead_of block at (Going place scan line) = line_ahead block at place scan line
-ahead_of block at (Refused number line) = record { standing = Refused number line; at = at }
+ahead_of block at (Refused r) = record { standing = Refused r; at = at }

@@ -1,5 +1,5 @@
 -- How a table is made byte by byte: the stages of reading, and what a portion of it is.
-use Rattle.std.specs.Prelude.{ℕ, ◌+◌, ◌≤◌, ◌<◌, false, List, [], ◌∷◌, ◌++◌, ◌≡◌, length, take, drop}
+use Rattle.std.specs.Prelude.{ℕ, ◌+◌, ◌≤◌, ◌<◌, false, List, [], ◌∷◌, ◌++◌, ◌≡◌, length, take, drop, Some}
 use Rattle.base.specs.Limits.{end_of_time}
 use Rattle.text_write.specs.Written.{Wrote}
 use Rattle.listing_read.specs.declared.Place.{Place}
@@ -12,12 +12,12 @@ use Rattle.table_blocks.specs.declared.Standing.TheVariants.{Going, Refused}
 use Rattle.table_blocks.specs.declared.Step.{Step}
 use Rattle.table_blocks.specs.declared.Portion.{Portion}
 use Rattle.table_blocks.specs.declared.End.{End}
-use Rattle.table_blocks.specs.Table.{Table, refused_by, behind, table_from}
+use Rattle.table_blocks.specs.Table.{Table, no_rows, behind, table_from}
 
 -- the table of the rest of the text
 unfoldable pub table_with : Standing → List ℕ → Table
 table_with (Going place scan line) rest = table_from place line (kinds_from scan rest)
-table_with (Refused number line) rest = refused_by number line
+table_with (Refused r) rest = no_rows (Some r)
 
 -- line n comes before a stage. Moments rise, so there are no more lines than milliseconds.
 abbrev pub Held : Place → ℕ → Type 0
@@ -29,12 +29,12 @@ Held Off n = ⊥
 
 unfoldable pub Stands : Standing → Type 0
 Stands (Going place scan line) = Held place line
-Stands (Refused number line) = 0 ≤ line
+Stands (Refused r) = 0 ≤ r.line
 
 -- no byte of the line has been read
 unfoldable pub Fresh : Standing → Type 0
 Fresh (Going place scan line) = begun scan ≡ false
-Fresh (Refused number line) = 0 ≤ line
+Fresh (Refused r) = 0 ≤ r.line
 
 -- some more bytes: what is written for them, and the stage after them
 pub record Steps (from : Standing) (bytes before : List ℕ) (at : ℕ) (after : List ℕ) (s : Step) : Type 0 where
@@ -63,7 +63,7 @@ pub record Tabled (block : List ℕ) (at : ℕ) (from : Standing) (before after 
 pub record Ends (from : Standing) (before after : List ℕ) (e : End) : Type 0 where
   pub text : List ℕ
   pub wrote : Wrote before 0 text after e.next
-  pub table : table_with from [] ≡ behind text (refused_by e.number e.line)
+  pub table : table_with from [] ≡ behind text (no_rows e.refused)
 
 abbrev pub opened : Standing
 opened = Going Top Start 1

@@ -25,8 +25,8 @@ pub fn to_line_end(block: &[u8], at: usize, standing: Standing) -> Ahead
 {
     match standing {
         Standing::Going(place, scan, line) => line_ahead(block, at, place, scan, line),
-        Standing::Refused(number, line) => Ahead {
-            standing: Standing::Refused(number, line),
+        Standing::Refused(refused) => Ahead {
+            standing: Standing::Refused(refused),
             at,
         },
     }

@@ -1,29 +1,31 @@
 // A table in portions that fit a caller's buffer: inner functions of the program, which knows that there is room.
 
-ghost use Rattle.std.specs.Prelude.{◌≡◌, [], ◌∷◌, ◌+◌, ◌≤◌, ◌<◌, length};
+ghost use Rattle.std.specs.Prelude.{◌≡◌, [], ◌∷◌, ◌+◌, ◌≤◌, ◌<◌, length, None};
+ghost use Rattle.base.specs.declared.Refusal.TheVariants.{Listing};
 ghost use Rattle.text_write.specs.Written.{Wrote};
-ghost use Rattle.table_blocks.specs.Table.{found_refusal, found_text, at_end, refused_by, refusal_text};
+ghost use Rattle.table_blocks.specs.Table.{found_refusal, found_text, at_end, no_rows, refused_by, refused_text, refusal_text};
 ghost use Rattle.table_blocks.specs.Steps.{Held, Stands, Fresh, Steps, Feeds, Tabled, Ends, table_with};
 
 use crate::feed::to_line_end;
-use crate::{End, Portion, Standing, Step, refusal_at};
-use listing_read::{Found, Place, place_after, row_of};
-use listing_scan::Scan;
+use crate::{End, Portion, RefusedLine, Standing, Step, refusal_at};
+use base::Refusal;
+use listing_read::{Place, place_after, row_of};
 use listing_scan::scanning::{has_begun, line_end, take_byte};
+use listing_scan::{Row, Scan};
 use table_rows::inner::put_row;
 use text_write::inner::{put_bytes, put_decimal};
 
 // Room for one row.
 const LONGEST_ROW: usize = 157;
 
-fn put_found(out: &mut [u8], at: usize, found: Found) -> usize
-    requires found_value { found_refusal found ≡ 0 }
+fn put_found(out: &mut [u8], at: usize, found: Option<Row>) -> usize
+    requires found_value { found_refusal found ≡ None }
     requires at_in_bounds { at + 157 ≤ length out.old }
     ensures { Wrote out.old at (found_text found) out.new result }
 {
     match found {
-        Found::Is(row) => put_row(out, at, row),
-        Found::None => at,
+        Some(row) => put_row(out, at, row),
+        None => at,
     }
 }
 
@@ -37,16 +39,15 @@ fn end_line(out: &mut [u8], at: usize, place: Place, scan: Scan, line: u64) -> S
     let after = place_after(place, kind);
     let found = row_of(kind);
     let refusal = refusal_at(after, found);
-    if refusal == 0 {
-        let next = put_found(out, at, found);
-        return Step {
+    match refusal {
+        None => Step {
             standing: Standing::Going(after, Scan::Start, line + 1),
-            next,
-        };
-    }
-    Step {
-        standing: Standing::Refused(refusal, line),
-        next: at,
+            next: put_found(out, at, found),
+        },
+        Some(refusal) => Step {
+            standing: Standing::Refused(RefusedLine { refusal, line }),
+            next: at,
+        },
     }
 }
 
@@ -72,8 +73,8 @@ fn take(out: &mut [u8], at: usize, standing: Standing, b: u8) -> Step
 {
     match standing {
         Standing::Going(place, scan, line) => go_on(out, at, place, scan, line, b),
-        Standing::Refused(number, line) => Step {
-            standing: Standing::Refused(number, line),
+        Standing::Refused(refused) => Step {
+            standing: Standing::Refused(refused),
             next: at,
         },
     }
@@ -112,12 +113,11 @@ pub fn portion(block: &[u8], from: usize, standing: Standing, out: &mut [u8]) ->
 
 // A text that ends between two lines.
 fn at_end(place: Place, line: u64, next: usize) -> End
-    ensures { (refused_by result.number result.line ≡ at_end place line) × (result.next ≡ next) }
+    ensures { (no_rows result.refused ≡ at_end place line) × (result.next ≡ next) }
 {
     match place {
         Place::Done => End {
-            number: 0,
-            line: 0,
+            refused: None,
             next,
         },
         Place::Top => missing(line, next),
@@ -128,25 +128,24 @@ fn at_end(place: Place, line: u64, next: usize) -> End
 }
 
 fn missing(line: u64, next: usize) -> End
-    ensures { (refused_by result.number result.line ≡ refused_by 13 line) × (result.next ≡ next) }
+    ensures { (no_rows result.refused ≡ refused_by Listing line) × (result.next ≡ next) }
 {
+    let refusal = Refusal::Listing;
     End {
-        number: 13,
-        line,
+        refused: Some(RefusedLine { refusal, line }),
         next,
     }
 }
 
 fn ended(step: Step) -> End
     requires { Fresh step.standing }
-    ensures { (table_with step.standing [] ≡ refused_by result.number result.line) × (result.next ≡ step.next) }
+    ensures { (table_with step.standing [] ≡ no_rows result.refused) × (result.next ≡ step.next) }
 {
     let standing = step.standing;
     match standing {
         Standing::Going(place, _, line) => at_end(place, line, step.next),
-        Standing::Refused(number, line) => End {
-            number,
-            line,
+        Standing::Refused(refused) => End {
+            refused: Some(refused),
             next: step.next,
         },
     }
@@ -171,25 +170,32 @@ pub fn finish(out: &mut [u8], standing: Standing) -> End
 {
     match standing {
         Standing::Going(place, scan, line) => finish_line(out, place, scan, line),
-        Standing::Refused(number, line) => End {
-            number,
-            line,
+        Standing::Refused(refused) => End {
+            refused: Some(refused),
             next: 0,
         },
     }
 }
 
-// REFUSED n LINE, or nothing.
-pub fn put_refusal(out: &mut [u8], number: u64, line: u64) -> usize
+// REFUSED n LINE.
+fn put_refused(out: &mut [u8], number: u64, line: u64) -> usize
     requires { 50 ≤ length out.old }
-    ensures { Wrote out.old 0 (refusal_text number line) out.new result }
+    ensures { Wrote out.old 0 (refused_text number line) out.new result }
 {
-    if number == 0 {
-        return 0;
-    }
     let first = put_bytes(out, 0, b"REFUSED ");
     let behind = put_decimal(out, first, number);
     let second = put_bytes(out, behind, b" ");
     let end = put_decimal(out, second, line);
     put_bytes(out, end, b"\n")
+}
+
+// The same of a refusal, or nothing.
+pub fn put_refusal(out: &mut [u8], refused: Option<RefusedLine>) -> usize
+    requires { 50 ≤ length out.old }
+    ensures { Wrote out.old 0 (refusal_text refused) out.new result }
+{
+    match refused {
+        Some(RefusedLine { refusal, line }) => put_refused(out, refusal.number(), line),
+        None => 0,
+    }
 }

@@ -9,17 +9,24 @@ ghost use Rattle.std.specs.Prelude.{◌≡◌};
 ghost use Rattle.table_blocks.specs.Table.{state_refusal, found_refusal, refusal_at};
 ghost use Rattle.table_blocks.specs.Steps.{opened};
 
+use base::Refusal;
+use listing_read::Place;
 use listing_read::inner::is_off;
-use listing_read::{Found, Place};
 use listing_scan::{Row, Scan};
 use table_rows::has_large;
 
-// The stage of reading a listing: a place of the form, with a scan of the line of that number; or refused, with a
-// number and a line.
+// Why a listing is refused, and the number of its line.
+#[derive(Clone, Copy)]
+pub struct RefusedLine {
+    pub refusal: Refusal,
+    pub line: u64,
+}
+
+// The stage of reading a listing: a place of the form, with a scan of the line of that number; or refused.
 #[derive(Clone, Copy)]
 pub enum Standing {
     Going(Place, Scan, u64),
-    Refused(u64, u64),
+    Refused(RefusedLine),
 }
 
 // The stage of reading, and its place in the block.
@@ -44,11 +51,10 @@ pub struct Portion {
     pub written: usize,
 }
 
-// The refusal of a whole text, or 0 and 0, and the place after what was written.
+// The refusal of a whole text, if it is refused, and the place after what was written.
 #[derive(Clone, Copy)]
 pub struct End {
-    pub number: u64,
-    pub line: u64,
+    pub refused: Option<RefusedLine>,
     pub next: usize,
 }
 
@@ -59,33 +65,33 @@ pub fn opening() -> Standing
     Standing::Going(Place::Top, Scan::Start, 1)
 }
 
-fn state_refusal(row: Row) -> u64
+fn state_refusal(row: Row) -> Option<Refusal>
     ensures { result ≡ state_refusal row }
 {
     if row.moment < base::END_OF_TIME {
         if has_large(row) {
-            return 17;
+            return Some(Refusal::Large);
         }
-        return 0;
+        return None;
     }
-    13
+    Some(Refusal::Listing)
 }
 
-fn found_refusal(found: Found) -> u64
+fn found_refusal(found: Option<Row>) -> Option<Refusal>
     ensures { result ≡ found_refusal found }
 {
     match found {
-        Found::Is(row) => state_refusal(row),
-        Found::None => 0,
+        Some(row) => state_refusal(row),
+        None => None,
     }
 }
 
-// The refusal number of a line that leads to a stage, or 0.
-pub fn refusal_at(place: Place, found: Found) -> u64
+// The refusal of a line that leads to a stage, if it is refused.
+pub fn refusal_at(place: Place, found: Option<Row>) -> Option<Refusal>
     ensures { result ≡ refusal_at place found }
 {
     if is_off(place) {
-        return 13;
+        return Some(Refusal::Listing);
     }
     found_refusal(found)
 }

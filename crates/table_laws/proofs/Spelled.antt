@@ -1,5 +1,5 @@
 -- The printed bytes of a float spell the float rounded (document 02, R-13). Assumes nothing.
-use Prim.Native.Nat.{ℕ, zero, suc, ◌+◌, ◌*◌, ◌/◌, ◌%◌, ◌^◌, ◌<◌}
+use Prim.Native.Nat.{ℕ, zero, suc, ◌+◌, ◌*◌, ◌/◌, ◌%◌, ◌^◌}
 use mathlib.Core.Bool.{Bool, true, ◌&&◌}
 use mathlib.Core.List.{[], ◌∷◌, ◌++◌, append_assoc, append-nil}
 use mathlib.Core.Path.{◌≡◌, refl, sym, ap, ◌∙◌}
@@ -7,7 +7,6 @@ use native.Mathlib.Nat.{div-one, pow-zero, pow-succ', div-div-eq-div-mul, le_ref
 use native.Mathlib.Omega.{arith}
 use lib.Ieee.{Float}
 use lib.Ieee.Scale.{finite}
-use lib.ListN.{length}
 use Rattle.base.specs.Choice.{◌<?◌}
 use Rattle.text_write.specs.Numerals.{glyph, digits, decimal_of}
 use Rattle.text_write.proofs.Back.{Spells, one_more, decimal_spells}

@@ -2,13 +2,13 @@
 use Prim.Native.Nat.{ℕ}
 use mathlib.Core.List.{List, [], ◌∷◌, ◌++◌, append_assoc, append-nil}
 use mathlib.Core.Path.{◌≡◌, refl, sym, ap, ◌∙◌}
-use lib.ListN.{length, take, drop, drop_of_length-le}
+use lib.ListN.{take, drop, drop_of_length-le}
 use Rattle.listing_read.proofs.Lines.{kinds_start}
 use Rattle.listing_read.specs.declared.Place.TheVariants.{Top}
 use Rattle.table_rows.specs.Text.{heading}
 use Rattle.table_blocks.specs.declared.Standing.{Standing}
 use Rattle.table_blocks.specs.declared.Standing.TheVariants.{Going, Refused}
-use Rattle.table_blocks.specs.Table.{Table, behind, refused_by, table_from, table_of, refusal_text, written, told}
+use Rattle.table_blocks.specs.Table.{Table, behind, no_rows, table_from, table_of, refusal_text, written, told}
 use Rattle.table_blocks.specs.Steps.{table_with, opened}
 use Rattle.table_blocks.proofs.Reading.{behind_behind}
 use Rattle.table_laws.specs.Laws.{Part, Block, bytes_of, parts_text, blocks_text, standing_after, standing_behind, Portions, Blocks, MayStop, Printing, output, errors}
@@ -52,10 +52,10 @@ so_far bs h rest =
 nothing_more : (s : Standing) (left : List ℕ) → MayStop s left → table_with s left ≡ table_with s []
 unfolding table_with
 nothing_more (Going place scan line) left h = rw h
-nothing_more (Refused number line) left h = refl
+nothing_more (Refused r) left h = refl
 
 module _ (text : List ℕ) (p : Printing text) where
-  pub whole : table_of text ≡ behind (output p) (refused_by p.end.number p.end.line)
+  pub whole : table_of text ≡ behind (output p) (no_rows p.end.refused)
   whole =
       let s = standing_behind opened p.blocks in
       let t = heading ++ blocks_text p.blocks in
@@ -64,9 +64,9 @@ module _ (text : List ℕ) (p : Printing text) where
       let front : take p.behind_it p.first_row ≡ heading = p.headed.bytes in
       ap table_of p.read
       ∙ so_far p.blocks p.portions p.left
-      ∙ ap (behind t) (nothing_more s p.left p.stops ∙ e.table ∙ ap (λ (l : List ℕ). behind l (refused_by p.end.number p.end.line)) (sym e.wrote.bytes))
-      ∙ behind_behind t last (refused_by p.end.number p.end.line)
-      ∙ ap (λ (l : List ℕ). behind l (refused_by p.end.number p.end.line))
+      ∙ ap (behind t) (nothing_more s p.left p.stops ∙ e.table ∙ ap (λ (l : List ℕ). behind l (no_rows p.end.refused)) (sym e.wrote.bytes))
+      ∙ behind_behind t last (no_rows p.end.refused)
+      ∙ ap (λ (l : List ℕ). behind l (no_rows p.end.refused))
       (append_assoc heading (blocks_text p.blocks) last ∙ ap (λ (h : List ℕ). h ++ (blocks_text p.blocks ++ last)) (sym front))
 
   -- "rows before it have been written"
@@ -77,4 +77,4 @@ module _ (text : List ℕ) (p : Printing text) where
   -- the refusal with its line, or nothing
   pub all_told : errors p ≡ told text
   unfolding told
-  all_told = p.refused.bytes ∙ sym (ap (λ (t : Table). refusal_text t.number t.line) whole)
+  all_told = p.refused.bytes ∙ sym (ap (λ (t : Table). refusal_text t.refused) whole)

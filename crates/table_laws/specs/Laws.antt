@@ -1,18 +1,18 @@
 -- Definitions for the laws of a table: the blocks and portions of the program, one after the other.
-use Rattle.std.specs.Prelude.{ℕ, ◌+◌, ◌≤◌, Bool, true, false, List, [], ◌∷◌, ◌++◌, ◌≡◌, length, take}
+use Rattle.std.specs.Prelude.{ℕ, ◌+◌, ◌≤◌, Bool, true, false, List, [], ◌∷◌, ◌++◌, ◌≡◌, length, take, Option, Some, None}
 use Rattle.base.specs.Choice.{if◌then◌otherwise◌, ◌<?◌, ◌=?◌}
+use Rattle.base.specs.declared.Refusal.TheVariants.{Listing, Large}
 use Rattle.listing_scan.specs.declared.Row.{Row}
 use Rattle.listing_scan.specs.declared.Line.{Line}
-use Rattle.listing_read.specs.declared.Found.{Found}
-use Rattle.listing_read.specs.declared.Found.TheVariants.{Is, None}
 use Rattle.listing_read.specs.Form.{kinds_of, row_of, form_refusal}
 use Rattle.text_write.specs.Written.{Wrote}
 use Rattle.table_rows.specs.Text.{heading, row_text, has_large}
 use Rattle.table_blocks.specs.declared.Standing.{Standing}
 use Rattle.table_blocks.specs.declared.Standing.TheVariants.{Going, Refused}
+use Rattle.table_blocks.specs.declared.RefusedLine.{RefusedLine}
 use Rattle.table_blocks.specs.declared.Portion.{Portion}
 use Rattle.table_blocks.specs.declared.End.{End}
-use Rattle.table_blocks.specs.Table.{Table, over, refused_by, refusal_text}
+use Rattle.table_blocks.specs.Table.{Table, no_rows, over, refused_by, refusal_text}
 use Rattle.table_blocks.specs.Steps.{Tabled, Ends, opened}
 
 -- a portion: the caller's buffer before it and after it, and the result of the call
@@ -62,7 +62,7 @@ Blocks s (b ∷ bs) = Portions b.bytes 0 s b.parts × Blocks (standing_after s b
 -- reading stops at the end of the text, or after a refused line
 abbrev pub MayStop : Standing → List ℕ → Type 0
 MayStop (Going place scan line) left = left ≡ []
-MayStop (Refused number line) left = Unit {0}
+MayStop (Refused r) left = Unit {0}
 
 -- a whole run of the program on a text, cut into blocks in any way: the heading, the blocks, the bytes that were not read, the end and the refusal
 pub record Printing (text : List ℕ) : Type 0 where
@@ -82,7 +82,7 @@ pub record Printing (text : List ℕ) : Type 0 where
   pub room : List ℕ
   pub refusal : List ℕ
   pub next : ℕ
-  pub refused : Wrote room 0 (refusal_text end.number end.line) refusal next
+  pub refused : Wrote room 0 (refusal_text end.refused) refusal next
 
 -- what goes to standard output: the heading, the portions, the end; and to standard error
 abbrev pub output : {text : List ℕ} → Printing text → List ℕ
@@ -97,9 +97,9 @@ rows_text [] = []
 rows_text (r ∷ rs) = row_text r ++ rows_text rs
 
 -- "a magnitude of 10^12 or more": the line of the first state that has one, from line n on; 0 if none has
-abbrev pub found_large : Found → Bool
+abbrev pub found_large : Option Row → Bool
 found_large None = false
-found_large (Is r) = has_large r
+found_large (Some r) = has_large r
 
 unfoldable pub large_from : ℕ → List Line → ℕ
 large_from n [] = 0
@@ -111,10 +111,15 @@ comes_first g f = if g =? 0 then false otherwise if f =? 0 then true otherwise g
 
 -- "the first such line decides": f is the line that R-1 refuses, g the first with a large magnitude; on one line 13 comes first
 abbrev pub decided : ℕ → ℕ → Table
-decided f g = if comes_first g f then refused_by 17 g otherwise if f =? 0 then over otherwise refused_by 13 f
+decided f g = if comes_first g f then refused_by Large g otherwise if f =? 0 then over otherwise refused_by Listing f
 
 abbrev pub refusal_of : Table → Table
-refusal_of t = refused_by t.number t.line
+refusal_of t = no_rows t.refused
+
+-- the line of a refusal; 0 if there is none
+abbrev pub line_in : Option RefusedLine → ℕ
+line_in None = 0
+line_in (Some r) = r.line
 
 -- the lines from line n on that come before a line; all of them if that is 0
 unfoldable pub lines_before : ℕ → ℕ → List Line → List Line

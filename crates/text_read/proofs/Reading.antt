@@ -9,8 +9,8 @@ use native.Mathlib.Omega.{arith}
 use lib.ListN.{length, drop, get_or, drop_of_length-le}
 use lib.Seq.{drop-cons}
 use borrow.Author.Tests.{lt-ltb, le-ltb, eq-eqb, ne_eqb}
+use Rattle.std.specs.Prelude.{None}
 use Rattle.text_read.specs.Fields.{until_space, digit_value, all_digits, value_after, sized, numeral, read_number}
-use Rattle.text_read.specs.declared.Field.TheVariants.{Bad}
 
 pub at_end_lem : (s : List ℕ) (i : ℕ) → length s ≤ i → until_space (drop i s) ≡ []
 unfolding until_space
@@ -48,11 +48,11 @@ module _ (base least most : ℕ) (f : List ℕ) (at : ℕ) where
   unfolding all_digits value_after
   whole_field n count r h = rw (r.digits, r.value, r.size, lt-ltb n 0x1_0000_0000_0000_0000 h, add-zero)
 
-  pub no_digit : (n count b : ℕ) (rest : List ℕ) → Reads base f (b ∷ rest) n count → base ≤ digit_value b → Bad ≡ numeral base least most f at
+  pub no_digit : (n count b : ℕ) (rest : List ℕ) → Reads base f (b ∷ rest) n count → base ≤ digit_value b → None ≡ numeral base least most f at
   unfolding all_digits
   no_digit n count b rest r h = rw (r.digits, le-ltb (digit_value b) base h)
 
-  pub too_large : (n count b : ℕ) (rest : List ℕ) → 1 ≤ base → Reads base f (b ∷ rest) n count → 0x1_0000_0000_0000_0000 ≤ base * n + digit_value b → Bad ≡ numeral base least most f at
+  pub too_large : (n count b : ℕ) (rest : List ℕ) → 1 ≤ base → Reads base f (b ∷ rest) n count → 0x1_0000_0000_0000_0000 ≤ base * n + digit_value b → None ≡ numeral base least most f at
   unfolding value_after
   too_large n count b rest one r h =
       rw (r.value, le-ltb (value_after base (base * n + digit_value b) rest) 0x1_0000_0000_0000_0000 (le_trans h (grows base one (base * n + digit_value b) rest)), and-false)

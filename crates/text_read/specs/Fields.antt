@@ -1,8 +1,7 @@
 -- How numbers are read: a field of digits, from a place up to a space or the end.
-use Rattle.std.specs.Prelude.{ℕ, ◌+◌, ◌-◌, ◌*◌, Bool, true, ◌&&◌, List, [], ◌∷◌, length, drop}
+use Rattle.std.specs.Prelude.{ℕ, ◌+◌, ◌-◌, ◌*◌, Bool, true, ◌&&◌, List, [], ◌∷◌, length, drop, Option, Some, None}
 use Rattle.base.specs.Choice.{if◌then◌otherwise◌, ◌<?◌, ◌≤?◌, ◌=?◌}
 use Rattle.text_read.specs.declared.Field.{Field}
-use Rattle.text_read.specs.declared.Field.TheVariants.{Value, Bad}
 
 -- the bytes up to a space
 unfoldable pub until_space : List ℕ → List ℕ
@@ -31,22 +30,26 @@ unfoldable pub value_after : ℕ → ℕ → List ℕ → ℕ
 value_after base n [] = n
 value_after base n (b ∷ bs) = value_after base (base * n + digit_value b) bs
 
+-- a value that was read, and the place after it
+abbrev pub field : ℕ → ℕ → Option Field
+field value next = Some (record { value = value; next = next })
+
 -- a field with its count of digits, from least to most, its value and the place after it
-abbrev pub sized : ℕ → ℕ → ℕ → ℕ → ℕ → Field
-sized least most count n next = if (least ≤? count) && (count ≤? most) then Value n next otherwise Bad
+abbrev pub sized : ℕ → ℕ → ℕ → ℕ → ℕ → Option Field
+sized least most count n next = if (least ≤? count) && (count ≤? most) then field n next otherwise None
 
 -- a field f that starts at a place: digits only, of a value that fits 64 bits
-abbrev pub numeral : ℕ → ℕ → ℕ → List ℕ → ℕ → Field
+abbrev pub numeral : ℕ → ℕ → ℕ → List ℕ → ℕ → Option Field
 numeral base least most f at =
-    if all_digits base f && (value_after base 0 f <? 0x1_0000_0000_0000_0000) then sized least most (length f) (value_after base 0 f) (at + length f) otherwise Bad
+    if all_digits base f && (value_after base 0 f <? 0x1_0000_0000_0000_0000) then sized least most (length f) (value_after base 0 f) (at + length f) otherwise None
 
-unfoldable pub read_number : ℕ → ℕ → ℕ → List ℕ → ℕ → Field
+unfoldable pub read_number : ℕ → ℕ → ℕ → List ℕ → ℕ → Option Field
 read_number base least most s at = numeral base least most (until_space (drop at s)) at
 
 -- one to 20 decimal digits
-abbrev pub read_decimal : List ℕ → ℕ → Field
+abbrev pub read_decimal : List ℕ → ℕ → Option Field
 read_decimal s at = read_number 10 1 20 s at
 
 -- exactly 16 hexadecimal digits, of either case
-abbrev pub read_hex16 : List ℕ → ℕ → Field
+abbrev pub read_hex16 : List ℕ → ℕ → Option Field
 read_hex16 s at = read_number 16 16 16 s at

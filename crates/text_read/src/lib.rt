@@ -10,12 +10,13 @@ ghost use Rattle.text_read.specs.Patterns.{bits_of};
 
 // A number that was read, with the place after it.
 #[derive(Clone, Copy)]
-pub enum Field {
-    Value(u64, usize),
-    Bad,
+pub struct Field {
+    pub value: u64,
+    pub next: usize,
 }
 
 // The bits of a float. For a NaN the contract does not say which bits.
+// No `Option`: a NaN is a kind of float, and no value is absent.
 #[derive(Clone, Copy)]
 pub enum Bits {
     Pattern(u64),
@@ -66,19 +67,19 @@ fn digit_value(b: u8) -> u64
     16
 }
 
-fn sized_field(least: usize, most: usize, count: usize, n: u64, next: usize) -> Field
+fn sized_field(least: usize, most: usize, count: usize, n: u64, next: usize) -> Option<Field>
     ensures { result ≡ sized least most count n next }
 {
     if count < least {
-        return Field::Bad;
+        return None;
     }
     if most < count {
-        return Field::Bad;
+        return None;
     }
-    Field::Value(n, next)
+    Some(Field { value: n, next })
 }
 
-fn read_number(bytes: &[u8], at: usize, base: u64, least: usize, most: usize) -> Field
+fn read_number(bytes: &[u8], at: usize, base: u64, least: usize, most: usize) -> Option<Field>
     requires { (1 ≤ base) × (base ≤ 16) }
     ensures { result ≡ read_number base least most bytes.now at }
 {
@@ -91,23 +92,23 @@ fn read_number(bytes: &[u8], at: usize, base: u64, least: usize, most: usize) ->
         }
         let d = digit_value(b);
         if base <= d {
-            return Field::Bad;
+            return None;
         }
         if (u64::MAX - d) / base < n {
-            return Field::Bad;
+            return None;
         }
         n = base * n + d;
     }
     sized_field(least, most, end - at, n, end)
 }
 
-pub fn read_decimal(bytes: &[u8], at: usize) -> Field
+pub fn read_decimal(bytes: &[u8], at: usize) -> Option<Field>
     ensures { result ≡ read_decimal bytes.now at }
 {
     read_number(bytes, at, 10, 1, 20)
 }
 
-pub fn read_hex16(bytes: &[u8], at: usize) -> Field
+pub fn read_hex16(bytes: &[u8], at: usize) -> Option<Field>
     ensures { result ≡ read_hex16 bytes.now at }
 {
     read_number(bytes, at, 16, 16, 16)

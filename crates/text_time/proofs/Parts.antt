@@ -4,7 +4,8 @@ use mathlib.Core.List.{List, [], ◌∷◌, ◌++◌, append_assoc}
 use mathlib.Core.Path.{◌≡◌, sym, subst, ◌∙◌}
 use native.Mathlib.Omega.{arith}
 use lib.ListN.{length, length-append}
-use Rattle.std.specs.Prelude.{Ok, Err}
+use Rattle.std.specs.Prelude.{Result, Ok, Err}
+use Rattle.base.specs.declared.Refusal.{Refusal}
 use Rattle.text_write.specs.Numerals.{digits}
 use Rattle.text_write.specs.Written.{Wrote}
 use Rattle.text_write.proofs.Writing.{both}
@@ -47,16 +48,16 @@ time_length t =
 in_range : (moment : ℕ) → moment < end_of_time → date_answer (moment / day_length) ≡ Ok (date_of (moment / day_length))
 in_range moment h = rw (le-leb (moment / day_length) last_day (omega arith))
 
-same_date : (d e : Calendar) → Ok d ≡ Ok e → e ≡ d
+same_date : (d e : Calendar) → ◌≡◌ {A = Result Calendar Refusal} (Ok d) (Ok e) → e ≡ d
 same_date d e p = cc
 
 pub has_date : (moment : ℕ) (date : Calendar) → moment < end_of_time → Ok date ≡ date_answer (moment / day_length) → date_of (moment / day_length) ≡ date
 has_date moment date h e = same_date date (date_of (moment / day_length)) (e ∙ in_range moment h)
 
-clash : (n : ℕ) (d : Calendar) → Err n ≡ Ok d → ⊥
+clash : (n : Refusal) (d : Calendar) → Err n ≡ Ok d → ⊥
 clash n d p = let z : ◌≡◌ {A = ℕ} 0 1 = cc in absurd (omega arith)
 
-pub no_refusal : (moment n : ℕ) → moment < end_of_time → Err n ≡ date_answer (moment / day_length) → ⊥
+pub no_refusal : (moment : ℕ) (n : Refusal) → moment < end_of_time → Err n ≡ date_answer (moment / day_length) → ⊥
 no_refusal moment n h e = clash n (date_of (moment / day_length)) (e ∙ in_range moment h)
 
 pub stamp_length : (moment : ℕ) → length (stamp_text moment) ≡ 23

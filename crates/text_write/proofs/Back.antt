@@ -1,17 +1,15 @@
 -- What is written can be read back: the digits of a number, with a space or the end after them, are a field of that value. Assumes nothing.
-use Prim.Native.Nat.{ℕ, zero, suc, ◌+◌, ◌-◌, ◌*◌, ◌/◌, ◌%◌, ◌^◌, ◌<◌, ◌≤◌}
+use Prim.Native.Nat.{ℕ, zero, suc, ◌+◌, ◌*◌, ◌/◌, ◌%◌, ◌^◌, ◌<◌, ◌≤◌}
 use mathlib.Core.Bool.{Bool, true, false, ◌&&◌}
 use mathlib.Core.List.{List, [], ◌∷◌, ◌++◌}
 use mathlib.Core.Path.{◌≡◌, refl, ap, ◌∙◌}
 use native.Mathlib.Nat.{pow-succ'}
 use native.Mathlib.Omega.{arith}
-use lib.Dec.{ltb}
-use lib.ListN.{length, drop}
+use lib.ListN.{length}
 use lib.Seq.{drop-append_seam}
 use borrow.Author.Tests.{lt-ltb, le-ltb, le-leb, lt-leb, ltb-true, ne_eqb}
 use Rattle.text_write.specs.Numerals.{glyph, digits, hex16, decimal_of}
-use Rattle.text_read.specs.Fields.{until_space, digit_value, is_digit, all_digits, value_after, read_number, read_decimal, read_hex16}
-use Rattle.text_read.specs.declared.Field.TheVariants.{Value}
+use Rattle.text_read.specs.Fields.{until_space, digit_value, field, is_digit, all_digits, value_after, read_number, read_decimal, read_hex16}
 use Rattle.text_write.proofs.Decimal.{by_size, decimal_short, decimal_long, decimal_some, decimal_fits}
 use Rattle.text_write.proofs.Digits.{length_digits}
 
@@ -88,19 +86,19 @@ through base (b ∷ xs) rest h e z = go (is_digit base b) refl e (through base x
 
 module _ (base least most : ℕ) (before xs rest : List ℕ) (n : ℕ) (s : Spells base xs n) where
   pub read_back : base ≤ 16 → least ≤ length xs → length xs ≤ most → n < 0x1_0000_0000_0000_0000 → until_space rest ≡ []
-      → read_number base least most (before ++ (xs ++ rest)) (length before) ≡ Value n (length before + length xs)
+      → read_number base least most (before ++ (xs ++ rest)) (length before) ≡ field n (length before + length xs)
   unfolding read_number
   read_back h low high fits end =
       rw (drop-append_seam before (xs ++ rest), through base xs rest h s.all end, s.all, s.value, lt-ltb n 0x1_0000_0000_0000_0000 fits)
       (rw (le-leb least (length xs) low, le-leb (length xs) most high))
 
 pub decimal_back : (before rest : List ℕ) (n : ℕ) → n < 0x1_0000_0000_0000_0000 → until_space rest ≡ []
-    → read_decimal (before ++ (decimal_of n ++ rest)) (length before) ≡ Value n (length before + length (decimal_of n))
+    → read_decimal (before ++ (decimal_of n ++ rest)) (length before) ≡ field n (length before + length (decimal_of n))
 decimal_back before rest n fits end =
     read_back 10 1 20 before (decimal_of n) rest n (decimal_spells n n (omega arith)) (omega arith) (decimal_some n) (decimal_fits n fits) fits end
 
 pub hex16_back : (before rest : List ℕ) (bits : ℕ) → bits < 0x1_0000_0000_0000_0000 → until_space rest ≡ []
-    → read_hex16 (before ++ (hex16 bits ++ rest)) (length before) ≡ Value bits (length before + length (hex16 bits))
+    → read_hex16 (before ++ (hex16 bits ++ rest)) (length before) ≡ field bits (length before + length (hex16 bits))
 hex16_back before rest bits fits end =
     let l : length (hex16 bits) ≡ 16 = length_digits 16 16 bits in
     read_back 16 16 16 before (hex16 bits) rest bits (hex_spells 16 bits fits) (omega arith) (omega arith) (omega arith) fits end

@@ -1,7 +1,7 @@
 -- The digits of a number in halves. Assumes nothing.
 use Prim.Native.Nat.{ℕ, zero, suc, ◌+◌, ◌*◌, ◌/◌, ◌%◌, ◌^◌, ◌<◌, ◌≤◌}
 use mathlib.Core.List.{List, ◌++◌, append_assoc, append-nil}
-use mathlib.Core.Path.{◌≡◌, refl, ap}
+use mathlib.Core.Path.{◌≡◌, refl}
 use native.Mathlib.Nat.{add-zero, mul-one, mul_assoc, pow-zero, pow-succ', div-one, div-div-eq-div-mul, mul-le-mul, mod-lt}
 use native.Mathlib.Omega.{arith}
 use lib.Ieee.{Float}

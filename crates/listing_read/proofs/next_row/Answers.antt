@@ -10,8 +10,8 @@ use Rattle.listing_read.proofs.next_row.Goals as goal
 nearer : (n i to : ℕ) → i < n → i + 1 ≤ to → n - to < n - i
 nearer n i to h l = omega arith
 
-pub returns-in-Is : goal.returns-in-Is
-returns-in-Is c = let x = c.args in
+pub returns-in-Some : goal.returns-in-Some
+returns-in-Some c = let x = c.args in
     rw (
       search_skips x.block.now x.at x.scan,
       ← c.to_feed-first.ensures,
@@ -19,7 +19,7 @@ returns-in-Is c = let x = c.args in
       search_on _ _ _ c.loop-i-test.true,
       ← c.row_here-found.ensures,
       ← c.after_byte-behind.ensures,
-      c.in-Is.is,
+      c.in-Some.is,
     )
 
 pub loop-i-smaller : goal.loop-i-smaller

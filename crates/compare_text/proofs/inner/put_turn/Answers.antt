@@ -8,8 +8,8 @@ put_with-requires c = search rules
 pub put_without-requires : goal.put_without-requires
 put_without-requires c = search rules
 
-pub returns-in-Is : goal.returns-in-Is
-returns-in-Is c = rw c.in-Is.is c.put_with.ensures
+pub returns-in-Some : goal.returns-in-Some
+returns-in-Some c = rw c.in-Some.is c.put_with.ensures
 
 pub returns-in-None : goal.returns-in-None
 returns-in-None c = rw c.in-None.is c.put_without.ensures

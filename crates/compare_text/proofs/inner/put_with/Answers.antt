@@ -8,8 +8,8 @@ put_rows-requires c = search rules
 pub put_only-requires : goal.put_only-requires
 put_only-requires c = search rules
 
-pub returns-in-Is : goal.returns-in-Is
-returns-in-Is c = rw c.in-Is.is c.put_rows.ensures
+pub returns-in-Some : goal.returns-in-Some
+returns-in-Some c = rw c.in-Some.is c.put_rows.ensures
 
 pub returns-in-None : goal.returns-in-None
 returns-in-None c = rw c.in-None.is c.put_only.ensures

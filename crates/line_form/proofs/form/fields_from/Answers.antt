@@ -1,5 +1,4 @@
 -- `line_form::form::fields_from` meets its contract: after i turns the first i fields are read. Assumes nothing.
-use Prim.Native.Nat.{◌-◌}
 use mathlib.Core.Path.{◌≡◌, refl, sym, ◌∙◌}
 use native.Mathlib.Omega.{arith}
 use lib.ListN.{length, length-set}
@@ -20,7 +19,7 @@ loop-i-preserved c = let x = c.args in (
   c.loop-i.invariant.1,
   simp length-set c.loop-i.invariant.2,
   read_more x.line.now x.kinds.now x.from c.loop-i.numbers c.loop-i.i c.loop-i.at _ _
-      (omega arith) (omega arith) c.loop-i.invariant.3 (sym c.field_at.ensures ∙ c.in-Value.is),
+      (omega arith) (omega arith) c.loop-i.invariant.3 (sym c.field_at.ensures ∙ c.in-Some.is),
 )
 
 pub returns : goal.returns

@@ -1,5 +1,4 @@
 -- `line_form::form::starts_with` meets its contract: after i turns what is left of both is compared. Assumes nothing.
-use Prim.Native.Nat.{◌-◌}
 use mathlib.Core.Path.{◌≡◌, sym, ◌∙◌}
 use native.Mathlib.Omega.{arith}
 use lib.ListN.{length, drop}

@@ -1,5 +1,4 @@
 -- `line_form::put::put_floats` meets its contract: i numbers take from i to 17·i bytes. Assumes nothing.
-use Prim.Native.Nat.{◌-◌}
 use mathlib.Core.Path.{refl}
 use native.Mathlib.Omega.{arith}
 use Rattle.line_form.specs.Spelled.{real}

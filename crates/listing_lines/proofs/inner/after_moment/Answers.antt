@@ -16,11 +16,11 @@ room n end l h = omega arith
 
 pub returns-then-block-lt103 : goal.returns-then-block-lt103
 unfolding after_moment
-returns-then-block-lt103 c = rw (c.no_line.ensures, le-ltb _ _ (short _ c.args.m.end c.if-block-lt103.true))
+returns-then-block-lt103 c = rw (le-ltb _ _ (short _ c.args.m.end c.if-block-lt103.true))
 
 pub returns-then-block-m : goal.returns-then-block-m
 unfolding after_moment
-returns-then-block-m c = rw (c.no_line-then-block-m.ensures, le-ltb _ _ (behind _ _ c.if-block-lt103.false c.if-block-m.true))
+returns-then-block-m c = rw (le-ltb _ _ (behind _ _ c.if-block-lt103.false c.if-block-m.true))
 
 pub returns-then-block-m-eq10 : goal.returns-then-block-m-eq10
 unfolding after_moment
@@ -30,4 +30,4 @@ returns-then-block-m-eq10 c = let left = c.before in
 pub returns : goal.returns
 unfolding after_moment
 returns c = let left = c.before in
-    rw (c.no_line-2.ensures, lt-ltb _ _ (room _ _ left.if-block-lt103.false left.if-block-m.false), ne_eqb _ 10 c.if-block-m-eq10.false)
+    rw (lt-ltb _ _ (room _ _ left.if-block-lt103.false left.if-block-m.false), ne_eqb _ 10 c.if-block-m-eq10.false)

@@ -9,4 +9,4 @@ returns-then-block-at-eq32 c = rw (c.finite_only.ensures, c.sixteen.ensures, eq-
 
 pub returns : goal.returns
 unfolding component_at
-returns c = rw (c.not_spelled.ensures, ne_eqb _ 32 c.if-block-at-eq32.false)
+returns c = rw (ne_eqb _ 32 c.if-block-at-eq32.false)

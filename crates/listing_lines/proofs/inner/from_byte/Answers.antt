@@ -3,11 +3,8 @@ use borrow.Author.Rules.{rules}
 use borrow.Author.Tests.{le-leb, lt-leb}
 use Rattle.listing_lines.proofs.inner.from_byte.Goals as goal
 
-pub no_line-requires : goal.no_line-requires
-no_line-requires c = search rules
-
 pub returns-then-b-lt48 : goal.returns-then-b-lt48
-returns-then-b-lt48 c = rw (c.no_line.ensures, lt-leb 48 _ c.if-b-lt48.true)
+returns-then-b-lt48 c = rw (lt-leb 48 _ c.if-b-lt48.true)
 
 pub overflow_add-at : goal.overflow_add-at
 overflow_add-at c = search rules
@@ -24,8 +21,5 @@ after_moment-requires c = search rules
 pub returns-then-b-le57 : goal.returns-then-b-le57
 returns-then-b-le57 c = rw (c.after_moment.ensures, c.moment_from.ensures, le-leb 48 _ c.if-b-lt48.false, le-leb _ 57 c.if-b-le57.true)
 
-pub no_line-requires-2 : goal.no_line-requires-2
-no_line-requires-2 c = search rules
-
 pub returns : goal.returns
-returns c = rw (c.no_line-2.ensures, le-leb 48 _ c.if-b-lt48.false, lt-leb _ 57 c.if-b-le57.false)
+returns c = rw (le-leb 48 _ c.if-b-lt48.false, lt-leb _ 57 c.if-b-le57.false)

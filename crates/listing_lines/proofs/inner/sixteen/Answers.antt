@@ -19,8 +19,7 @@ returns-then-d-ge16 c = let loop = c.before in
     let block = start.args.block.now in
     let at = start.args.at in
     let i = loop.loop-b.b-index in
-    c.not_spelled.ensures
-    ∙ sym
+    sym
     (loop.loop-b.invariant
     ∙ spelled_off block (at + i) loop.loop-b.bits _ (c.value_of-d.ensures ∙ within block at i (omega arith)) (16 - i) (omega arith) c.if-d-ge16.true)
 

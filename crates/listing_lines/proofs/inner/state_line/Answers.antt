@@ -9,4 +9,4 @@ returns-then-at-block c = rw (c.from_byte.ensures, lt-ltb _ _ c.if-at-block.true
 
 pub returns : goal.returns
 unfolding state_line_at
-returns c = rw (c.no_line.ensures, le-ltb _ _ c.if-at-block.false)
+returns c = rw (le-ltb _ _ c.if-at-block.false)

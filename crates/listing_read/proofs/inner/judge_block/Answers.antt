@@ -1,5 +1,4 @@
 -- `listing_read::inner::judge_block` meets its contract: at each turn the first i bytes are read. Assumes nothing.
-use Prim.Native.Nat.{◌-◌}
 use native.Mathlib.Omega.{arith}
 use Rattle.listing_read.proofs.Skipping.{goes_line, line_least, line_most}
 use Rattle.listing_read.proofs.inner.judge_block.Goals as goal

@@ -9,4 +9,4 @@ returns-in-Going c = rw c.in-Going.is
     (end_table _ _ _ (fresh_begun _ _ _ (subst Fresh c.in-Going.is c.requires)) ∙ sym c.at_end.ensures.0, c.at_end.ensures.1)
 
 pub returns-in-Refused : goal.returns-in-Refused
-returns-in-Refused c = rw c.in-Refused.is (refused_end _ _, refl)
+returns-in-Refused c = rw c.in-Refused.is (refused_end _, refl)

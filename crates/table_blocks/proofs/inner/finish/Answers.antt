@@ -9,4 +9,4 @@ pub finish_line-requires : goal.finish_line-requires
 finish_line-requires c = record { held = stands_held _ _ _ (subst Stands c.in-Going.is c.requires.stands); in_bounds = omega arith }
 
 pub returns-in-Refused : goal.returns-in-Refused
-returns-in-Refused c = rw c.in-Refused.is (ends_refused _ _ _)
+returns-in-Refused c = rw c.in-Refused.is (ends_refused _ _)

@@ -1,31 +1,12 @@
 -- `table_blocks::inner::put_refusal` meets its contract. Assumes nothing.
-use native.Mathlib.Omega.{arith}
-use borrow.Author.Tests.{eq-eqb, ne_eqb}
-use Rattle.text_write.proofs.Writing.{nothing, both}
-use Rattle.text_write.proofs.Decimal.{decimal_fits}
+use Rattle.text_write.proofs.Writing.{nothing}
 use Rattle.table_blocks.specs.Table.{refusal_text}
 use Rattle.table_blocks.proofs.inner.put_refusal.Goals as goal
 
-pub returns-then-number-eq0 : goal.returns-then-number-eq0
+pub returns-in-Some : goal.returns-in-Some
 unfolding refusal_text
-returns-then-number-eq0 c = rw (eq-eqb _ 0 c.if-number-eq0.true) (nothing _ _)
+returns-in-Some c = rw (c.in-Some.is, ← c.number.ensures) c.put_refused.ensures
 
-pub put_decimal-behind-requires : goal.put_decimal-behind-requires
-put_decimal-behind-requires c = omega (arith, c.put_bytes-first, decimal_fits c.args.number (omega arith))
-
-pub put_bytes-second-requires : goal.put_bytes-second-requires
-put_bytes-second-requires c = omega (arith, c.put_decimal-behind, c.put_bytes-first, decimal_fits c.args.number (omega arith))
-
-pub put_decimal-end-requires : goal.put_decimal-end-requires
-put_decimal-end-requires c = let k = decimal_fits c.args.number (omega arith) in let l = decimal_fits c.args.line (omega arith) in
-    omega (arith, c.requires, c.put_bytes-second, c.put_decimal-behind, c.put_bytes-first)
-
-pub put_bytes-requires : goal.put_bytes-requires
-put_bytes-requires c = let k = decimal_fits c.args.number (omega (arith, c.ranges)) in let l = decimal_fits c.args.line (omega (arith, c.ranges)) in
-    omega (arith, c.requires, c.put_decimal-end, c.put_bytes-second, c.put_decimal-behind, c.put_bytes-first)
-
-pub returns : goal.returns
+pub returns-in-None : goal.returns-in-None
 unfolding refusal_text
-returns c = let two = both c.put_bytes-first.ensures c.put_decimal-behind.ensures in
-    let four = both (both two c.put_bytes-second.ensures) c.put_decimal-end.ensures in
-    rw (ne_eqb _ 0 c.if-number-eq0.false) (both four c.put_bytes.ensures)
+returns-in-None c = rw c.in-None.is (nothing _ _)

@@ -9,4 +9,4 @@ pub go_on-requires : goal.go_on-requires
 go_on-requires c = record { held = stands_held _ _ _ (subst Stands c.in-Going.is c.requires.stands); at_in_bounds = omega arith }
 
 pub returns-in-Refused : goal.returns-in-Refused
-returns-in-Refused c = rw c.in-Refused.is (stays_refused _ _ _ _ _)
+returns-in-Refused c = rw c.in-Refused.is (stays_refused _ _ _ _)
