@@ -11,10 +11,9 @@ ghost use Rattle.book.specs.Position.{finite_place, finite_velocity, body_at};
 ghost use Rattle.book.specs.Reading.{Reads};
 ghost use Rattle.book.specs.Calm.{Ready};
 
-use base::Refusal;
-pub use crate::calm::book_calm;
 use crate::Motion;
-use base::is_finite;
+pub use crate::calm::book_calm;
+use base::{Refusal, is_finite};
 use base_bytes::inner::{u16_at, u32_at, u64_at};
 pub use book_check::inner::{fields_allowed, floats_finite, offset_of, size_of};
 pub use book_search::inner::lookup_guessed;

@@ -9,8 +9,7 @@ ghost use Rattle.std.specs.Prelude.{◌≡◌};
 ghost use Rattle.book_check.specs.Passes.{passes};
 ghost use Rattle.book.specs.Position.{position_answer};
 
-use base::Refusal;
-use base::END_OF_TIME;
+use base::{END_OF_TIME, Refusal};
 use base_bytes::inner::u32_at;
 use book_check::inner::entries_pass;
 pub use book_series::{Place, Velocity};

@@ -4,4 +4,3 @@
 
 pub mod inner;
 mod search;
-

@@ -42,7 +42,14 @@ pub fn stand_at(book: &[u8], i: usize, body: u64, moment: u64) -> Stand
 
 // No entry below low and none from high on serves. The search looks at `first` first.
 // A library's binary search begins in the middle of a slice of values. The entries are bytes, and a guess is nearly right.
-pub fn search(book: &[u8], body: u64, moment: u64, low: usize, high: usize, first: usize) -> Option<usize>
+pub fn search(
+    book: &[u8],
+    body: u64,
+    moment: u64,
+    low: usize,
+    high: usize,
+    first: usize,
+) -> Option<usize>
     requires book_value { passes book.now ≡ true }
     requires narrowed { Narrowed book.now body moment low high first }
     ensures { result ≡ lookup book.now body moment }

@@ -10,8 +10,8 @@ ghost use Rattle.c_run.specs.Lent.{guesses_of};
 ghost use Rattle.c_run.specs.Answers.{of_move, run_memory, of_flight};
 
 use crate::{guesses_of, hand_back_whole};
-pub use c_gravity::{inject, pull};
 use c_answer::hand_out;
+pub use c_gravity::{inject, pull};
 use c_state::{setting_of, state_of, whole_in};
 
 // Input and output are separate arrays: the next call reads what this one wrote. The centre is the one given.

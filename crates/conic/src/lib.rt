@@ -56,7 +56,6 @@ fn conic_of(o: Orbit) -> Conic
 }
 
 #[tactic(auto, unfolding(crate::specs::Conic::orbit_answer))]
-
 fn answer_of(centre: u64, o: Orbit) -> Result<CentredConic, Refusal>
     ensures { result ≡ orbit_answer centre o }
 {

@@ -22,7 +22,6 @@ pub struct EarthFixed {
 }
 
 #[tactic(auto, unfolding(crate::specs::Fixed::turned))]
-
 fn turned_state(table: [[f64; 3]; 3], w: f64, state: State) -> EarthFixed
     ensures { result ≡ turned (record { table = table; w = w }) state }
 {
@@ -58,7 +57,6 @@ fn fixed_is_finite(f: EarthFixed) -> bool
 }
 
 #[tactic(auto, unfolding(crate::specs::Fixed::finite_answer))]
-
 fn fixed_at(rule: u64, dut: u32, state: State, parts: u64) -> Result<EarthFixed, Refusal>
     requires { sidereal_answer rule state.moment dut ≡ Ok parts }
     ensures { result ≡ finite_answer rule dut state }

@@ -20,8 +20,8 @@ ghost use Rattle.gravity.specs.Sight.{
   acceleration_by,
 };
 
-use base::Refusal;
 use crate::{Guesses, LastSeen, Others, OthersSeen, Seen, Sights};
+use base::Refusal;
 use gravity_bodies::inner::{found, found_two};
 use gravity_bodies::{Besides, Found, all_found, beside, blank_sight, centre_place};
 pub use gravity_pull::pulls::difference;

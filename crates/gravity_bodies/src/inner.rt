@@ -47,8 +47,7 @@ pub fn found(
     ensures { result ≡ found_of book.now number m light moment }
 {
     if state::is_looked_up(m, light) {
-        let Some(entry) = book::inner::lookup_guessed(book, number, moment, guess as usize)
-        else {
+        let Some(entry) = book::inner::lookup_guessed(book, number, moment, guess as usize) else {
             return blank_sight(m, Err(Refusal::Cover));
         };
         let place = book::inner::place_at(book, entry, moment);
@@ -96,12 +95,10 @@ pub fn found_two(
 {
     if state::is_looked_up(m, false) {
         if state::is_looked_up(m2, light) {
-            let Some(i) = book::inner::lookup_guessed(book, 2, moment, guess as usize)
-            else {
+            let Some(i) = book::inner::lookup_guessed(book, 2, moment, guess as usize) else {
                 return found_each(book, m, m2, light, moment, guess, guess2, calm);
             };
-            let Some(j) = book::inner::lookup_guessed(book, 3, moment, guess2 as usize)
-            else {
+            let Some(j) = book::inner::lookup_guessed(book, 3, moment, guess2 as usize) else {
                 return found_each(book, m, m2, light, moment, guess, guess2, calm);
             };
             let places = book::inner::two_places_at(book, i, j, moment);

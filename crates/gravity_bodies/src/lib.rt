@@ -64,13 +64,7 @@ pub fn blank_sight(m: f64, checked: Result<(), Refusal>) -> Sight
 }
 
 // The refusal of the first body that is refused.
-#[tactic(
-    auto,
-    unfolding(
-        crate::specs::Looked::all_found,
-        crate::specs::Looked::all_checked
-    )
-)]
+#[tactic(auto, unfolding(crate::specs::Looked::all_found, crate::specs::Looked::all_checked))]
 pub fn all_found(bodies: Found) -> Result<(), Refusal>
     ensures { result ≡ all_found bodies }
 {

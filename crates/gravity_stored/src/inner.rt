@@ -8,9 +8,11 @@ ghost use Rattle.gravity.specs.Sight.{acceleration_by};
 ghost use Rattle.gravity_stored.specs.Injection.{kept_by, kept, stored_check_by, stored_check};
 
 use base::{Refusal, require};
-use gravity::inner::{acceleration_under, rule};
 use gravity::Sights;
-use state::{Injection, Setting, State, Vector, acceleration_of, carrying, position_of, starting_position};
+use gravity::inner::{acceleration_under, rule};
+use state::{
+    Injection, Setting, State, Vector, acceleration_of, carrying, position_of, starting_position,
+};
 
 fn keep(i: Injection, answer: Result<Vector, Refusal>) -> Result<State, Refusal>
     ensures { result ≡ kept_by i answer }
@@ -27,7 +29,6 @@ pub fn kept_under(bodies: Sights, setting: Setting, i: Injection) -> Result<Stat
 }
 
 #[tactic(auto, unfolding(crate::specs::Injection::kept))]
-
 pub fn kept_at(book: &[u8], setting: Setting, i: Injection) -> Result<State, Refusal>
     requires { (passes book.now ≡ true) × (centre_allowed setting i.centre ≡ true) }
     ensures { result ≡ kept book.now setting i }

@@ -8,13 +8,11 @@ pub mod inner;
 ghost use Rattle.std.specs.Prelude.{◌≡◌};
 ghost use Rattle.gravity_stored.specs.Injection.{injection_checks, injection_answer, or_none, launched};
 
-use base::Refusal;
-use base::END_OF_TIME;
+use base::{END_OF_TIME, Refusal};
 use state::{Injection, Setting, State, Vector, carrying};
 use state_checks::common_checks;
 
 #[tactic(auto, unfolding(crate::specs::Injection::injection_checks))]
-
 fn injection_checks(book: &[u8], setting: Setting, i: Injection) -> Result<(), Refusal>
     ensures { result ≡ injection_checks book.now setting i }
 {

@@ -7,8 +7,7 @@ ghost use Rattle.hour.specs.Hour.{sidereal_answer};
 ghost use Rattle.launch.specs.Signed.{signed_of};
 ghost use Rattle.launch.specs.Sphere.{quarter, angles_allowed, parts_of, place_of, velocity_of, injected, sizes_allowed, injection_answer, sphere_answer};
 
-use base::Refusal;
-use base::{CIRCLE, require};
+use base::{CIRCLE, Refusal, require};
 use launch_turns::{horizontal_velocity, place_on, relative_velocity, returned_state};
 use state::{Injection, Vector};
 
@@ -112,7 +111,6 @@ fn fixed_velocity(s: Sphere) -> Vector
 }
 
 #[tactic(auto, unfolding(crate::specs::Sphere::injected))]
-
 fn injected_state(s: Sphere, rule: u64, moment: u64, dut: u32, parts: u64) -> Injection
     requires { (sidereal_answer rule moment dut ≡ Ok parts) × (angles_allowed s ≡ true) }
     ensures { result ≡ injected s rule moment dut }
@@ -125,7 +123,6 @@ fn injected_state(s: Sphere, rule: u64, moment: u64, dut: u32, parts: u64) -> In
 }
 
 #[tactic(auto, unfolding(crate::specs::Sphere::injection_answer))]
-
 fn injection(s: Sphere, rule: u64, moment: u64, dut: u32, parts: u64) -> Result<Injection, Refusal>
     requires { sidereal_answer rule moment dut ≡ Ok parts }
     ensures { result ≡ injection_answer s rule moment dut }
@@ -138,7 +135,6 @@ fn injection(s: Sphere, rule: u64, moment: u64, dut: u32, parts: u64) -> Result<
 }
 
 #[tactic(auto, unfolding(crate::specs::Sphere::sphere_answer))]
-
 pub fn from_sphere(s: Sphere, rule: u64, moment: u64, dut: u32) -> Result<Injection, Refusal>
     ensures { result ≡ sphere_answer s rule moment dut }
 {

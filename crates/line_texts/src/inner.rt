@@ -7,17 +7,14 @@ ghost use Rattle.line_texts.specs.Text.{root_items, sine_items, hour_items, date
 use base::Refusal;
 use book::Motion;
 use calendar::Calendar;
-use conic::CentredConic;
+use conic::{CentredConic, Conic};
 use earth_fixed::EarthFixed;
-use sine::SineCosine;
-use state::Injection;
-use state::Vector;
-use conic::Conic;
 use gravity::Guesses;
 use line_form::put::{Out, end_line, put_floats, put_numbers, put_refused};
 use line_types::Answer;
 use run::{Outcome, RunAnswer};
-use state::State;
+use sine::SineCosine;
+use state::{Injection, State, Vector};
 use text_write::inner::put_bytes;
 
 fn put_root(out: &mut Out, at: usize, answer: Result<f64, Refusal>) -> usize

@@ -7,11 +7,9 @@ use book::Motion;
 use calendar::Calendar;
 use conic::CentredConic;
 use earth_fixed::EarthFixed;
-use sine::SineCosine;
-use state::Injection;
-use state::State;
-use state::Vector;
 use run::RunAnswer;
+use sine::SineCosine;
+use state::{Injection, State, Vector};
 
 #[derive(Clone, Copy)]
 pub enum Answer {

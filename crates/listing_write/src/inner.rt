@@ -7,8 +7,8 @@ ghost use Rattle.listing_write.specs.Course.{OnCourse, Advanced, start_of, porti
 use crate::lines::{LONGEST_LINE, put_state};
 use crate::{Course, Portion};
 use gravity::Guesses;
-use run::inner::step_under;
 use run::Outcome;
+use run::inner::step_under;
 use state::{Setting, State};
 
 // The start of a run with steps of h.

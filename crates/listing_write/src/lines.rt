@@ -85,7 +85,6 @@ pub fn put_outcome(out: &mut [u8], at: usize, outcome: Outcome, steps: u64) -> u
 }
 
 #[tactic(auto, unfolding(crate::specs::Lines::lone_refusal))]
-
 pub fn put_lone_refusal(out: &mut [u8], at: usize, refusal: Refusal) -> usize
     requires { at + 123 ≤ length out.old }
     ensures { Wrote out.old at (lone_refusal (number_of refusal)) out.new result }

@@ -104,8 +104,11 @@ fn mend(input: &[u8], output: &mut [u8], fates: &mut [u16]) -> Report
 }
 
 #[tactic(auto, unfolding(crate::specs::Repaired::repair_answer, crate::specs::Repaired::output_after, crate::specs::Repaired::fates_after))]
-
-pub fn repair(input: &[u8], output: &mut [u8], fates: &mut [u16; MOST_ENTRIES]) -> Result<Report, Refusal>
+pub fn repair(
+    input: &[u8],
+    output: &mut [u8],
+    fates: &mut [u16; MOST_ENTRIES],
+) -> Result<Report, Refusal>
     ensures { outcome_of result output.new fates.new ≡ repair_outcome input.now output.old fates.old }
 {
     checks(input.len(), output.len())?;

@@ -7,8 +7,7 @@ pub mod inner;
 ghost use Rattle.std.specs.Prelude.{◌≡◌};
 ghost use Rattle.sine.specs.Sine.{sine_cosine_answer};
 
-use base::Refusal;
-use base::CIRCLE;
+use base::{CIRCLE, Refusal};
 
 #[derive(Clone, Copy)]
 pub struct SineCosine {

@@ -66,7 +66,14 @@ fn third_stage(
 
 // The acceleration of the first stage is the stored one. The two middle stages are at the same moment, so its bodies
 // are looked up once.
-fn second_stage(book: &[u8], setting: Setting, s: State, h: u32, g: Guesses, calm: bool) -> Result<Stepped, Refusal>
+fn second_stage(
+    book: &[u8],
+    setting: Setting,
+    s: State,
+    h: u32,
+    g: Guesses,
+    calm: bool,
+) -> Result<Stepped, Refusal>
     requires { (Ready book.now calm) × (MayStep setting s) }
     ensures { result ≡ kept (entries_after book.now setting h s) (stage2 (acceleration_at book.now setting s.centre)
         (keeping (acceleration_at book.now setting s.centre)) h s (acceleration s)) }

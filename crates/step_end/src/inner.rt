@@ -7,8 +7,8 @@ ghost use Rattle.state.specs.State.{acceleration};
 ghost use Rattle.step_end.specs.Arrival.{arrive, lastly};
 ghost use Rattle.step_end.specs.Kept.{kept, keeping_under};
 
-use base::Refusal;
 use crate::Stepped;
+use base::Refusal;
 use gravity::{Guesses, Sights};
 use gravity_stored::inner::kept_under;
 use state::{Injection, Setting, State, Vector};
