@@ -59,25 +59,20 @@ pub fn walk_on(
     let calm = book::inner::book_calm(book);
     let mut now = start;
     let mut guesses = given;
-    let mut n: u32 = 0;
-    while n < budget {
+    for n in 0..budget {
         if now.moment == target {
             return handed_back(Outcome::Arrived, n, now, guesses);
         }
-        let stepped = step_under(book, setting, now, h, guesses, calm);
-        match stepped {
+        match step_under(book, setting, now, h, guesses, calm) {
             Ok(next) => {
                 now = next.state;
                 guesses = guesses_from(setting, next.entries, given);
-                n += 1;
             }
-            Err(refusal) => {
-                return handed_back(Outcome::Refused(refusal), n, now, guesses);
-            }
+            Err(refusal) => return handed_back(Outcome::Refused(refusal), n, now, guesses),
         }
     }
     if now.moment == target {
-        return handed_back(Outcome::Arrived, n, now, guesses);
+        return handed_back(Outcome::Arrived, budget, now, guesses);
     }
-    handed_back(Outcome::Going, n, now, guesses)
+    handed_back(Outcome::Going, budget, now, guesses)
 }
