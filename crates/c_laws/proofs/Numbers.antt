@@ -8,7 +8,7 @@ use lib.Ieee.{Float}
 use Rattle.std.specs.Prelude.{Result, Ok, Err}
 use Rattle.base.specs.Refusals.{number_of}
 use Rattle.base.specs.declared.Refusal.{Refusal}
-use Rattle.base.specs.declared.Refusal.TheVariants.{Book, Step, Moment, Setting, Target, Cover, NotFinite, Date, Parabola, StraightLine, Root, Angle, Listing, Centre, Stored, Short, Large, NotNext}
+use Rattle.base.specs.declared.Refusal.TheVariants.{Book, Step, Moment, Setting as NoSetting, Target, Cover, NotFinite, Date, Parabola, StraightLine, Root, Angle, Listing, Centre, Stored, Short, Large, NotNext}
 use Rattle.state.specs.declared.State.{State}
 use Rattle.state.specs.declared.Injection.{Injection}
 use Rattle.state.specs.declared.Setting.{Setting}
@@ -38,7 +38,7 @@ pub number_told : (k : Refusal) → tabled (number_of k) ≡ true
 number_told Book = refl
 number_told Step = refl
 number_told Moment = refl
-number_told Setting = refl
+number_told NoSetting = refl
 number_told Target = refl
 number_told Cover = refl
 number_told NotFinite = refl
