@@ -31,7 +31,7 @@ numbers_in_answers_once =
 
 pub pane_of_answers_once : OneAnswer pane_of.ended (λ M 𝓤 𝓛. pane_of.clauses 𝓛)
 pane_of_answers_once =
-    one_answer (λ κs inputs. pane_of inputs.0 inputs.1.0) (λ M 𝓤 𝓛 mem run κs inputs g r after. refl)
+    one_answer (λ κs inputs. pane_of inputs.0.now inputs.1.0.now) (λ M 𝓤 𝓛 mem run κs inputs g r after. refl)
 
 pub places_in_answers_once : OneAnswer places_in.ended (λ M 𝓤 𝓛. places_in.clauses 𝓛)
 places_in_answers_once =

@@ -2,11 +2,10 @@
 use Rattle.std.specs.Prelude.{ℕ, List, [], ◌∷◌, Float}
 use Rattle.std.specs.Float.{nan}
 use Rattle.base.specs.Refusals.{number_of}
+use Rattle.state.specs.declared.Vector.{Vector}
 use Rattle.pane_live.specs.declared.FrameAnswer.{FrameAnswer}
 use Rattle.pane_live.specs.declared.FrameAnswer.TheVariants as frame
 use Rattle.pane_motion.specs.declared.Motion.{Motion}
-use Rattle.pane_motion.specs.declared.FrameMotion.{FrameMotion}
-use Rattle.pane_motion.specs.declared.FrameMotion.TheVariants as motion
 use Rattle.c_run.specs.Lent.{vector_in}
 
 -- ---- a frame
@@ -30,12 +29,30 @@ framed returned position late = record { returned = returned; position = positio
 abbrev pub nothing : List Float
 nothing = nan ∷ nan ∷ nan ∷ []
 
--- both places are always written: 0 and the position, 102 and how late, 103, or the refusal number
-abbrev pub of_frame : FrameAnswer → FrameMemory
-of_frame (frame.Current p) = framed 0 (vector_in p) 0
-of_frame (frame.Late ms) = framed late nothing ms
-of_frame frame.Empty = framed empty nothing 0
-of_frame (frame.Refused k) = framed (number_of k) nothing 0
+-- the number returned, at every type of what is shown: 0, 102 for late, 103 for empty, or the refusal number
+abbrev pub frame_number : {A : Type 0} → FrameAnswer A → ℕ
+frame_number (frame.Current x) = 0
+frame_number (frame.Late ms) = late
+frame_number frame.Empty = empty
+frame_number (frame.Refused k) = number_of k
+
+-- how late, in milliseconds
+abbrev pub frame_late : {A : Type 0} → FrameAnswer A → ℕ
+frame_late (frame.Current x) = 0
+frame_late (frame.Late ms) = ms
+frame_late frame.Empty = 0
+frame_late (frame.Refused k) = 0
+
+-- the coordinates of what is shown, and if the frame is not current, NaNs
+abbrev pub current_or : {A : Type 0} → (A → List Float) → List Float → FrameAnswer A → List Float
+current_or written none (frame.Current x) = written x
+current_or written none (frame.Late ms) = none
+current_or written none frame.Empty = none
+current_or written none (frame.Refused k) = none
+
+-- both places are always written
+abbrev pub of_frame : FrameAnswer Vector → FrameMemory
+of_frame shown = framed (frame_number shown) (current_or vector_in nothing shown) (frame_late shown)
 
 -- ---- a frame with velocity
 
@@ -57,8 +74,5 @@ abbrev pub no_motion : List Float
 no_motion = nan ∷ nan ∷ nan ∷ nan ∷ nan ∷ nan ∷ []
 
 -- the same numbers as a frame returns, and both places are always written
-abbrev pub of_motion : FrameMotion → MotionMemory
-of_motion (motion.Current m) = in_motion 0 (six_in m) 0
-of_motion (motion.Late ms) = in_motion late no_motion ms
-of_motion motion.Empty = in_motion empty no_motion 0
-of_motion (motion.Refused k) = in_motion (number_of k) no_motion 0
+abbrev pub of_motion : FrameAnswer Motion → MotionMemory
+of_motion shown = in_motion (frame_number shown) (current_or six_in no_motion shown) (frame_late shown)

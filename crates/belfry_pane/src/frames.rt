@@ -2,15 +2,18 @@
 
 ghost use Rattle.std.specs.Float.{nan};
 ghost use Rattle.std.specs.Prelude.{◌≡◌};
-ghost use Rattle.belfry_pane.specs.Answers.{of_frame};
+ghost use Rattle.c_run.specs.Lent.{vector_in};
+ghost use Rattle.belfry_pane.specs.Answers.{nothing, frame_number, frame_late, current_or, six_in, no_motion};
 
 use pane_live::FrameAnswer;
+use pane_motion::Motion;
+use state::Vector;
 
-pub const LATE: u64 = 102;
+const LATE: u64 = 102;
 
-pub const EMPTY: u64 = 103;
+const EMPTY: u64 = 103;
 
-pub fn no_number() -> f64
+fn no_number() -> f64
     ensures { result ≡ nan }
 {
     // infinity less infinity is a NaN
@@ -19,34 +22,49 @@ pub fn no_number() -> f64
 }
 
 // If a frame is not current, no older figure remains in the place of the position.
-pub fn position_in(shown: FrameAnswer) -> [f64; 3]
-    ensures { result ≡ (of_frame shown).position }
+pub fn position_in(shown: FrameAnswer<Vector>) -> [f64; 3]
+    ensures { result ≡ current_or vector_in nothing shown }
 {
     match shown {
         FrameAnswer::Current(p) => [p.x, p.y, p.z],
-        FrameAnswer::Late(ms) => [no_number(); 3],
-        FrameAnswer::Empty => [no_number(); 3],
-        FrameAnswer::Refused(k) => [no_number(); 3],
+        _ => [no_number(); 3],
     }
 }
 
-pub fn late_in(shown: FrameAnswer) -> u64
-    ensures { result ≡ (of_frame shown).late }
+// The same for position and velocity.
+pub fn motion_in(shown: FrameAnswer<Motion>) -> [f64; 6]
+    ensures { result ≡ current_or six_in no_motion shown }
 {
     match shown {
-        FrameAnswer::Current(p) => 0,
+        FrameAnswer::Current(m) => {
+            [
+                m.position.x,
+                m.position.y,
+                m.position.z,
+                m.velocity.x,
+                m.velocity.y,
+                m.velocity.z,
+            ]
+        }
+        _ => [no_number(); 6],
+    }
+}
+
+pub fn late_in<T: Copy>(shown: FrameAnswer<T>) -> u64
+    ensures { result ≡ frame_late shown }
+{
+    match shown {
         FrameAnswer::Late(ms) => ms,
-        FrameAnswer::Empty => 0,
-        FrameAnswer::Refused(k) => 0,
+        _ => 0,
     }
 }
 
-pub fn returned_by(shown: FrameAnswer) -> u64
-    ensures { result ≡ (of_frame shown).returned }
+pub fn returned_by<T: Copy>(shown: FrameAnswer<T>) -> u64
+    ensures { result ≡ frame_number shown }
 {
     match shown {
-        FrameAnswer::Current(p) => 0,
-        FrameAnswer::Late(ms) => LATE,
+        FrameAnswer::Current(_) => 0,
+        FrameAnswer::Late(_) => LATE,
         FrameAnswer::Empty => EMPTY,
         FrameAnswer::Refused(refusal) => refusal.number(),
     }

@@ -5,7 +5,6 @@
 #![tactic(auto)]
 
 mod frames;
-mod moving;
 
 ghost use Rattle.std.specs.Prelude.{◌≡◌};
 ghost use Rattle.c_answer.specs.Handed.{handed};
@@ -40,7 +39,7 @@ pub extern "C" fn belfry_take(
     ensures { handed result (kept_in pane.new places.new) ≡ left (kept_in pane.old places.old)
         (take (pane_of pane.old places.old) (state_of moment centre coordinates.now)) }
 {
-    let before = pane_of(*pane, *places);
+    let before = pane_of(pane, places);
     let state = c_run::state_of(moment, centre, *coordinates);
     keep(pane_live::take(before, state), pane, places)
 }
@@ -59,7 +58,7 @@ pub extern "C" fn belfry_feed(
     ensures { handed result (kept_in pane.new places.new) ≡ left (kept_in pane.old places.old)
         (fed_with (pane_of pane.old places.old) answer (state_of moment centre coordinates.now)) }
 {
-    let before = pane_of(*pane, *places);
+    let before = pane_of(pane, places);
     let state = c_run::state_of(moment, centre, *coordinates);
     keep(c_pane::feed(before, answer, state), pane, places)
 }
@@ -95,8 +94,8 @@ pub extern "C" fn belfry_frame_motion(
     ensures { in_motion result motion.new late.new ≡ of_motion
         (motion_at (pane_of pane.now places.now) moment) }
 {
-    let shown = pane_motion::frame_motion(pane_of(*pane, *places), moment);
-    *motion = moving::motion_in(shown);
-    *late = moving::late_in(shown);
-    moving::returned_by(shown)
+    let shown = pane_motion::frame_motion(pane_of(pane, places), moment);
+    *motion = frames::motion_in(shown);
+    *late = frames::late_in(shown);
+    frames::returned_by(shown)
 }

@@ -42,8 +42,6 @@ use Rattle.pane_laws.specs.Night.{Night}
 use Rattle.pane_laws.proofs.Shown.{on_air, off_air, on_air_moving, off_air_moving}
 use Rattle.pane_motion.specs.Motion.{motion_at}
 use Rattle.pane_motion.specs.declared.Motion.{Motion}
-use Rattle.pane_motion.specs.declared.FrameMotion.{FrameMotion}
-use Rattle.pane_motion.specs.declared.FrameMotion.TheVariants as motion
 use Rattle.pane_motion.proofs.Same.{same_frame}
 use Rattle.belfry_book.proofs.Told.{returned_0}
 use Rattle.c_answer.specs.Handed.{handed, answered}
@@ -84,7 +82,7 @@ by_seven (Two a b) t k e = go (b.moment <? t) (t <? a.moment) (finite_vector (fi
     go false false true e = let z : ◌≡◌ {A = ℕ} 0 1 = cc in absurd (omega arith)
     go false false false e = cc
 
-moving_by_seven : (pane : Pane) (t : ℕ) (k : Refusal) → motion_at pane t ≡ motion.Refused k → k ≡ Refusal.NotFinite
+moving_by_seven : (pane : Pane) (t : ℕ) (k : Refusal) → motion_at pane t ≡ frame.Refused k → k ≡ Refusal.NotFinite
 moving_by_seven pane t k e = ⊎_elim (by_seven pane t k) (λ alone. alone.0) (((same_frame pane t).refused k).0 e)
 
 in_hand : (s : Held) (hand : List Held) → HeldIn s hand → InHand (state_in s) (map state_in hand)
@@ -182,23 +180,23 @@ module _ (m extras : List Float) (dut rule : ℕ) where
       pub on_air_in_memory : (frame_in kept t).returned ≡ 0 → OnAirIn m extras dut rule b h injection made t (frame_in kept t)
       on_air_in_memory zero = go (frame_at (pane_of kept.numbers kept.places) t) refl zero
         where
-          go : (answer : FrameAnswer) → frame_at (pane_of kept.numbers kept.places) t ≡ answer → (of_frame (frame_at (pane_of kept.numbers kept.places) t)).returned ≡ 0
+          go : (answer : FrameAnswer Vector) → frame_at (pane_of kept.numbers kept.places) t ≡ answer → (of_frame (frame_at (pane_of kept.numbers kept.places) t)).returned ≡ 0
               → OnAirIn m extras dut rule b h injection made t (frame_in kept t)
           go (frame.Current p) e none =
               record {
                 p = p;
-                written = ap (λ (a : FrameAnswer). (of_frame a).position) e;
+                written = ap (λ (a : FrameAnswer Vector). (of_frame a).position) e;
                 shown =
                     on_air setting h (state_in injection) b made (map state_in hand) (pane_of kept.numbers kept.places) (as_desk b made hand kept d) t p e;
               }
           go (frame.Late ms) e none =
-              let clash : ◌≡◌ {A = ℕ} 102 0 = sym (ap (λ (a : FrameAnswer). (of_frame a).returned) e) ∙ none in
+              let clash : ◌≡◌ {A = ℕ} 102 0 = sym (ap (λ (a : FrameAnswer Vector). (of_frame a).returned) e) ∙ none in
               absurd (omega arith)
           go frame.Empty e none =
-              let clash : ◌≡◌ {A = ℕ} 103 0 = sym (ap (λ (a : FrameAnswer). (of_frame a).returned) e) ∙ none in
+              let clash : ◌≡◌ {A = ℕ} 103 0 = sym (ap (λ (a : FrameAnswer Vector). (of_frame a).returned) e) ∙ none in
               absurd (omega arith)
           go (frame.Refused k) e none =
-              let number : number_of k ≡ 0 = sym (ap (λ (a : FrameAnswer). (of_frame a).returned) e) ∙ none in
+              let number : number_of k ≡ 0 = sym (ap (λ (a : FrameAnswer Vector). (of_frame a).returned) e) ∙ none in
               let seven : number_of k ≡ 7 = ap number_of (by_seven (pane_of kept.numbers kept.places) t k e) in
               absurd (omega arith)
 
@@ -210,7 +208,7 @@ module _ (m extras : List Float) (dut rule : ℕ) where
           go (frame_at (pane_of kept.numbers kept.places) t)
           (off_air setting h (state_in injection) b made (map state_in hand) (pane_of kept.numbers kept.places) (as_desk b made hand kept d) start last n k t moved walked off past)
         where
-          go : (answer : FrameAnswer) → OffAir b setting h start last t answer → OffAirIn m extras dut rule b h start last t (of_frame answer)
+          go : (answer : FrameAnswer Vector) → OffAir b setting h start last t answer → OffAirIn m extras dut rule b h start last t (of_frame answer)
           go answer air.empty = empty_in
           go answer (air.late n s walked within gone) = late_in n s walked within gone
 
@@ -218,23 +216,23 @@ module _ (m extras : List Float) (dut rule : ℕ) where
       pub on_air_moving_in_memory : (motion_in kept t).returned ≡ 0 → OnAirMovingIn m extras dut rule b h injection made t (motion_in kept t)
       on_air_moving_in_memory zero = go (motion_at (pane_of kept.numbers kept.places) t) refl zero
         where
-          go : (answer : FrameMotion) → motion_at (pane_of kept.numbers kept.places) t ≡ answer → (of_motion (motion_at (pane_of kept.numbers kept.places) t)).returned ≡ 0
+          go : (answer : FrameAnswer Motion) → motion_at (pane_of kept.numbers kept.places) t ≡ answer → (of_motion (motion_at (pane_of kept.numbers kept.places) t)).returned ≡ 0
               → OnAirMovingIn m extras dut rule b h injection made t (motion_in kept t)
-          go (motion.Current x) e none =
+          go (frame.Current x) e none =
               record {
                 motion = x;
-                written = ap (λ (a : FrameMotion). (of_motion a).motion) e;
+                written = ap (λ (a : FrameAnswer Motion). (of_motion a).motion) e;
                 shown =
                     on_air_moving setting h (state_in injection) b made (map state_in hand) (pane_of kept.numbers kept.places) (as_desk b made hand kept d) t x e;
               }
-          go (motion.Late ms) e none =
-              let clash : ◌≡◌ {A = ℕ} 102 0 = sym (ap (λ (a : FrameMotion). (of_motion a).returned) e) ∙ none in
+          go (frame.Late ms) e none =
+              let clash : ◌≡◌ {A = ℕ} 102 0 = sym (ap (λ (a : FrameAnswer Motion). (of_motion a).returned) e) ∙ none in
               absurd (omega arith)
-          go motion.Empty e none =
-              let clash : ◌≡◌ {A = ℕ} 103 0 = sym (ap (λ (a : FrameMotion). (of_motion a).returned) e) ∙ none in
+          go frame.Empty e none =
+              let clash : ◌≡◌ {A = ℕ} 103 0 = sym (ap (λ (a : FrameAnswer Motion). (of_motion a).returned) e) ∙ none in
               absurd (omega arith)
-          go (motion.Refused k) e none =
-              let number : number_of k ≡ 0 = sym (ap (λ (a : FrameMotion). (of_motion a).returned) e) ∙ none in
+          go (frame.Refused k) e none =
+              let number : number_of k ≡ 0 = sym (ap (λ (a : FrameAnswer Motion). (of_motion a).returned) e) ∙ none in
               let seven : number_of k ≡ 7 = ap number_of (moving_by_seven (pane_of kept.numbers kept.places) t k e) in
               absurd (omega arith)
 
@@ -245,7 +243,7 @@ module _ (m extras : List Float) (dut rule : ℕ) where
           go (motion_at (pane_of kept.numbers kept.places) t)
           (off_air_moving setting h (state_in injection) b made (map state_in hand) (pane_of kept.numbers kept.places) (as_desk b made hand kept d) start last n k t moved walked off past)
         where
-          go : (answer : FrameMotion) → OffAirMoving b setting h start last t answer → OffAirMovingIn m extras dut rule b h start last t (of_motion answer)
+          go : (answer : FrameAnswer Motion) → OffAirMoving b setting h start last t answer → OffAirMovingIn m extras dut rule b h start last t (of_motion answer)
           go answer air.empty_moving = empty_moving_in
           go answer (air.late_moving n s walked within gone) = late_moving_in n s walked within gone
 

@@ -8,7 +8,6 @@ use lib.Ieee.{Float}
 use Rattle.std.specs.Prelude.{Result, Ok, Err}
 use Rattle.base.specs.Refusals.{number_of}
 use Rattle.base.specs.declared.Refusal.{Refusal}
-use Rattle.base.specs.declared.Refusal.TheVariants.{Book, Step, Moment, Setting as NoSetting, Target, Cover, NotFinite, Date, Parabola, StraightLine, Root, Angle, Listing, Centre, Stored, Short, Large, NotNext}
 use Rattle.state.specs.declared.State.{State}
 use Rattle.state.specs.declared.Injection.{Injection}
 use Rattle.state.specs.declared.Setting.{Setting}
@@ -35,24 +34,24 @@ use Rattle.c_conic.specs.Figures.{of_conic}
 use Rattle.c_laws.specs.Table.{tabled, in_table, outcome_told}
 
 pub number_told : (k : Refusal) → tabled (number_of k) ≡ true
-number_told Book = refl
-number_told Step = refl
-number_told Moment = refl
-number_told NoSetting = refl
-number_told Target = refl
-number_told Cover = refl
-number_told NotFinite = refl
-number_told Date = refl
-number_told Parabola = refl
-number_told StraightLine = refl
-number_told Root = refl
-number_told Angle = refl
-number_told Listing = refl
-number_told Centre = refl
-number_told Stored = refl
-number_told Short = refl
-number_told Large = refl
-number_told NotNext = refl
+number_told Refusal.Book = refl
+number_told Refusal.Step = refl
+number_told Refusal.Moment = refl
+number_told Refusal.Setting = refl
+number_told Refusal.Target = refl
+number_told Refusal.Cover = refl
+number_told Refusal.NotFinite = refl
+number_told Refusal.Date = refl
+number_told Refusal.Parabola = refl
+number_told Refusal.StraightLine = refl
+number_told Refusal.Root = refl
+number_told Refusal.Angle = refl
+number_told Refusal.Listing = refl
+number_told Refusal.Centre = refl
+number_told Refusal.Stored = refl
+number_told Refusal.Short = refl
+number_told Refusal.Large = refl
+number_told Refusal.NotNext = refl
 
 pub told : {A : Type 0} (answer : Result A Refusal) → in_table answer ≡ true
 told (Ok value) = refl

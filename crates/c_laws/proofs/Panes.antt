@@ -23,6 +23,7 @@ use Rattle.pane_live.specs.declared.Pane.{Pane}
 use Rattle.pane_live.specs.declared.Pane.TheVariants.{Blank, One, Two}
 use Rattle.pane_live.specs.declared.TakeAnswer.{TakeAnswer}
 use Rattle.pane_live.specs.declared.TakeAnswer.TheVariants as taken
+use Rattle.state.specs.declared.Vector.{Vector}
 use Rattle.pane_live.specs.declared.FrameAnswer.{FrameAnswer}
 use Rattle.c_run.specs.Lent.{setting_of, state_of, guesses_of, whole_in}
 use Rattle.c_run.specs.Answers.{outcome_number}
@@ -136,7 +137,7 @@ module _ (before : Kept) where
   unfolding feed
   feed_told pane r = by_outcome r.outcome pane r.state
 
-abbrev framing : FrameAnswer → Bool
+abbrev framing : FrameAnswer Vector → Bool
 framing answer = frame_told (of_frame answer).returned
 
 pub frame_told_lem : (pane : Pane) (t : ℕ) → frame_told (of_frame (frame_at pane t)).returned ≡ true

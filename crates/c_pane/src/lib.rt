@@ -12,50 +12,50 @@ use base::Refusal;
 use gravity::Guesses;
 use pane_live::{FrameAnswer, Pane, TakeAnswer};
 use run::{Outcome, RunAnswer};
-use state::State;
+use state::{State, Vector};
 
 const GOING: u64 = 100;
 
 const UNCHANGED: u64 = 101;
 
-fn older_of(n: [u64; 5], c: [f64; 18]) -> State
-    ensures { result ≡ older_of n c }
+fn older_of(numbers: &[u64; 5], places: &[f64; 18]) -> State
+    ensures { result ≡ older_of numbers.now places.now }
 {
     State {
-        moment: n[1],
-        centre: n[2],
-        x: c[0],
-        y: c[1],
-        z: c[2],
-        vx: c[3],
-        vy: c[4],
-        vz: c[5],
-        ax: c[6],
-        ay: c[7],
-        az: c[8],
+        moment: numbers[1],
+        centre: numbers[2],
+        x: places[0],
+        y: places[1],
+        z: places[2],
+        vx: places[3],
+        vy: places[4],
+        vz: places[5],
+        ax: places[6],
+        ay: places[7],
+        az: places[8],
     }
 }
 
-fn newer_of(n: [u64; 5], c: [f64; 18]) -> State
-    ensures { result ≡ newer_of n c }
+fn newer_of(numbers: &[u64; 5], places: &[f64; 18]) -> State
+    ensures { result ≡ newer_of numbers.now places.now }
 {
     State {
-        moment: n[3],
-        centre: n[4],
-        x: c[9],
-        y: c[10],
-        z: c[11],
-        vx: c[12],
-        vy: c[13],
-        vz: c[14],
-        ax: c[15],
-        ay: c[16],
-        az: c[17],
+        moment: numbers[3],
+        centre: numbers[4],
+        x: places[9],
+        y: places[10],
+        z: places[11],
+        vx: places[12],
+        vy: places[13],
+        vz: places[14],
+        ax: places[15],
+        ay: places[16],
+        az: places[17],
     }
 }
 
-pub fn pane_of(n: [u64; 5], c: [f64; 18]) -> Pane
-    ensures { result ≡ pane_of n c }
+pub fn pane_of(n: &[u64; 5], c: &[f64; 18]) -> Pane
+    ensures { result ≡ pane_of n.now c.now }
 {
     let held = n[0];
     if held == 2 {
@@ -151,44 +151,8 @@ pub fn feed(pane: Pane, returned: u64, state: State) -> TakeAnswer
     }
 }
 
-fn older_in(numbers: &[u64; 5], places: &[f64; 18]) -> State
-    ensures { result ≡ older_of numbers.now places.now }
-{
-    State {
-        moment: numbers[1],
-        centre: numbers[2],
-        x: places[0],
-        y: places[1],
-        z: places[2],
-        vx: places[3],
-        vy: places[4],
-        vz: places[5],
-        ax: places[6],
-        ay: places[7],
-        az: places[8],
-    }
-}
-
-fn newer_in(numbers: &[u64; 5], places: &[f64; 18]) -> State
-    ensures { result ≡ newer_of numbers.now places.now }
-{
-    State {
-        moment: numbers[3],
-        centre: numbers[4],
-        x: places[9],
-        y: places[10],
-        z: places[11],
-        vx: places[12],
-        vy: places[13],
-        vz: places[14],
-        ax: places[15],
-        ay: places[16],
-        az: places[17],
-    }
-}
-
 // What a pane in memory shows at a moment. The memory is read in place: copying it takes longer than a late frame.
-pub fn shown_at(n: &[u64; 5], c: &[f64; 18], moment: u64) -> FrameAnswer
+pub fn shown_at(n: &[u64; 5], c: &[f64; 18], moment: u64) -> FrameAnswer<Vector>
     ensures { result ≡ frame_at (pane_of n.now c.now) moment }
 {
     if n[0] == 2 {
@@ -196,7 +160,7 @@ pub fn shown_at(n: &[u64; 5], c: &[f64; 18], moment: u64) -> FrameAnswer
         if newest < moment {
             return FrameAnswer::Late(moment - newest);
         }
-        return pane_live::frame(Pane::Two(older_in(n, c), newer_in(n, c)), moment);
+        return pane_live::frame(Pane::Two(older_of(n, c), newer_of(n, c)), moment);
     }
     FrameAnswer::Empty
 }

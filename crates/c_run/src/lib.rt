@@ -7,7 +7,7 @@ pub mod calls;
 
 ghost use Rattle.std.specs.Prelude.{◌≡◌};
 ghost use Rattle.c_run.specs.Lent.{guesses_of};
-ghost use Rattle.c_run.specs.Answers.{outcome_number, run_memory, of_run, of_flight};
+ghost use Rattle.c_run.specs.Answers.{outcome_number, run_memory, of_run_in, of_run, of_flight};
 
 use c_state::{coordinates_in, whole_in};
 pub use c_state::{injection_of, setting_of, state_of};
@@ -38,7 +38,27 @@ fn outcome_number(outcome: Outcome) -> u64
     }
 }
 
-// A refused run returns these too: the last state reached, and the steps done.
+// A refused run returns these too: the last state reached, in these coordinates, and the steps done.
+fn hand_back_in<const N: usize>(
+    coordinates: [f64; N],
+    answer: RunAnswer,
+    reached: &mut u64,
+    there: &mut [f64; N],
+    entries: &mut [u64; 5],
+    steps: &mut u32,
+) -> u64
+    ensures { run_memory result reached.new there.new entries.new steps.new
+        ≡ of_run_in coordinates.entry answer }
+{
+    *reached = answer.state.moment;
+    *there = coordinates;
+    let g = answer.guesses;
+    *entries = [g.moon, g.sun, g.venus, g.mars, g.jupiter];
+    *steps = answer.steps;
+    outcome_number(answer.outcome)
+}
+
+// Position and velocity of the last state reached.
 pub fn hand_back(
     answer: RunAnswer,
     reached: &mut u64,
@@ -49,12 +69,8 @@ pub fn hand_back(
     ensures { run_memory result reached.new there.new entries.new steps.new
         ≡ of_run answer }
 {
-    *reached = answer.state.moment;
-    *there = coordinates_in(answer.state);
-    let g = answer.guesses;
-    *entries = [g.moon, g.sun, g.venus, g.mars, g.jupiter];
-    *steps = answer.steps;
-    outcome_number(answer.outcome)
+    let six = coordinates_in(answer.state);
+    hand_back_in(six, answer, reached, there, entries, steps)
 }
 
 // The same with the whole state.
@@ -68,10 +84,6 @@ pub fn hand_back_whole(
     ensures { run_memory result reached.new there.new entries.new steps.new
         ≡ of_flight answer }
 {
-    *reached = answer.state.moment;
-    *there = whole_in(answer.state);
-    let g = answer.guesses;
-    *entries = [g.moon, g.sun, g.venus, g.mars, g.jupiter];
-    *steps = answer.steps;
-    outcome_number(answer.outcome)
+    let nine = whole_in(answer.state);
+    hand_back_in(nine, answer, reached, there, entries, steps)
 }

@@ -39,51 +39,44 @@ going_word = 71 ∷ 79 ∷ 73 ∷ 78 ∷ 71 ∷ []
 abbrev pub unreadable_word : List ℕ
 unreadable_word = 85 ∷ 78 ∷ 82 ∷ 69 ∷ 65 ∷ 68 ∷ 65 ∷ 66 ∷ 76 ∷ 69 ∷ []
 
-abbrev pub root_items : Result Float Refusal → List Item
-root_items (Ok y) = real y ∷ []
-root_items (Err k) = refused_items k
+-- the items of an answer, or "REFUSED" and the number of its refusal
+abbrev pub or_refused : {A : Type 0} → (A → List Item) → Result A Refusal → List Item
+or_refused items (Ok value) = items value
+or_refused items (Err k) = refused_items k
 
-abbrev pub sine_items : Result SineCosine Refusal → List Item
-sine_items (Ok of) = real of.sine ∷ real of.cosine ∷ []
-sine_items (Err k) = refused_items k
+abbrev pub root_items : Float → List Item
+root_items y = real y ∷ []
 
-abbrev pub hour_items : Result ℕ Refusal → List Item
-hour_items (Ok parts) = whole parts ∷ []
-hour_items (Err k) = refused_items k
+abbrev pub sine_items : SineCosine → List Item
+sine_items of = real of.sine ∷ real of.cosine ∷ []
 
-abbrev pub date_items : Result Calendar Refusal → List Item
-date_items (Ok d) = whole d.year ∷ whole d.month ∷ whole d.day ∷ []
-date_items (Err k) = refused_items k
+-- an hour, or a day
+abbrev pub number_items : ℕ → List Item
+number_items n = whole n ∷ []
 
-abbrev pub day_items : Result ℕ Refusal → List Item
-day_items (Ok d) = whole d ∷ []
-day_items (Err k) = refused_items k
+abbrev pub date_items : Calendar → List Item
+date_items d = whole d.year ∷ whole d.month ∷ whole d.day ∷ []
 
-abbrev pub fixed_items : Result EarthFixed Refusal → List Item
-fixed_items (Ok f) = real f.x ∷ real f.y ∷ real f.z ∷ real f.vx ∷ real f.vy ∷ real f.vz ∷ []
-fixed_items (Err k) = refused_items k
+abbrev pub fixed_items : EarthFixed → List Item
+fixed_items f = real f.x ∷ real f.y ∷ real f.z ∷ real f.vx ∷ real f.vy ∷ real f.vz ∷ []
 
-abbrev pub launched_items : Result Injection Refusal → List Item
-launched_items (Ok i) = whole i.moment ∷ real i.x ∷ real i.y ∷ real i.z ∷ real i.vx ∷ real i.vy ∷ real i.vz ∷ []
-launched_items (Err k) = refused_items k
+abbrev pub launched_items : Injection → List Item
+launched_items i = whole i.moment ∷ real i.x ∷ real i.y ∷ real i.z ∷ real i.vx ∷ real i.vy ∷ real i.vz ∷ []
 
 -- the kind, the centre and the five figures
 abbrev pub figure_items : ℕ → Conic → List Item
 figure_items centre (Ellipse a e p q far) = word ellipse_word ∷ whole centre ∷ real a ∷ real e ∷ real p ∷ real q ∷ real far ∷ []
 figure_items centre (Hyperbola a e p q v) = word hyperbola_word ∷ whole centre ∷ real a ∷ real e ∷ real p ∷ real q ∷ real v ∷ []
 
-abbrev pub conic_items : Result CentredConic Refusal → List Item
-conic_items (Ok c) = figure_items c.centre c.conic
-conic_items (Err k) = refused_items k
+abbrev pub conic_items : CentredConic → List Item
+conic_items c = figure_items c.centre c.conic
 
-abbrev pub position_items : Result Motion Refusal → List Item
-position_items (Ok m) =
+abbrev pub position_items : Motion → List Item
+position_items m =
     real m.place.x ∷ real m.place.y ∷ real m.place.z ∷ real m.velocity.x ∷ real m.velocity.y ∷ real m.velocity.z ∷ []
-position_items (Err k) = refused_items k
 
-abbrev pub acceleration_items : Result Vector Refusal → List Item
-acceleration_items (Ok a) = real a.x ∷ real a.y ∷ real a.z ∷ []
-acceleration_items (Err k) = refused_items k
+abbrev pub acceleration_items : Vector → List Item
+acceleration_items a = real a.x ∷ real a.y ∷ real a.z ∷ []
 
 -- X Y Z VX VY VZ
 abbrev pub coordinate_items : State → List Item
@@ -92,14 +85,6 @@ coordinate_items s = real s.x ∷ real s.y ∷ real s.z ∷ real s.vx ∷ real s
 -- STATE = MOMENT CENTRE X Y Z VX VY VZ AX AY AZ
 abbrev pub state_items : State → List Item
 state_items s = whole s.moment ∷ whole s.centre ∷ (coordinate_items s ++ (real s.ax ∷ real s.ay ∷ real s.az ∷ []))
-
-abbrev pub injected_items : Result State Refusal → List Item
-injected_items (Ok s) = state_items s
-injected_items (Err k) = refused_items k
-
-abbrev pub moved_items : Result State Refusal → List Item
-moved_items (Ok s) = state_items s
-moved_items (Err k) = refused_items k
 
 -- G2 .. G6
 abbrev pub guess_items : Guesses → List Item
@@ -119,18 +104,18 @@ abbrev pub flown_items : RunAnswer → List Item
 flown_items r = outcome_items r.outcome ++ (whole r.steps ∷ (state_items r.state ++ guess_items r.guesses))
 
 abbrev pub answer_items : Answer → List Item
-answer_items (answer.Root a) = root_items a
-answer_items (answer.SineCosine a) = sine_items a
-answer_items (answer.Hour a) = hour_items a
-answer_items (answer.Date a) = date_items a
-answer_items (answer.Day a) = day_items a
-answer_items (answer.Fixed a) = fixed_items a
-answer_items (answer.Launched a) = launched_items a
-answer_items (answer.Conic a) = conic_items a
-answer_items (answer.Position a) = position_items a
-answer_items (answer.Acceleration a) = acceleration_items a
-answer_items (answer.Injected a) = injected_items a
-answer_items (answer.Moved a) = moved_items a
+answer_items (answer.Root a) = or_refused root_items a
+answer_items (answer.SineCosine a) = or_refused sine_items a
+answer_items (answer.Hour a) = or_refused number_items a
+answer_items (answer.Date a) = or_refused date_items a
+answer_items (answer.Day a) = or_refused number_items a
+answer_items (answer.Fixed a) = or_refused fixed_items a
+answer_items (answer.Launched a) = or_refused launched_items a
+answer_items (answer.Conic a) = or_refused conic_items a
+answer_items (answer.Position a) = or_refused position_items a
+answer_items (answer.Acceleration a) = or_refused acceleration_items a
+answer_items (answer.Injected a) = or_refused state_items a
+answer_items (answer.Moved a) = or_refused state_items a
 answer_items (answer.Run a) = run_items a
 answer_items (answer.Flown a) = flown_items a
 answer_items answer.Unreadable = word unreadable_word ∷ []

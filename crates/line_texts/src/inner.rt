@@ -2,7 +2,7 @@
 
 ghost use Rattle.std.specs.Prelude.{◌+◌, ◌≤◌};
 ghost use Rattle.line_form.specs.Spelled.{spaced, line_text, Puts};
-ghost use Rattle.line_texts.specs.Text.{root_items, sine_items, hour_items, date_items, day_items, fixed_items, launched_items, figure_items, conic_items, position_items, acceleration_items, coordinate_items, state_items, injected_items, moved_items, guess_items, outcome_items, run_items, flown_items, answer_items};
+ghost use Rattle.line_texts.specs.Text.{or_refused, root_items, sine_items, number_items, date_items, fixed_items, launched_items, figure_items, conic_items, position_items, acceleration_items, coordinate_items, state_items, guess_items, outcome_items, run_items, flown_items, answer_items};
 
 use base::Refusal;
 use book::Motion;
@@ -17,9 +17,11 @@ use sine::SineCosine;
 use state::{Injection, State, Vector};
 use text_write::inner::put_bytes;
 
+// One function for each kind of value, and none with a closure that lays it out: the closure would need a clause of its
+// own, and that is no shorter.
 fn put_root(out: &mut Out, at: usize, answer: Result<f64, Refusal>) -> usize
     requires { at + 512 ≤ 65_536 }
-    ensures { Puts out.old at (spaced (root_items answer)) out.new 1 512 result }
+    ensures { Puts out.old at (spaced (or_refused root_items answer)) out.new 1 512 result }
 {
     match answer {
         Ok(y) => put_floats(out, at, &[y]),
@@ -29,7 +31,7 @@ fn put_root(out: &mut Out, at: usize, answer: Result<f64, Refusal>) -> usize
 
 fn put_sine(out: &mut Out, at: usize, answer: Result<SineCosine, Refusal>) -> usize
     requires { at + 512 ≤ 65_536 }
-    ensures { Puts out.old at (spaced (sine_items answer)) out.new 1 512 result }
+    ensures { Puts out.old at (spaced (or_refused sine_items answer)) out.new 1 512 result }
 {
     match answer {
         Ok(of) => put_floats(out, at, &[of.sine, of.cosine]),
@@ -37,19 +39,20 @@ fn put_sine(out: &mut Out, at: usize, answer: Result<SineCosine, Refusal>) -> us
     }
 }
 
-fn put_hour(out: &mut Out, at: usize, answer: Result<u64, Refusal>) -> usize
+// An hour, or a day.
+fn put_number(out: &mut Out, at: usize, answer: Result<u64, Refusal>) -> usize
     requires { at + 512 ≤ 65_536 }
-    ensures { Puts out.old at (spaced (hour_items answer)) out.new 1 512 result }
+    ensures { Puts out.old at (spaced (or_refused number_items answer)) out.new 1 512 result }
 {
     match answer {
-        Ok(parts) => put_numbers(out, at, &[parts]),
+        Ok(number) => put_numbers(out, at, &[number]),
         Err(refusal) => put_refused(out, at, refusal),
     }
 }
 
 fn put_date(out: &mut Out, at: usize, answer: Result<Calendar, Refusal>) -> usize
     requires { at + 512 ≤ 65_536 }
-    ensures { Puts out.old at (spaced (date_items answer)) out.new 1 512 result }
+    ensures { Puts out.old at (spaced (or_refused date_items answer)) out.new 1 512 result }
 {
     match answer {
         Ok(date) => put_numbers(out, at, &[date.year, date.month, date.day]),
@@ -57,19 +60,9 @@ fn put_date(out: &mut Out, at: usize, answer: Result<Calendar, Refusal>) -> usiz
     }
 }
 
-fn put_day(out: &mut Out, at: usize, answer: Result<u64, Refusal>) -> usize
-    requires { at + 512 ≤ 65_536 }
-    ensures { Puts out.old at (spaced (day_items answer)) out.new 1 512 result }
-{
-    match answer {
-        Ok(day) => put_numbers(out, at, &[day]),
-        Err(refusal) => put_refused(out, at, refusal),
-    }
-}
-
 fn put_fixed(out: &mut Out, at: usize, answer: Result<EarthFixed, Refusal>) -> usize
     requires { at + 512 ≤ 65_536 }
-    ensures { Puts out.old at (spaced (fixed_items answer)) out.new 1 512 result }
+    ensures { Puts out.old at (spaced (or_refused fixed_items answer)) out.new 1 512 result }
 {
     match answer {
         Ok(f) => put_floats(out, at, &[f.x, f.y, f.z, f.vx, f.vy, f.vz]),
@@ -79,7 +72,7 @@ fn put_fixed(out: &mut Out, at: usize, answer: Result<EarthFixed, Refusal>) -> u
 
 fn put_launched(out: &mut Out, from: usize, answer: Result<Injection, Refusal>) -> usize
     requires { from + 512 ≤ 65_536 }
-    ensures { Puts out.old from (spaced (launched_items answer)) out.new 1 512 result }
+    ensures { Puts out.old from (spaced (or_refused launched_items answer)) out.new 1 512 result }
 {
     match answer {
         Ok(s) => {
@@ -111,7 +104,7 @@ fn put_figures(out: &mut Out, from: usize, centre: u64, conic: Conic) -> usize
 
 fn put_conic(out: &mut Out, at: usize, answer: Result<CentredConic, Refusal>) -> usize
     requires { at + 512 ≤ 65_536 }
-    ensures { Puts out.old at (spaced (conic_items answer)) out.new 1 512 result }
+    ensures { Puts out.old at (spaced (or_refused conic_items answer)) out.new 1 512 result }
 {
     match answer {
         Ok(centred) => {
@@ -124,7 +117,7 @@ fn put_conic(out: &mut Out, at: usize, answer: Result<CentredConic, Refusal>) ->
 
 fn put_position(out: &mut Out, at: usize, answer: Result<Motion, Refusal>) -> usize
     requires { at + 512 ≤ 65_536 }
-    ensures { Puts out.old at (spaced (position_items answer)) out.new 1 512 result }
+    ensures { Puts out.old at (spaced (or_refused position_items answer)) out.new 1 512 result }
 {
     match answer {
         Ok(motion) => {
@@ -138,7 +131,7 @@ fn put_position(out: &mut Out, at: usize, answer: Result<Motion, Refusal>) -> us
 
 fn put_acceleration(out: &mut Out, at: usize, answer: Result<Vector, Refusal>) -> usize
     requires { at + 512 ≤ 65_536 }
-    ensures { Puts out.old at (spaced (acceleration_items answer)) out.new 1 512 result }
+    ensures { Puts out.old at (spaced (or_refused acceleration_items answer)) out.new 1 512 result }
 {
     match answer {
         Ok(a) => put_floats(out, at, &[a.x, a.y, a.z]),
@@ -162,19 +155,9 @@ fn put_state(out: &mut Out, from: usize, s: State) -> usize
     put_floats(out, at, &[s.ax, s.ay, s.az])
 }
 
-fn put_injected(out: &mut Out, at: usize, answer: Result<State, Refusal>) -> usize
+fn put_state_answer(out: &mut Out, at: usize, answer: Result<State, Refusal>) -> usize
     requires { at + 512 ≤ 65_536 }
-    ensures { Puts out.old at (spaced (injected_items answer)) out.new 1 512 result }
-{
-    match answer {
-        Ok(s) => put_state(out, at, s),
-        Err(refusal) => put_refused(out, at, refusal),
-    }
-}
-
-fn put_moved(out: &mut Out, at: usize, answer: Result<State, Refusal>) -> usize
-    requires { at + 512 ≤ 65_536 }
-    ensures { Puts out.old at (spaced (moved_items answer)) out.new 1 512 result }
+    ensures { Puts out.old at (spaced (or_refused state_items answer)) out.new 1 512 result }
 {
     match answer {
         Ok(s) => put_state(out, at, s),
@@ -231,16 +214,16 @@ fn put_items(out: &mut Out, at: usize, answer: Answer) -> usize
     match answer {
         Answer::Root(a) => put_root(out, at, a),
         Answer::SineCosine(a) => put_sine(out, at, a),
-        Answer::Hour(a) => put_hour(out, at, a),
+        Answer::Hour(a) => put_number(out, at, a),
         Answer::Date(a) => put_date(out, at, a),
-        Answer::Day(a) => put_day(out, at, a),
+        Answer::Day(a) => put_number(out, at, a),
         Answer::Fixed(a) => put_fixed(out, at, a),
         Answer::Launched(a) => put_launched(out, at, a),
         Answer::Conic(a) => put_conic(out, at, a),
         Answer::Position(a) => put_position(out, at, a),
         Answer::Acceleration(a) => put_acceleration(out, at, a),
-        Answer::Injected(a) => put_injected(out, at, a),
-        Answer::Moved(a) => put_moved(out, at, a),
+        Answer::Injected(a) => put_state_answer(out, at, a),
+        Answer::Moved(a) => put_state_answer(out, at, a),
         Answer::Run(a) => put_run(out, at, a),
         Answer::Flown(a) => put_flown(out, at, a),
         Answer::Unreadable => put_bytes(out, at, b"UNREADABLE "),

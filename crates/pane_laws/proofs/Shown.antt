@@ -23,7 +23,6 @@ use Rattle.pane_live.specs.declared.FrameAnswer.TheVariants as frame
 use Rattle.pane_live.proofs.Frames as frames
 use Rattle.pane_motion.specs.Motion.{motion_at}
 use Rattle.pane_motion.specs.declared.Motion.{Motion}
-use Rattle.pane_motion.specs.declared.FrameMotion.TheVariants as motion
 use Rattle.pane_motion.proofs.Same.{same_frame, velocity_of}
 use Rattle.pane_laws.specs.Desk.{Desk}
 use Rattle.pane_laws.specs.OnAir.{OnAir, OffAir, empty, late, OnAirMoving, OffAirMoving, empty_moving, late_moving}
@@ -111,14 +110,14 @@ module _ (setting : Setting) (h : ℕ) (injection : State) (b : List ℕ) (made 
 
   -- ---- the same for a frame with velocity
 
-  pub on_air_moving : Desk setting h injection b made hand pane → (t : ℕ) (m : Motion) → motion_at pane t ≡ motion.Current m → OnAirMoving b setting h injection made t m
+  pub on_air_moving : Desk setting h injection b made hand pane → (t : ℕ) (m : Motion) → motion_at pane t ≡ frame.Current m → OnAirMoving b setting h injection made t m
   unfolding by_held
   on_air_moving desk t m e =
       let sound = always setting h injection b made hand pane desk in
       let shown = frames.current pane t m.position sound.order ((same_frame pane t).current m e) in
       record {
         place = by_held t m.position sound.start sound.stand sound.holds sound.order shown;
-        speed = velocity_of shown.older shown.newer t m (subst (λ (p : Pane). motion_at p t ≡ motion.Current m) shown.held e);
+        speed = velocity_of shown.older shown.newer t m (subst (λ (p : Pane). motion_at p t ≡ frame.Current m) shown.held e);
       }
 
   pub off_air_moving : Desk setting h injection b made hand pane → (start last : State) (n : ℕ) (k : Refusal) (t : ℕ) → walk_with_moves b setting h made injection ≡ Ok start
@@ -126,7 +125,7 @@ module _ (setting : Setting) (h : ℕ) (injection : State) (b : List ℕ) (made 
   off_air_moving desk start last n k t moved walked off past =
       go (frame_at pane t) refl (off_air desk start last n k t moved walked off past)
     where
-      go : (answer : FrameAnswer) → frame_at pane t ≡ answer → OffAir b setting h start last t answer → OffAirMoving b setting h start last t (motion_at pane t)
+      go : (answer : FrameAnswer Vector) → frame_at pane t ≡ answer → OffAir b setting h start last t answer → OffAirMoving b setting h start last t (motion_at pane t)
       go answer e empty = subst (OffAirMoving b setting h start last t) (sym ((same_frame pane t).empty.1 e)) empty_moving
       go answer e (late m s reached within gone) =
           subst (OffAirMoving b setting h start last t) (sym (((same_frame pane t).late (t - s.moment)).1 e)) (late_moving m s reached within gone)

@@ -25,7 +25,6 @@ use Rattle.pane_live.specs.declared.FrameAnswer.TheVariants as frame
 use Rattle.pane_laws.specs.Desk.{InHand, Desk}
 use Rattle.pane_motion.specs.Motion.{motion_at}
 use Rattle.pane_motion.specs.declared.Motion.{Motion}
-use Rattle.pane_motion.specs.declared.FrameMotion.TheVariants as motion
 use Rattle.pane_laws.specs.OnAir.{OnAir, OffAir, OnAirMoving, OffAirMoving}
 
 -- the pane that took the injection and then every answer of a journey
@@ -89,5 +88,5 @@ pub record NightHolds (setting : Setting) (h : ℕ) (injection : State) (b c : L
   -- both for frames with velocity
   pub silent_moving : (hand : List State) (pane : Pane) (t : ℕ) → Desk setting h injection b made hand pane → last.moment < t
       → OffAirMoving b setting h start last t (motion_at pane t)
-  pub shows_moving : (hand : List State) (pane : Pane) (t : ℕ) (m : Motion) → Desk setting h injection c made hand pane → motion_at pane t ≡ motion.Current m
+  pub shows_moving : (hand : List State) (pane : Pane) (t : ℕ) (m : Motion) → Desk setting h injection c made hand pane → motion_at pane t ≡ frame.Current m
       → OnAirMoving c setting h injection made t m

@@ -11,8 +11,6 @@ use Rattle.pane_live.specs.declared.FrameAnswer.{FrameAnswer}
 use Rattle.pane_live.specs.declared.FrameAnswer.TheVariants as frame
 use Rattle.pane_motion.specs.Motion.{frame_velocity}
 use Rattle.pane_motion.specs.declared.Motion.{Motion}
-use Rattle.pane_motion.specs.declared.FrameMotion.{FrameMotion}
-use Rattle.pane_motion.specs.declared.FrameMotion.TheVariants as motion
 
 -- On air at t: the position p is the document's figure between two states of the plain walk, both after its last move.
 pub record OnAir (b : List ℕ) (setting : Setting) (h : ℕ) (injection : State) (made : List Move) (t : ℕ) (p : Vector) : Type 0 where
@@ -35,7 +33,7 @@ pub record OnAir (b : List ℕ) (setting : Setting) (h : ℕ) (injection : State
   pub is : p ≡ figure older newer t
 
 -- Off air at t: the frame is empty, or late by the time since a state of the walk from start, no later than `last`. It shows no position.
-pub data OffAir (b : List ℕ) (setting : Setting) (h : ℕ) (start last : State) (t : ℕ) : FrameAnswer → Type 0 where
+pub data OffAir (b : List ℕ) (setting : Setting) (h : ℕ) (start last : State) (t : ℕ) : FrameAnswer Vector → Type 0 where
   empty : OffAir b setting h start last t frame.Empty
   late : (n : ℕ) (s : State) → walk (step b setting h) n start ≡ Ok s → s.moment ≤ last.moment → s.moment < t
       → OffAir b setting h start last t (frame.Late (t - s.moment))
@@ -47,7 +45,7 @@ pub record OnAirMoving (b : List ℕ) (setting : Setting) (h : ℕ) (injection :
   pub place : OnAir b setting h injection made t m.position
   pub speed : m.velocity ≡ frame_velocity place.older place.newer t
 
-pub data OffAirMoving (b : List ℕ) (setting : Setting) (h : ℕ) (start last : State) (t : ℕ) : FrameMotion → Type 0 where
-  empty_moving : OffAirMoving b setting h start last t motion.Empty
+pub data OffAirMoving (b : List ℕ) (setting : Setting) (h : ℕ) (start last : State) (t : ℕ) : FrameAnswer Motion → Type 0 where
+  empty_moving : OffAirMoving b setting h start last t frame.Empty
   late_moving : (n : ℕ) (s : State) → walk (step b setting h) n start ≡ Ok s → s.moment ≤ last.moment → s.moment < t
-      → OffAirMoving b setting h start last t (motion.Late (t - s.moment))
+      → OffAirMoving b setting h start last t (frame.Late (t - s.moment))

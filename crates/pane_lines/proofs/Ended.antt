@@ -4,6 +4,7 @@ use mathlib.Core.List.{List}
 use lib.ListN.{length, set}
 use Rattle.pane_live.specs.declared.TakeAnswer.{TakeAnswer}
 use Rattle.pane_live.specs.declared.TakeAnswer.TheVariants as taken
+use Rattle.state.specs.declared.Vector.{Vector}
 use Rattle.pane_live.specs.declared.FrameAnswer.{FrameAnswer}
 use Rattle.pane_live.specs.declared.FrameAnswer.TheVariants as frame
 use Rattle.line_form.specs.Spelled.{spaced, line_text, Puts}
@@ -18,7 +19,7 @@ module _ {a b : List ℕ} {at r : ℕ} where
   taken_ended taken.Unchanged h w = lined _ _ h w
   taken_ended (taken.Refused n) h w = lined _ _ h w
 
-  frame_ended : (x : FrameAnswer) → r ≤ length b → Puts a at (spaced (frame_items x)) b 1 512 r → Puts a at (line_text (frame_items x)) (set b (r - 1) 10) 1 512 r
+  frame_ended : (x : FrameAnswer Vector) → r ≤ length b → Puts a at (spaced (frame_items x)) b 1 512 r → Puts a at (line_text (frame_items x)) (set b (r - 1) 10) 1 512 r
   frame_ended (frame.Current p) h w = lined _ _ h w
   frame_ended (frame.Late n) h w = lined _ _ h w
   frame_ended frame.Empty h w = lined _ _ h w

@@ -8,6 +8,7 @@ use Rattle.run.specs.declared.RunAnswer.{RunAnswer}
 use Rattle.pane_live.specs.declared.Pane.{Pane}
 use Rattle.pane_live.specs.declared.TakeAnswer.{TakeAnswer}
 use Rattle.pane_live.specs.declared.TakeAnswer.TheVariants as taken
+use Rattle.state.specs.declared.Vector.{Vector}
 use Rattle.pane_live.specs.declared.FrameAnswer.{FrameAnswer}
 use Rattle.pane_live.specs.declared.FrameAnswer.TheVariants as frame
 use Rattle.pane_live.specs.Pane as pane
@@ -133,7 +134,7 @@ taken_items (taken.Taken p) = word ok_word ∷ []
 taken_items taken.Unchanged = word unchanged_word ∷ []
 taken_items (taken.Refused k) = refused_items k
 
-abbrev pub frame_items : FrameAnswer → List Item
+abbrev pub frame_items : FrameAnswer Vector → List Item
 frame_items (frame.Current p) = word current_word ∷ real p.x ∷ real p.y ∷ real p.z ∷ []
 frame_items (frame.Late n) = word late_word ∷ whole n ∷ []
 frame_items frame.Empty = word empty_word ∷ []

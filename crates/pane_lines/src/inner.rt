@@ -7,6 +7,7 @@ ghost use Rattle.pane_lines.specs.Answers.{taken_items, frame_items, answer_item
 use crate::Answer;
 use line_form::put::{Out, end_line, put_floats, put_numbers, put_refused};
 use pane_live::{FrameAnswer, TakeAnswer};
+use state::Vector;
 use text_write::inner::put_bytes;
 
 fn put_taken(out: &mut Out, at: usize, answer: TakeAnswer) -> usize
@@ -20,7 +21,7 @@ fn put_taken(out: &mut Out, at: usize, answer: TakeAnswer) -> usize
     }
 }
 
-fn put_frame(out: &mut Out, from: usize, answer: FrameAnswer) -> usize
+fn put_frame(out: &mut Out, from: usize, answer: FrameAnswer<Vector>) -> usize
     requires { from + 512 ≤ 65_536 }
     ensures { Puts out.old from (spaced (frame_items answer)) out.new 1 512 result }
 {

@@ -15,11 +15,12 @@ use line_form::form::{Numbers, reads};
 use line_values::inner::{guesses_from, narrowed, state_from};
 use pane_live::{FrameAnswer, Pane, TakeAnswer};
 use run::{Outcome, RunAnswer};
+use state::Vector;
 
 #[derive(Clone, Copy)]
 pub enum Answer {
     Taken(TakeAnswer),
-    Frame(FrameAnswer),
+    Frame(FrameAnswer<Vector>),
     Cleared,
     Unreadable,
 }

@@ -85,18 +85,18 @@ figure a b t =
     if t =? b.moment then position b otherwise between a b (t - a.moment) (b.moment - a.moment)
 
 -- "a figure not finite is 7"
-abbrev pub shown : Vector → FrameAnswer
+abbrev pub shown : Vector → FrameAnswer Vector
 shown p = if finite_vector p then frame.Current p otherwise frame.Refused Refusal.NotFinite
 
 -- "Late: the moment is past the newer state; the pane gives how late, and no position"; "Empty: .. the moment is before the older"; "Current:
 -- the frame's moment lies between them, ends included"
-abbrev pub frame_between : State → State → ℕ → FrameAnswer
+abbrev pub frame_between : State → State → ℕ → FrameAnswer Vector
 frame_between a b t =
     if b.moment <? t then frame.Late (t - b.moment) otherwise
     if t <? a.moment then frame.Empty otherwise shown (figure a b t)
 
 -- "Empty: fewer than two states"
-unfoldable pub frame_at : Pane → ℕ → FrameAnswer
+unfoldable pub frame_at : Pane → ℕ → FrameAnswer Vector
 frame_at Blank t = frame.Empty
 frame_at (One a) t = frame.Empty
 frame_at (Two a b) t = frame_between a b t

@@ -27,10 +27,10 @@ pub enum TakeAnswer {
     Refused(Refusal),
 }
 
-// A position, how late in milliseconds, nothing, or a refusal.
+// What is shown, how late in milliseconds, nothing, or a refusal. Shown is a position, or more (pane_motion).
 #[derive(Clone, Copy)]
-pub enum FrameAnswer {
-    Current(Vector),
+pub enum FrameAnswer<T> {
+    Current(T),
     Late(u64),
     Empty,
     Refused(Refusal),
@@ -130,7 +130,7 @@ fn figure_of(a: State, b: State, t: u64) -> Vector
     place_between(a, b, t - a.moment, b.moment - a.moment)
 }
 
-fn show(p: Vector) -> FrameAnswer
+fn show(p: Vector) -> FrameAnswer<Vector>
     ensures { result ≡ shown p }
 {
     if state::vector_is_finite(p) {
@@ -139,7 +139,7 @@ fn show(p: Vector) -> FrameAnswer
     FrameAnswer::Refused(Refusal::NotFinite)
 }
 
-fn frame_between(a: State, b: State, t: u64) -> FrameAnswer
+fn frame_between(a: State, b: State, t: u64) -> FrameAnswer<Vector>
     ensures { result ≡ frame_between a b t }
 {
     if b.moment < t {
@@ -152,7 +152,7 @@ fn frame_between(a: State, b: State, t: u64) -> FrameAnswer
 }
 
 // What the pane shows at a moment.
-pub fn frame(pane: Pane, moment: u64) -> FrameAnswer
+pub fn frame(pane: Pane, moment: u64) -> FrameAnswer<Vector>
     ensures { result ≡ frame_at pane moment }
 {
     match pane {

@@ -11,10 +11,8 @@ use Rattle.pane_live.specs.Pane.{c2, c3, frame_at}
 use Rattle.pane_live.specs.declared.Pane.{Pane}
 use Rattle.pane_live.specs.declared.Pane.TheVariants.{Blank, One, Two}
 use Rattle.pane_live.specs.declared.FrameAnswer.{FrameAnswer}
-use Rattle.pane_live.specs.declared.FrameAnswer.TheVariants as frame
+use Rattle.pane_live.specs.declared.FrameAnswer.TheVariants.{Current, Late, Empty, Refused}
 use Rattle.pane_motion.specs.declared.Motion.{Motion}
-use Rattle.pane_motion.specs.declared.FrameMotion.{FrameMotion}
-use Rattle.pane_motion.specs.declared.FrameMotion.TheVariants.{Current, Late, Empty, Refused}
 
 -- one component: "v = (m0 + s·(2·c2 + s·(3·c3)))/D, with D, s, m0, c2 and c3 of the order above"
 abbrev pub rate : Float → Float → Float → Float → Float → Float → Float
@@ -45,17 +43,17 @@ abbrev pub moving : Vector → Vector → Motion
 moving p v = record { position = p; velocity = v }
 
 -- "Any of the six numbers that is not finite is 7": the frame has checked the first three
-abbrev pub shown_motion : Vector → Vector → FrameMotion
+abbrev pub shown_motion : Vector → Vector → FrameAnswer Motion
 shown_motion p v = if finite_vector v then Current (moving p v) otherwise Refused Refusal.NotFinite
 
 -- the frame, with the velocity v if it is current
-abbrev pub with_velocity : FrameAnswer → Vector → FrameMotion
-with_velocity (frame.Current p) v = shown_motion p v
-with_velocity (frame.Late ms) v = Late ms
-with_velocity frame.Empty v = Empty
-with_velocity (frame.Refused k) v = Refused k
+abbrev pub with_velocity : FrameAnswer Vector → Vector → FrameAnswer Motion
+with_velocity (Current p) v = shown_motion p v
+with_velocity (Late ms) v = Late ms
+with_velocity Empty v = Empty
+with_velocity (Refused k) v = Refused k
 
-unfoldable pub motion_at : Pane → ℕ → FrameMotion
+unfoldable pub motion_at : Pane → ℕ → FrameAnswer Motion
 motion_at Blank t = Empty
 motion_at (One a) t = Empty
 motion_at (Two a b) t = with_velocity (frame_at (Two a b) t) (frame_velocity a b t)

@@ -8,8 +8,8 @@ ghost use Rattle.pane_live.specs.Pane.{between, figure, shown};
 ghost use Rattle.pane_motion.specs.Motion.{rate, rate_between, frame_velocity, moving, with_velocity, motion_at};
 
 use base::Refusal;
-use pane_live::Pane;
 use pane_live::inner::{along_cubic, to_float};
+use pane_live::{FrameAnswer, Pane};
 use state::{State, Vector, position_of, velocity_of};
 
 // Position in km and velocity in km/s, from the centre of the states.
@@ -17,15 +17,6 @@ use state::{State, Vector, position_of, velocity_of};
 pub struct Motion {
     pub position: Vector,
     pub velocity: Vector,
-}
-
-// A motion, how late in milliseconds, nothing, or a refusal.
-#[derive(Clone, Copy)]
-pub enum FrameMotion {
-    Current(Motion),
-    Late(u64),
-    Empty,
-    Refused(Refusal),
 }
 
 fn rate_of(d: f64, s: f64, p0: f64, v0: f64, p1: f64, v1: f64) -> f64
@@ -80,38 +71,38 @@ fn motion_within(a: State, b: State, t: u64) -> Motion
     motion_along(a, b, t - a.moment, b.moment - a.moment)
 }
 
-fn show(m: Motion) -> FrameMotion
+fn show(m: Motion) -> FrameAnswer<Motion>
     ensures { result ≡ with_velocity (shown m.position) m.velocity }
 {
     let position = m.position;
     let velocity = m.velocity;
     if state::vector_is_finite(position) {
         if state::vector_is_finite(velocity) {
-            return FrameMotion::Current(m);
+            return FrameAnswer::Current(m);
         }
     }
-    FrameMotion::Refused(Refusal::NotFinite)
+    FrameAnswer::Refused(Refusal::NotFinite)
 }
 
-fn motion_between(a: State, b: State, t: u64) -> FrameMotion
+fn motion_between(a: State, b: State, t: u64) -> FrameAnswer<Motion>
     ensures { result ≡ motion_at (Pane.Two a b) t }
 {
     if b.moment < t {
-        return FrameMotion::Late(t - b.moment);
+        return FrameAnswer::Late(t - b.moment);
     }
     if t < a.moment {
-        return FrameMotion::Empty;
+        return FrameAnswer::Empty;
     }
     show(motion_within(a, b, t))
 }
 
 // What the pane shows at a moment, with the velocity there.
-pub fn frame_motion(pane: Pane, moment: u64) -> FrameMotion
+pub fn frame_motion(pane: Pane, moment: u64) -> FrameAnswer<Motion>
     ensures { result ≡ motion_at pane moment }
 {
     match pane {
-        Pane::Blank => FrameMotion::Empty,
-        Pane::One(a) => FrameMotion::Empty,
+        Pane::Blank => FrameAnswer::Empty,
+        Pane::One(a) => FrameAnswer::Empty,
         Pane::Two(a, b) => motion_between(a, b, moment),
     }
 }
