@@ -106,6 +106,7 @@ fn field_at(kind: u8, line: &[u8], at: usize) -> Option<Field>
     }
 }
 
+#[tactic(auto, using(crate::proofs::Reading::read_none, crate::proofs::Reading::read_more, crate::proofs::Reading::read_bad))]
 fn fields_from(line: &[u8], from: usize, kinds: &[u8], numbers: &mut [u64]) -> bool
     requires { length kinds.now ≤ length numbers.old }
     ensures { or_unreadable result (take (length kinds.now) numbers.new) ≡ fields_from line.now kinds.now from }
