@@ -1,41 +1,29 @@
 -- How the loops over a line's bytes and fields come to what the definitions say of the whole line.
 use Prim.Native.Nat.{ℕ, ◌+◌, ◌<◌}
-use mathlib.Core.Bool.{Bool, true, false, ◌&&◌}
+use mathlib.Core.Bool.{Bool, true, false}
 use Rattle.base.specs.Choice.{if◌then◌otherwise◌}
 use mathlib.Core.List.{List, [], ◌∷◌, ◌++◌}
 use mathlib.Core.Path.{◌≡◌, refl, sym, ap, ◌∙◌}
 use native.Mathlib.Numerals.{add-one}
 use native.Mathlib.Omega.{arith}
-use borrow.Author.Tests.{eq-eqb, ne_eqb}
 use lib.Dec.{eqb}
+use Rattle.std.specs.Cmp.Lexicographic.{pointwise}
+use Rattle.std.proofs.lemmas.Bool.Decides.{nat_tests}
 use lib.ListN.{length, get_or, take, drop, set}
 use lib.Seq.{drop-cons, drop-length, take-suc-set}
 use Rattle.std.specs.Prelude.{None}
 use Rattle.text_read.specs.Fields.{field}
 use Rattle.line_form.specs.Call.{Call, These, Unreadable, ahead, and_then, field_at, fields_from, starts_with, or_unreadable}
 
-pub same_byte : (line name : List ℕ) (i : ℕ) → i < length line → i < length name → get_or line i 0 ≡ get_or name i 0
-    → starts_with (drop i line) (drop i name) ≡ starts_with (drop (i + 1) line) (drop (i + 1) name)
-unfolding starts_with
-same_byte line name i hl hn e = rw (add-one, drop-cons line i 0 hl, drop-cons name i 0 hn, eq-eqb (get_or line i 0) (get_or name i 0) e)
+-- the library's test is the definition
+same_test : (a b : ℕ) → eqb b a ≡ eqb a b
+same_test a b = grind (arith, nat_tests)
 
-pub other_byte : (line name : List ℕ) (i : ℕ) → i < length line → i < length name → (get_or line i 0 ≡ get_or name i 0 → ⊥) → starts_with (drop i line) (drop i name) ≡ false
+pub named : (line name : List ℕ) → pointwise eqb name (take (length name) line) ≡ starts_with line name
 unfolding starts_with
-other_byte line name i hl hn e = rw (drop-cons line i 0 hl, drop-cons name i 0 hn, ne_eqb (get_or line i 0) (get_or name i 0) e)
-
-pub whole_name : (line name : List ℕ) → starts_with line (drop (length name) name) ≡ true
-unfolding starts_with
-whole_name line name = rw (drop-length name)
-
-not_both : (t : Bool) {u : Bool} → u ≡ false → (t && u) ≡ false
-not_both true e = e
-not_both false e = refl
-
-pub too_short : (line name : List ℕ) → length line < length name → starts_with line name ≡ false
-unfolding starts_with
-too_short line [] h = absurd (omega arith)
-too_short [] (b ∷ name) h = refl
-too_short (a ∷ line) (b ∷ name) h = not_both (eqb a b) (too_short line name (omega arith))
+named line [] = refl
+named [] (b ∷ name) = refl
+named (a ∷ line) (b ∷ name) = rw (same_test a b, named line name)
 
 -- the numbers read so far, and then those of a call
 pub prepend : List ℕ → Call → Call

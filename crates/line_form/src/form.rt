@@ -8,18 +8,11 @@ use text_write::Field;
 // As many as the longest call has. A float is kept as its bits.
 pub type Numbers = [u64; 30];
 
+#[tactic(auto, using(crate::proofs::Reading::named))]
 fn starts_with(line: &[u8], name: &[u8]) -> bool
     ensures { result ≡ starts_with line.now name.now }
 {
-    if line.len() < name.len() {
-        return false;
-    }
-    for i in 0..name.len() {
-        if line[i] != name[i] {
-            return false;
-        }
-    }
-    true
+    line.starts_with(name)
 }
 
 fn small(field: Option<Field>) -> Option<Field>
@@ -113,13 +106,14 @@ fn field_at(kind: u8, line: &[u8], at: usize) -> Option<Field>
     }
 }
 
+#[tactic(auto, using(crate::proofs::Reading::read_none, crate::proofs::Reading::read_more, crate::proofs::Reading::read_bad))]
 fn fields_from(line: &[u8], from: usize, kinds: &[u8], numbers: &mut [u64]) -> bool
     requires { length kinds.now ≤ length numbers.old }
     ensures { or_unreadable result (take (length kinds.now) numbers.new) ≡ fields_from line.now kinds.now from }
 {
     let mut at = from;
-    for i in 0..kinds.len() {
-        let Some(field) = field_at(kinds[i], line, at) else {
+    for (i, &kind) in kinds.iter().enumerate() {
+        let Some(field) = field_at(kind, line, at) else {
             return false;
         };
         numbers[i] = field.value;

@@ -31,8 +31,8 @@ pub fn put_numbers(out: &mut Out, from: usize, row: &[u64]) -> usize
     ensures { Puts out.old from (spaced (wholes row.now)) out.new (length row.now) (21 * length row.now) result }
 {
     let mut at = from;
-    for i in 0..row.len() {
-        at = put_number(out, at, row[i]);
+    for &n in row {
+        at = put_number(out, at, n);
     }
     at
 }
@@ -42,8 +42,8 @@ pub fn put_floats(out: &mut Out, from: usize, row: &[f64]) -> usize
     ensures { Puts out.old from (spaced (reals row.now)) out.new (length row.now) (17 * length row.now) result }
 {
     let mut at = from;
-    for i in 0..row.len() {
-        at = put_float(out, at, row[i]);
+    for &x in row {
+        at = put_float(out, at, x);
     }
     at
 }

@@ -1,22 +1,12 @@
--- `line_form::put::put_floats` meets its contract: i numbers take from i to 17·i bytes. Assumes nothing.
-use Prim.Native.Nat.{ℕ, ◌-◌, ◌*◌, ◌≤◌}
-use mathlib.Core.Path.{◌≡◌}
-use mathlib.Core.List.{List}
-use lib.Ieee.{Float}
-use lib.ListN.{length, take}
+-- `line_form::put::put_floats` meets its contract: k numbers take from k to 17·k bytes. Assumes nothing.
+use Rattle.std.proofs.Common.{◌*◌, take}
 use Rattle.text_write.specs.Written.{Wrote}
 use Rattle.line_form.specs.Room.{Between}
 use Rattle.line_form.specs.Spelled.{spaced, reals}
 use Rattle.line_form.proofs.put.put_floats.Given as goal
 
-pub record Going (out₀ : List ℕ) (from : ℕ) (row : List Float) (i-end : ℕ) (out : List ℕ) (at i : ℕ) : Type 0 where
-  pub before : i ≤ i-end
-  pub end : i-end ≡ length row
-  pub room : Between from i (17 * i) at
-  pub wrote : Wrote out₀ from (spaced (reals (take i row))) out at
-
-abbrev pub invariant-loop-i : goal.invariant-loop-i
-invariant-loop-i l = Going l.initial.out l.from l.row l.i-end l.out l.at l.i
-
-abbrev pub decreases-loop-i : goal.decreases-loop-i
-decreases-loop-i l = l.i-end - l.i
+abbrev pub invariant-loop-x : goal.invariant-loop-x
+invariant-loop-x l = record {
+  room : Between l.from l.x-index (17 * l.x-index) l.at;
+  wrote : Wrote l.initial.out l.from (spaced (reals (take l.x-index l.row))) l.out l.at;
+}

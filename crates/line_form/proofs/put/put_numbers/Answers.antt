@@ -1,19 +1,15 @@
--- `line_form::put::put_numbers` meets its contract: i numbers take from i to 21·i bytes. Assumes nothing.
-use mathlib.Core.Path.{refl}
-use native.Mathlib.Omega.{arith}
+-- `line_form::put::put_numbers` meets its contract: k numbers take from k to 21·k bytes. Assumes nothing.
+use Rattle.std.proofs.Common.{arith}
 use Rattle.line_form.specs.Spelled.{whole}
 use Rattle.line_form.proofs.Spelling.{no_items, row_on}
 use Rattle.line_form.proofs.put.put_numbers.Goals as goal
 
-pub loop-i-init : goal.loop-i-init
-loop-i-init c = record { before = omega arith; end = refl; room = record { some = omega arith; fits = omega arith }; wrote = no_items _ _ }
+pub loop-n-init : goal.loop-n-init
+loop-n-init c = record { room = record { some = omega arith; fits = omega arith }; wrote = no_items _ _ }
 
-pub loop-i-preserved : goal.loop-i-preserved
-loop-i-preserved c = let g = c.loop-i.invariant in let t = c.loop-i-test.true in
-    let r = g.room in let s = c.put_number-at.ensures.room in
+pub loop-n-preserved : goal.loop-n-preserved
+loop-n-preserved c = let g = c.loop-n.invariant in let s = c.put_number-at.ensures.room in
     record {
-      before = omega (arith, t);
-      end = g.end;
-      room = record { some = omega (arith, r.some, s.some); fits = omega (arith, r.fits, s.fits) };
-      wrote = row_on whole c.args.row.now c.loop-i.i _ (omega (arith, t, g.end)) g.wrote c.put_number-at.ensures.wrote;
+      room = record { some = omega (arith, s.some); fits = omega (arith, s.fits) };
+      wrote = row_on whole c.args.row.now c.loop-n.n-index _ (omega arith) g.wrote c.put_number-at.ensures.wrote;
     }

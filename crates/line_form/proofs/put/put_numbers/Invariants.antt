@@ -1,21 +1,12 @@
--- `line_form::put::put_numbers` meets its contract: i numbers take from i to 21·i bytes. Assumes nothing.
-use Prim.Native.Nat.{ℕ, ◌-◌, ◌*◌, ◌≤◌}
-use mathlib.Core.Path.{◌≡◌}
-use mathlib.Core.List.{List}
-use lib.ListN.{length, take}
+-- `line_form::put::put_numbers` meets its contract: k numbers take from k to 21·k bytes. Assumes nothing.
+use Rattle.std.proofs.Common.{◌*◌, take}
 use Rattle.text_write.specs.Written.{Wrote}
 use Rattle.line_form.specs.Room.{Between}
 use Rattle.line_form.specs.Spelled.{spaced, wholes}
 use Rattle.line_form.proofs.put.put_numbers.Given as goal
 
-pub record Going (out₀ : List ℕ) (from : ℕ) (row : List ℕ) (i-end : ℕ) (out : List ℕ) (at i : ℕ) : Type 0 where
-  pub before : i ≤ i-end
-  pub end : i-end ≡ length row
-  pub room : Between from i (21 * i) at
-  pub wrote : Wrote out₀ from (spaced (wholes (take i row))) out at
-
-abbrev pub invariant-loop-i : goal.invariant-loop-i
-invariant-loop-i l = Going l.initial.out l.from l.row l.i-end l.out l.at l.i
-
-abbrev pub decreases-loop-i : goal.decreases-loop-i
-decreases-loop-i l = l.i-end - l.i
+abbrev pub invariant-loop-n : goal.invariant-loop-n
+invariant-loop-n l = record {
+  room : Between l.from l.n-index (21 * l.n-index) l.at;
+  wrote : Wrote l.initial.out l.from (spaced (wholes (take l.n-index l.row))) l.out l.at;
+}
