@@ -18,24 +18,24 @@
      belfry_twice_julian_date        16         8
      belfry_hour_angle               16        16
      belfry_sidereal                 16        56
-     belfry_root                     16        24
+     belfry_root                     16        40
      belfry_sine_cosine              16         8
      belfry_book_passes              48        72
-     belfry_book_holds               80       120
-     belfry_position                 80       136
+     belfry_book_holds               80       136
+     belfry_position                 80       152
      belfry_repair                10336     10392
-     belfry_acceleration           1792      2176
-     belfry_run                    3840      5224
-     belfry_single_step            3840      5208
-     belfry_earth_fixed             224       152
-     belfry_from_sphere             368       312
-     belfry_conic                   120       248
-     belfry_pull                   1904      2208
-     belfry_inject                 1840      2144
-     belfry_move                   2016      2320
-     belfry_fly                    3376      4696
-     belfry_turn                     16       216
-     belfry_orbit                   128       248
+     belfry_acceleration           1792      2168
+     belfry_run                    3840      5112
+     belfry_single_step            3840      5096
+     belfry_earth_fixed             224       120
+     belfry_from_sphere             368       344
+     belfry_conic                   120       272
+     belfry_pull                   1904      2200
+     belfry_inject                 1840      2136
+     belfry_move                   2016      2312
+     belfry_fly                    3376      4632
+     belfry_turn                     16       120
+     belfry_orbit                   128       272
      belfry_clear                    16         8
      belfry_take                     16        56
      belfry_feed                    352        32
