@@ -1,6 +1,6 @@
 // Reads files in blocks, from any place. A file that does not allow this, such as a pipe, cannot be read twice.
 
-ghost use Rattle.std.specs.Prelude.{◌≤◌, length};
+ghost use Rattle.std.specs.Prelude.{◌≤◌, length, IfOk};
 
 use listing_read::inner::{judge_block, verdict};
 use listing_read::{Verdict, top};
@@ -11,19 +11,6 @@ use std::rt::Files;
 
 // A place past the end of every file.
 pub const END: u64 = 0x4000_0000_0000_0000;
-
-// The number of bytes read into a block: 0 at the end of the file, and if the reading failed.
-#[derive(Clone, Copy)]
-pub struct Got {
-    pub n: usize,
-    pub failed: Option<io::Error>,
-}
-
-#[derive(Clone, Copy)]
-pub enum Judged {
-    Is(Verdict),
-    Unread(io::Error),
-}
 
 // The error of a file with more bytes than can be read here.
 pub fn too_large() -> io::Error {
@@ -63,41 +50,28 @@ pub fn opened(rt: &(impl Files<File = File> + Eprint), name: &str) -> Option<Fil
     }
 }
 
-// A block from a place on.
-pub fn read_at(file: &File, block: &mut [u8], from: u64) -> Got
-    ensures { result.n ≤ length block.new }
+// Reads a block from a place on, and returns how many bytes are read: 0 at the end of the file.
+pub fn read_at(file: &File, block: &mut [u8], from: u64) -> io::Result<usize>
+    ensures { IfOk result (λ n. n ≤ length block.new) }
 {
     if END < from {
-        return Got {
-            n: 0,
-            failed: Some(too_large()),
-        };
+        return Err(too_large());
     }
-    match file.read_at(block, from) {
-        Ok(n) => Got { n, failed: None },
-        Err(e) => Got {
-            n: 0,
-            failed: Some(e),
-        },
-    }
+    file.read_at(block, from)
 }
 
 // The verdict on a file, block by block.
-pub fn judge(file: &File) -> Judged {
+pub fn judge(file: &File) -> io::Result<Verdict> {
     let mut buffer = [0u8; 65_536];
     let block: &mut [u8] = &mut buffer;
     let mut j = top();
     // Each turn passes as many bytes as the file gives, so there is no count to go over.
     while j.read <= END {
-        let got = read_at(file, block, j.read);
-        if let Some(e) = got.failed {
-            return Judged::Unread(e);
-        }
-        let n = got.n;
+        let n = read_at(file, block, j.read)?;
         if n == 0 {
-            return Judged::Is(verdict(j));
+            return Ok(verdict(j));
         }
         j = judge_block(j, &block[..n]);
     }
-    Judged::Unread(too_large())
+    Err(too_large())
 }

@@ -16,16 +16,14 @@ ghost use Rattle.base.specs.Choice.{if◌then◌otherwise◌, ◌<?◌};
 
 use compare_report::{Part, next_part};
 use compare_text::inner::{put_end, put_refusal};
-use files::Judged;
 use listing_read::Verdict;
 use std::fs::File;
 use std::io;
 use std::rt::Files;
 
-// The result of printing: whether anything was printed, or what could not be read or written.
+// What could not be read or written.
 #[derive(Clone, Copy)]
-pub enum Printed {
-    Done(bool),
+pub enum Failure {
     FirstUnread(io::Error),
     SecondUnread(io::Error),
     Unwritten(io::Error),
@@ -38,13 +36,13 @@ pub struct Listing<'a> {
     pub verdict: Verdict,
 }
 
-fn print_refusal(rt: &impl Print, first: u64, second: u64) -> Printed {
+fn print_refusal(rt: &impl Print, first: u64, second: u64) -> Result<(), Failure> {
     let mut line = [0u8; 512];
     let n = put_refusal(&mut line, 0, first, second);
     lines::print_bytes(rt, &line[..n])
 }
 
-fn print_end(rt: &impl Print, reported: bool, states: u64) -> Printed {
+fn print_end(rt: &impl Print, reported: bool, states: u64) -> Result<(), Failure> {
     let mut line = [0u8; 512];
     let n = put_end(&mut line, 0, reported, states);
     lines::print_bytes(rt, &line[..n])
@@ -60,71 +58,53 @@ pub fn any(reported: bool, written: usize) -> bool
     0 < written
 }
 
+// Whether that part printed anything.
 fn print_part(
     rt: &impl Print,
     part: Part,
     first: Listing<'_>,
     second: Listing<'_>,
     reported: bool,
-) -> Printed {
+) -> Result<bool, Failure> {
     match part {
         Part::Header => lines::print_lines(rt, part, first, second),
         Part::States => states::print_states(rt, first.file, second.file),
         Part::Outcome => lines::print_lines(rt, part, first, second),
-        Part::End => print_end(rt, reported, first.verdict.rows),
-        Part::Over => Printed::Done(false),
+        Part::End => {
+            print_end(rt, reported, first.verdict.rows)?;
+            Ok(true)
+        }
+        Part::Over => Ok(false),
     }
-}
-
-fn either(a: bool, b: bool) -> bool {
-    if a {
-        return true;
-    }
-    b
 }
 
 // The report on two listings of the form: its four parts, one after the other.
-fn print_report(rt: &impl Print, first: Listing<'_>, second: Listing<'_>) -> Printed {
+fn print_report(rt: &impl Print, first: Listing<'_>, second: Listing<'_>) -> Result<(), Failure> {
     let mut part = Part::Header;
     let mut reported = false;
     for _ in 0..4 {
-        let printed = print_part(rt, part, first, second, reported);
-        let Printed::Done(some) = printed else {
-            return printed;
-        };
-        reported = either(reported, some);
+        reported |= print_part(rt, part, first, second, reported)?;
         part = next_part(part);
     }
-    Printed::Done(reported)
-}
-
-fn listing_of(file: &File, v: Verdict) -> Listing<'_> {
-    Listing { file, verdict: v }
-}
-
-fn print_after(rt: &impl Print, first: Listing<'_>, other: &File) -> Printed {
-    match files::judge(other) {
-        Judged::Is(v) => {
-            if 0 < v.refusal {
-                return print_refusal(rt, 0, v.refusal);
-            }
-            print_report(rt, first, listing_of(other, v))
-        }
-        Judged::Unread(e) => Printed::SecondUnread(e),
-    }
+    Ok(())
 }
 
 // The first listing is checked to its end before the second is read.
-fn print_compared(rt: &impl Print, file: &File, other: &File) -> Printed {
-    match files::judge(file) {
-        Judged::Is(v) => {
-            if 0 < v.refusal {
-                return print_refusal(rt, v.refusal, 0);
-            }
-            print_after(rt, listing_of(file, v), other)
-        }
-        Judged::Unread(e) => Printed::FirstUnread(e),
+fn print_compared(rt: &impl Print, file: &File, other: &File) -> Result<(), Failure> {
+    let verdict = files::judge(file).map_err(Failure::FirstUnread)?;
+    if 0 < verdict.refusal {
+        return print_refusal(rt, verdict.refusal, 0);
     }
+    let first = Listing { file, verdict };
+    let verdict = files::judge(other).map_err(Failure::SecondUnread)?;
+    if 0 < verdict.refusal {
+        return print_refusal(rt, 0, verdict.refusal);
+    }
+    let second = Listing {
+        file: other,
+        verdict,
+    };
+    print_report(rt, first, second)
 }
 
 fn compare_files(rt: &(impl Files<File = File> + Print + Eprint), first: &str, second: &str) {
@@ -134,10 +114,10 @@ fn compare_files(rt: &(impl Files<File = File> + Print + Eprint), first: &str, s
         return;
     };
     match print_compared(rt, &file, &other) {
-        Printed::Done(_) => {}
-        Printed::FirstUnread(e) => files::tell_unread(rt, first, e),
-        Printed::SecondUnread(e) => files::tell_unread(rt, second, e),
-        Printed::Unwritten(e) => console::fail(rt, "compare: cannot write the report", e),
+        Ok(()) => {}
+        Err(Failure::FirstUnread(e)) => files::tell_unread(rt, first, e),
+        Err(Failure::SecondUnread(e)) => files::tell_unread(rt, second, e),
+        Err(Failure::Unwritten(e)) => console::fail(rt, "compare: cannot write the report", e),
     }
 }
 

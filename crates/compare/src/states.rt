@@ -1,10 +1,11 @@
 // The states of both listings, reported as they are read.
 
-ghost use Rattle.std.specs.Prelude.{◌≡◌, ◌≤◌, false, length};
+ghost use Rattle.std.specs.Prelude.{◌≡◌, ◌≤◌, false, length, IfOk};
 ghost use Rattle.compare_blocks.specs.Sides.{Shut};
 
 use crate::files::{read_at, too_large};
-use crate::{Printed, any};
+use crate::lines::print_bytes;
+use crate::{Failure, any};
 use compare_blocks::inner::portion;
 use compare_blocks::{go_on, opening};
 use std::fs::File;
@@ -16,24 +17,22 @@ struct Source<'a> {
     file: &'a File,
     read: u64,
     n: usize,
-    failed: Option<io::Error>,
 }
 
 // Reads the next block, if it is wanted.
-fn refilled<'a>(wanted: bool, s: Source<'a>, block: &mut [u8]) -> Source<'a>
+fn refilled<'a>(wanted: bool, s: Source<'a>, block: &mut [u8]) -> io::Result<Source<'a>>
     requires { s.n ≤ length block.old }
-    ensures { (result.n ≤ length block.new) × (wanted ≡ false → result.n ≡ s.entry.n) }
+    ensures { IfOk result (λ r. (r.n ≤ length block.new) × (wanted ≡ false → r.n ≡ s.entry.n)) }
 {
     if wanted {
-        let got = read_at(s.file, block, s.read);
-        return Source {
+        let n = read_at(s.file, block, s.read)?;
+        return Ok(Source {
             file: s.file,
-            read: s.read.wrapping_add(got.n as u64),
-            n: got.n,
-            failed: got.failed,
-        };
+            read: s.read.wrapping_add(n as u64),
+            n,
+        });
     }
-    s
+    Ok(s)
 }
 
 fn unread(file: &File) -> Source<'_>
@@ -43,13 +42,12 @@ fn unread(file: &File) -> Source<'_>
         file,
         read: 0,
         n: 0,
-        failed: None,
     }
 }
 
 // Portion after portion, with one more block whenever the report waits for one. The number of portions is a limit
 // that no report reaches. The loop needs one, because nothing else shows that a file ends.
-pub fn print_states(rt: &impl Print, file: &File, other: &File) -> Printed {
+pub fn print_states(rt: &impl Print, file: &File, other: &File) -> Result<bool, Failure> {
     let mut a = [0u8; 65_536];
     let mut b = [0u8; 65_536];
     let mut out = [0u8; 65_536];
@@ -63,24 +61,16 @@ pub fn print_states(rt: &impl Print, file: &File, other: &File) -> Printed {
         let m = two.n;
         let p = portion(&a[..n], &b[..m], first, second, &mut out);
         let written = p.written;
-        if let Err(e) = rt.write_all(&out[..written]) {
-            return Printed::Unwritten(e);
-        }
+        print_bytes(rt, &out[..written])?;
         reported = any(reported, written);
         let halt = p.halt;
         if halt.over {
-            return Printed::Done(reported);
+            return Ok(reported);
         }
-        one = refilled(halt.first, one, &mut a);
-        if let Some(e) = one.failed {
-            return Printed::FirstUnread(e);
-        }
-        two = refilled(halt.second, two, &mut b);
-        if let Some(e) = two.failed {
-            return Printed::SecondUnread(e);
-        }
+        one = refilled(halt.first, one, &mut a).map_err(Failure::FirstUnread)?;
+        two = refilled(halt.second, two, &mut b).map_err(Failure::SecondUnread)?;
         first = go_on(halt.first, p.first, one.n);
         second = go_on(halt.second, p.second, two.n);
     }
-    Printed::FirstUnread(too_large())
+    Err(Failure::FirstUnread(too_large()))
 }

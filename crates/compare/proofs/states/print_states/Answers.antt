@@ -7,6 +7,6 @@ pub loop-preserved : goal.loop-preserved
 loop-preserved g c = (
   search rules,
   search rules,
-  next_shut c.loop.a _ _ _ _ _ (search rules) c.portion-p.ensures.first_shut c.refilled-one.ensures.1 c.go_on-first.ensures,
-  next_shut c.loop.b _ _ _ _ _ (search rules) c.portion-p.ensures.second_shut c.refilled-two.ensures.1 c.go_on-second.ensures,
+  next_shut c.loop.a _ _ _ _ _ (search rules) c.portion-p.ensures.first_shut (search rules) c.go_on-first.ensures,
+  next_shut c.loop.b _ _ _ _ _ (search rules) c.portion-p.ensures.second_shut (search rules) c.go_on-second.ensures,
 )
