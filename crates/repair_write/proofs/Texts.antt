@@ -5,7 +5,7 @@ use mathlib.Core.Path.{◌≡◌, refl, sym, ap, ◌∙◌}
 use native.Mathlib.Nat.{add-zero, add_assoc}
 use native.Mathlib.Omega.{arith}
 use lib.ListN.{length, take, drop, length-append, length-drop, take-append-drop}
-use lib.Seq.{length-take-le, take_at, drop-append-add, drop-drop}
+use lib.Seq.{length-take-le, take_at, drop-append-add, drop-drop, paste}
 use borrow.Rule.Slice.PartMut.{put_mid}
 use mir.Syntax.{w32}
 use Rattle.std.specs.Int.{to_le_bytes}
@@ -42,6 +42,9 @@ joined d t u at next {e} {f} p q m h = q ∙ ap (λ (x : List ℕ). with_text x 
 
 pub part_length : (b : List ℕ) (at n : ℕ) → at + n ≤ length b → length (part b at n) ≡ n
 part_length b at n h = length-take-le n (drop at b) (omega (arith, length-drop at b))
+
+pub text_copied : (d b : List ℕ) (at from n : ℕ) → from + n ≤ length b → paste d at (drop from b) n ≡ with_text d at (part b from n)
+text_copied d b at from n h = ap (λ (k : ℕ). take at d ++ part b from n ++ drop (at + k) d) (sym (part_length b from n h))
 
 pub le32_length : (n : ℕ) → length (le32 n) ≡ 4
 unfolding le32

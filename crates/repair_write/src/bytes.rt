@@ -10,9 +10,12 @@ pub fn put_u32(out: &mut [u8], at: usize, n: u32)
     out[at..at + 4].copy_from_slice(&n.to_le_bytes());
 }
 
+// A byte at a time: with the slices' own copy the archive for C would need memmove from outside.
 pub fn copy(input: &[u8], from: usize, out: &mut [u8], at: usize, n: usize)
     requires { (from + n ≤ length input.now) × (at + n ≤ length out.old) }
     ensures { out.new ≡ with_text out.old at (part input.now from n) }
 {
-    out[at..at + n].copy_from_slice(&input[from..from + n]);
+    for k in 0..n {
+        out[at + k] = input[from + k];
+    }
 }
