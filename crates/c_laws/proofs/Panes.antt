@@ -8,7 +8,7 @@ use lib.Ieee.{Float}
 use Rattle.std.specs.Prelude.{Some}
 use Rattle.base.specs.Refusals.{number_of}
 use Rattle.base.specs.declared.Refusal.{Refusal}
-use Rattle.base.specs.Choice.{◌<?◌}
+use Rattle.base.specs.Choice.{◌<?◌, ◌=?◌}
 use Rattle.base.proofs.Cases.{by_if}
 use Rattle.state.specs.State.{finite_vector}
 use Rattle.state.specs.declared.State.{State}
@@ -26,8 +26,9 @@ use Rattle.pane_live.specs.declared.TakeAnswer.TheVariants as taken
 use Rattle.state.specs.declared.Vector.{Vector}
 use Rattle.pane_live.specs.declared.FrameAnswer.{FrameAnswer}
 use Rattle.c_run.specs.Lent.{setting_of, state_of, guesses_of, whole_in}
-use Rattle.c_run.specs.Answers.{outcome_number}
+use Rattle.c_run.specs.Answers.{going, outcome_number}
 use Rattle.c_pane.specs.Lent.{Kept, pane_of, numbers_in, places_in, pane_in, outcome_of, fed_with_outcome, fed_with, left}
+use Rattle.c_pane.proofs.Fed.{fed_with_number}
 use Rattle.belfry_pane.specs.Answers.{of_frame}
 use Rattle.c_laws.specs.Linked.{LinkedCall, as_call, linked_journey}
 use Rattle.c_laws.specs.Panes.{fed_in, taken_or18, fed_or18, frame_told}
@@ -136,6 +137,12 @@ module _ (before : Kept) where
   pub feed_told : (pane : Pane) (r : RunAnswer) → fed_or18 (left before (feed pane r)).returned ≡ true
   unfolding feed
   feed_told pane r = by_outcome r.outcome pane r.state
+
+  -- the same of every number that `belfry_feed` is given, also of one that no run returns
+  pub feed_number_told : (pane : Pane) (n : ℕ) (s : State) → fed_or18 (left before (fed_with pane n s)).returned ≡ true
+  feed_number_told pane n s =
+      let taken_told : feeding (take pane s) ≡ true = offered feeding pane s (λ next. refl) refl in
+      rw (fed_with_number pane n s) (by_if feeding (n =? 0) taken_told (by_if feeding (n =? going) taken_told refl))
 
 abbrev framing : FrameAnswer Vector → Bool
 framing answer = frame_told (of_frame answer).returned

@@ -9,12 +9,23 @@ use Rattle.base.specs.Refusals.{refusal_of}
 use Rattle.base.specs.declared.Refusal.{Refusal}
 use Rattle.run.specs.declared.Outcome.TheVariants as outcome
 use Rattle.pane_live.specs.declared.Pane.{Pane}
+use Rattle.pane_live.specs.declared.TakeAnswer.TheVariants as taken
 use Rattle.pane_live.specs.Pane as pane
 use Rattle.line_form.specs.Call.{These, Unreadable, call_of}
 use Rattle.line_values.specs.Values.{number, state_from}
 use Rattle.line_values.proofs.Taken.{number_taken, state_taken, guesses_taken}
 use Rattle.pane_lines.specs.Answers.{take_name, state_kinds, frame_name, frame_kinds, clear_name, arrived_name, going_name, run_kinds, refused_name, refused_kinds}
 use Rattle.pane_lines.specs.Answers.{run_from, told_taken, told_refused, told_frame, told_clear, told_unreadable, run_line, answer_to}
+
+-- "a refused run leaves the pane as it was": so does a line with any other number after REFUSED
+module _ (p : Pane) (v : List ℕ) where
+  refused_told : (k : Option Refusal) → told_refused p v k ≡ told_taken p taken.Unchanged
+  unfolding pane.feed
+  refused_told (Some k) = refl
+  refused_told None = refl
+
+  pub refused_line_unchanged : (n : ℕ) → told_refused p v (refusal_of n) ≡ told_taken p taken.Unchanged
+  refused_line_unchanged n = refused_told (refusal_of n)
 
 module _ (p : Pane) (line : List ℕ) (v : List ℕ) where
   pub takes : call_of line take_name state_kinds ≡ These (take 11 v) → answer_to p line ≡ told_taken p (pane.take p (state_from v 0))
