@@ -5,3 +5,4 @@ pub mod Bounds
 pub mod OneAnswer
 pub mod Cases
 pub mod Bools
+pub mod Finite

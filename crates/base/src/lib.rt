@@ -18,6 +18,7 @@ pub const CIRCLE: u64 = 3_600_000_000_000;
 pub const LONGEST_DUT: u32 = 100_000;
 
 // Whether x is a number: neither an infinity nor a NaN.
+#[tactic(auto, using(crate::proofs::Finite::same))]
 pub fn is_finite(x: f64) -> bool
     ensures { result ≡ finite x }
 {
