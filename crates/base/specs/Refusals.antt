@@ -25,6 +25,10 @@ number_of Short = 16
 number_of Large = 17
 number_of NotNext = 18
 
+-- a refusal where a refusal is asked for
+abbrev pub itself : Refusal → Refusal
+itself k = k
+
 -- and the refusal of a number, if there is one
 abbrev pub refusal_of : ℕ → Option Refusal
 refusal_of n =

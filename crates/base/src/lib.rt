@@ -2,9 +2,10 @@
 
 #![tactic(auto)]
 
-ghost use Rattle.std.specs.Prelude.{◌≡◌};
+ghost use Rattle.std.specs.Prelude.{◌≡◌, ℕ, refl};
 ghost use Rattle.std.specs.Float.Ieee.Scale.{finite};
-ghost use Rattle.base.specs.Refusals.{number_of, refusal_of};
+ghost use Rattle.base.specs.declared.Refusal.{Refusal};
+ghost use Rattle.base.specs.Refusals.{itself, number_of, refusal_of};
 ghost use Rattle.base.specs.Checks.{require};
 
 // Moments are whole milliseconds from 0 up to but not including this.
@@ -117,6 +118,54 @@ impl Refusal {
             Refusal::Large => 17,
             Refusal::NotNext => 18,
         }
+    }
+}
+
+// What a type may hold in place of a value: a refusal, or any number that stands for one.
+pub trait Reason: Copy {
+    ghost held: { Refusal → Self };
+
+    ghost told: { Self → ℕ };
+
+    fn held(refusal: Refusal) -> Self
+        ensures { result ≡ held refusal };
+
+    fn told(self) -> u64
+        ensures { result ≡ told self };
+
+    // A refusal is told by its number.
+    ghost keeps_number: { (refusal : Refusal) → told (held refusal) ≡ number_of refusal };
+}
+
+impl Reason for Refusal {
+    ghost held = { itself };
+
+    ghost told = { number_of };
+
+    ghost keeps_number = { λ refusal. refl };
+
+    fn held(refusal: Refusal) -> Refusal {
+        refusal
+    }
+
+    fn told(self) -> u64 {
+        self.number()
+    }
+}
+
+impl Reason for u64 {
+    ghost held = { number_of };
+
+    ghost told = { λ number. number };
+
+    ghost keeps_number = { λ refusal. refl };
+
+    fn held(refusal: Refusal) -> u64 {
+        refusal.number()
+    }
+
+    fn told(self) -> u64 {
+        self
     }
 }
 
