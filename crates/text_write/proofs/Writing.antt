@@ -2,11 +2,11 @@
 use Prim.Native.Nat.{ℕ, ◌+◌, ◌<◌, ◌≤◌, min}
 use mathlib.Core.List.{List, [], ◌∷◌, ◌++◌, append_assoc, append-nil}
 use mathlib.Core.Path.{◌≡◌, refl, sym, ap, ◌∙◌}
-use native.Mathlib.Nat.{add-zero}
+use native.Mathlib.Nat.{add_assoc, add-zero}
 use native.Mathlib.Numerals.{add-one}
 use native.Mathlib.Omega.{arith}
-use lib.ListN.{length, take, drop, set, length-append, length-take, take-append-drop}
-use lib.Seq.{take-suc-set, length-take-le, drop-drop, drop-set-lt}
+use lib.ListN.{length, take, drop, get_or, set, length-append, length-take, take-append-drop}
+use lib.Seq.{take-suc, take-suc-set, length-take-le, drop-drop, drop-set-lt}
 use Rattle.text_write.specs.Written.{Wrote}
 
 pub nothing : (out : List ℕ) (at : ℕ) → Wrote out at [] out at
@@ -28,6 +28,11 @@ both {a} {b} {c} {t} {u} {at} {m} {r} w v =
 -- one byte at a place inside the buffer
 pub byte : (out : List ℕ) (r b : ℕ) → r < length out → Wrote out r (b ∷ []) (set out r b) (r + 1)
 byte out r b h = record { next = refl; bytes = rw add-one (take-suc-set out r b h); rest = drop-set-lt (r + 1) out r b (omega arith) }
+
+-- the next byte of a word
+pub next_byte : (out₀ out word : List ℕ) (at i : ℕ) → Wrote out₀ at (take i word) out (at + i) → i < length word → at + i < length out
+    → Wrote out₀ at (take (i + 1) word) (set out (at + i) (get_or word i 0)) (at + (i + 1))
+next_byte out₀ out word at i w h g = rw (add-one i, take-suc word i 0 h, ← add-one i, ← add_assoc at i 1) (both w (byte out (at + i) (get_or word i 0) g))
 
 -- what was written lies inside the buffer
 pub inside : {before text after : List ℕ} {at r : ℕ} → Wrote before at text after r → at ≤ length before → r ≤ length after

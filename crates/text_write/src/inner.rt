@@ -13,9 +13,10 @@ pub fn put_bytes(out: &mut [u8], at: usize, word: &[u8]) -> usize
     requires { at + length word.now ≤ length out.old }
     ensures { Wrote out.old at word.now out.new result }
 {
-    let end = at + word.len();
-    out[at..end].copy_from_slice(word);
-    end
+    for i in 0..word.len() {
+        out[at + i] = word[i];
+    }
+    at + word.len()
 }
 
 // A letter is 39 higher than a digit would be. There is no branch, so that many digits are computed side by side.
