@@ -22,7 +22,7 @@ use Rattle.gravity_bodies.specs.declared.Sight.{Sight}
 
 -- ---- the three ways in which a body can be looked up
 
-pub data Looked (b : List ℕ) (number : ℕ) (m : Float) (for_light : Bool) (t : ℕ) : Sight → Type 0 where
+pub data Looked (b : List ℕ) (number : ℕ) (m : Float) (for_light : Bool) (t : ℕ) : Sight Refusal → Type 0 where
   unlooked : looked_up m for_light ≡ false → Looked b number m for_light t (blank m (Ok tt))
   refused : (k : Refusal) → looked_up m for_light ≡ true → stands b number t ≡ Err k → Looked b number m for_light t (blank m (Err k))
   there : (M : Motion) (i : ℕ) → looked_up m for_light ≡ true → stands b number t ≡ Ok M
@@ -37,7 +37,7 @@ unpulling m for_light = go (used m)
     go false e = refl
 
 -- the Earth is at zero; another body must be looked up
-unfoldable pub sight_of : List ℕ → ℕ → Listed → Sight
+unfoldable pub sight_of : List ℕ → ℕ → Listed → Sight Refusal
 sight_of b t body = if body.number =? 1 then blank body.m (Ok tt) otherwise found_of b body.number body.m body.for_light t
 
 module _ (b : List ℕ) (number : ℕ) (m : Float) (for_light : Bool) (t : ℕ) where
@@ -83,7 +83,7 @@ module _ (b : List ℕ) (number : ℕ) (m : Float) (for_light : Bool) (t : ℕ) 
       go false near = found near
 
   -- a body that is looked up is seen at its position
-  pub placed : looked_up m for_light ≡ true → (s : Sight) → Looked b number m for_light t s → s.place ≡ place_of (stands b number t)
+  pub placed : looked_up m for_light ≡ true → (s : Sight Refusal) → Looked b number m for_light t s → s.place ≡ place_of (stands b number t)
   placed u s (unlooked n) = let z : true ≡ false = sym u ∙ n in absurd (true≢false z)
   placed u s (refused k e f) = rw f
   placed u s (there M i e f) = rw f
@@ -92,17 +92,17 @@ module _ (b : List ℕ) (number : ℕ) (m : Float) (for_light : Bool) (t : ℕ) 
 pub used_looked : (m : Float) (for_light : Bool) → used m ≡ true → looked_up m for_light ≡ true
 used_looked m for_light u = rw u
 
-unfoldable pub sights_of : List ℕ → ℕ → List Listed → List Sight
+unfoldable pub sights_of : List ℕ → ℕ → List Listed → List (Sight Refusal)
 sights_of b t [] = []
 sights_of b t (body ∷ rest) = sight_of b t body ∷ sights_of b t rest
 
 -- ---- what follows if no body is refused
 
-abbrev pub AllClear : List Sight → Type 0
+abbrev pub AllClear : List (Sight Refusal) → Type 0
 AllClear [] = Unit {0}
 AllClear (s ∷ rest) = (s.checked ≡ Ok tt) × AllClear rest
 
-pub all_clear : (ss : List Sight) → all_checked ss ≡ Ok tt → AllClear ss
+pub all_clear : (ss : List (Sight Refusal)) → all_checked ss ≡ Ok tt → AllClear ss
 unfolding all_checked
 all_clear [] e = tt
 all_clear (s ∷ rest) e = let f = first_of s.checked (all_checked rest) tt e in (f.0, all_clear rest f.1)

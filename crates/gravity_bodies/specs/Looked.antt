@@ -1,6 +1,5 @@
 -- What the code keeps of the bodies looked up, seen from the Earth.
-use Rattle.std.specs.Prelude.{Bool, false, List, [], ◌∷◌, ℕ, Float, Option, Some, None, Ok, Err}
-use Rattle.base.specs.Checks.{Checked, ◌before◌}
+use Rattle.std.specs.Prelude.{Bool, false, List, [], ◌∷◌, ℕ, Float, Option, Some, None, Result, Ok, Err}
 use Rattle.base.specs.declared.Refusal.{Refusal}
 use Rattle.base.specs.Choice.{if◌then◌otherwise◌, ◌=?◌, ◌≤?◌}
 use Rattle.state.specs.State.{finite_vector, used, looked_up}
@@ -15,25 +14,34 @@ use Rattle.gravity_bodies.specs.declared.Sight.{Sight}
 use Rattle.gravity_bodies.specs.declared.Found.{Found}
 use Rattle.gravity_bodies.specs.declared.Besides.{Besides}
 
+-- checks before an answer, whatever their refusals are held as
+abbrev pub checked_as : {A R : Type 0} → Result (Unit {0}) R → A → (R → A) → A
+checked_as (Ok held) answer refused = answer
+checked_as (Err refusal) answer refused = refused refusal
+
+infixr 10 ◌ahead_of◌
+abbrev pub ◌ahead_of◌ : {A R : Type 0} → Result (Unit {0}) R → Result A R → Result A R
+checks ahead_of answer = checked_as checks answer Err
+
 -- a body of which nothing is known: unused, or refused
-abbrev pub blank : Float → Checked → Sight
+abbrev pub blank : {R : Type 0} → Float → Result (Unit {0}) R → Sight R
 blank m checked = record { checked = checked; entry = 0; m = m; place = nowhere }
 
 -- a body that entry i puts at p; it is refused if its position is not finite or its velocity is not (`slow` is false)
-abbrev pub found_at : Place → Bool → ℕ → Float → Sight
+abbrev pub found_at : Place → Bool → ℕ → Float → Sight Refusal
 found_at p slow i m =
     if finite_vector (standing p)
     then (if slow then record { checked = Ok tt; entry = i; m = m; place = standing p } otherwise blank m (Err Refusal.NotFinite))
     otherwise blank m (Err Refusal.NotFinite)
 
-abbrev pub found_by : List ℕ → Float → ℕ → Option ℕ → Sight
+abbrev pub found_by : List ℕ → Float → ℕ → Option ℕ → Sight Refusal
 found_by b m t None = blank m (Err Refusal.Cover)
 found_by b m t (Some i) = found_at (place b i t) (finite_velocity (velocity b i t)) i m
 
-unfoldable pub found_of : List ℕ → ℕ → Float → Bool → ℕ → Sight
+unfoldable pub found_of : List ℕ → ℕ → Float → Bool → ℕ → Sight Refusal
 found_of b number m for_light t = if looked_up m for_light then found_by b m t (lookup b number t) otherwise blank m (Ok tt)
 
-unfoldable pub found_in : List ℕ → Setting → ℕ → Found
+unfoldable pub found_in : List ℕ → Setting → ℕ → Found Refusal
 found_in b s t =
     record {
       moon = found_of b 2 s.moon false t;
@@ -44,7 +52,7 @@ found_in b s t =
     }
 
 -- the position of the centre, seen from the Earth
-unfoldable pub place_in : Found → ℕ → Vector
+unfoldable pub place_in : {R : Type 0} → Found R → ℕ → Vector
 place_in f centre =
     if centre =? 2 then f.moon.place otherwise
     if centre =? 3 then f.sun.place otherwise
@@ -53,7 +61,7 @@ place_in f centre =
     if centre =? 6 then f.jupiter.place otherwise nowhere
 
 -- the five bodies other than the centre, in rising number
-unfoldable pub besides : ℕ → Sight → Found → Besides
+unfoldable pub besides : {R : Type 0} → ℕ → Sight R → Found R → Besides R
 besides centre earth f =
     record {
       first = if centre ≤? 1 then f.moon otherwise earth;
@@ -64,11 +72,11 @@ besides centre earth f =
     }
 
 -- the first refusal in rising number, if there is one
-unfoldable pub all_checked : List Sight → Checked
+unfoldable pub all_checked : {R : Type 0} → List (Sight R) → Result (Unit {0}) R
 all_checked [] = Ok tt
-all_checked (b ∷ rest) = b.checked before all_checked rest
+all_checked (b ∷ rest) = b.checked ahead_of all_checked rest
 
-unfoldable pub all_found : Found → Checked
+unfoldable pub all_found : {R : Type 0} → Found R → Result (Unit {0}) R
 all_found f = all_checked (f.moon ∷ f.sun ∷ f.venus ∷ f.mars ∷ f.jupiter ∷ [])
 
 -- the entry found, or the guess that was given

@@ -11,10 +11,11 @@ ghost use Rattle.gravity_bodies.specs.Looked.{blank, all_found, place_in, beside
 use base::Refusal;
 use state::Vector;
 
-// One body looked up at a moment: whether it was refused, and its position seen from the Earth.
+// One body looked up at a moment: whether it was refused, and its position seen from the Earth. A refusal is held as
+// an R, which may be any number.
 #[derive(Clone, Copy)]
-pub struct Sight {
-    pub checked: Result<(), Refusal>,
+pub struct Sight<R = Refusal> {
+    pub checked: Result<(), R>,
     pub entry: usize,
     pub m: f64,
     pub place: Vector,
@@ -28,26 +29,26 @@ pub struct TwoSights {
 }
 
 #[derive(Clone, Copy)]
-pub struct Found {
-    pub moon: Sight,
-    pub sun: Sight,
-    pub venus: Sight,
-    pub mars: Sight,
-    pub jupiter: Sight,
+pub struct Found<R = Refusal> {
+    pub moon: Sight<R>,
+    pub sun: Sight<R>,
+    pub venus: Sight<R>,
+    pub mars: Sight<R>,
+    pub jupiter: Sight<R>,
 }
 
 // (02, R-6) The five bodies other than the centre, in rising number.
 #[derive(Clone, Copy)]
-pub struct Besides {
-    pub first: Sight,
-    pub second: Sight,
-    pub third: Sight,
-    pub fourth: Sight,
-    pub fifth: Sight,
+pub struct Besides<R = Refusal> {
+    pub first: Sight<R>,
+    pub second: Sight<R>,
+    pub third: Sight<R>,
+    pub fourth: Sight<R>,
+    pub fifth: Sight<R>,
 }
 
 // A body about which nothing is known; and the Earth, whose position is zero.
-pub fn blank_sight(m: f64, checked: Result<(), Refusal>) -> Sight
+pub fn blank_sight<R: Copy>(m: f64, checked: Result<(), R>) -> Sight<R>
     ensures { result ≡ blank m checked }
 {
     let place = Vector {
@@ -65,7 +66,7 @@ pub fn blank_sight(m: f64, checked: Result<(), Refusal>) -> Sight
 
 // The refusal of the first body that is refused.
 #[tactic(auto, unfolding(crate::specs::Looked::all_found, crate::specs::Looked::all_checked))]
-pub fn all_found(bodies: Found) -> Result<(), Refusal>
+pub fn all_found<R: Copy>(bodies: Found<R>) -> Result<(), R>
     ensures { result ≡ all_found bodies }
 {
     bodies.moon.checked?;
@@ -76,7 +77,7 @@ pub fn all_found(bodies: Found) -> Result<(), Refusal>
 }
 
 // The position of the centre, seen from the Earth.
-pub fn centre_place(centre: u64, bodies: Found) -> Vector
+pub fn centre_place<R: Copy>(centre: u64, bodies: Found<R>) -> Vector
     ensures { result ≡ place_in bodies centre }
 {
     let moon = bodies.moon;
@@ -98,14 +99,14 @@ pub fn centre_place(centre: u64, bodies: Found) -> Vector
     }
 }
 
-fn either(a: bool, x: Sight, y: Sight) -> Sight
+fn either<R: Copy>(a: bool, x: Sight<R>, y: Sight<R>) -> Sight<R>
     ensures { result ≡ (if a then x otherwise y) }
 {
     if a { x } else { y }
 }
 
 // The bodies other than the centre, in rising number.
-pub fn beside(centre: u64, earth: Sight, bodies: Found) -> Besides
+pub fn beside<R: Copy>(centre: u64, earth: Sight<R>, bodies: Found<R>) -> Besides<R>
     ensures { result ≡ besides centre earth bodies }
 {
     let moon = bodies.moon;

@@ -4,4 +4,4 @@ use Rattle.gravity_bodies.proofs.beside.Goals as goal
 
 pub returns : goal.returns
 unfolding besides
-returns c = rw (c.either-fifth.ensures, c.either-fourth.ensures, c.either-third.ensures, c.either-second.ensures, c.either-first.ensures)
+returns g c = rw (c.either-fifth.ensures, c.either-fourth.ensures, c.either-third.ensures, c.either-second.ensures, c.either-first.ensures)

@@ -5,24 +5,24 @@ use Rattle.gravity_bodies.proofs.centre_place.Goals as goal
 
 pub returns-in-2 : goal.returns-in-2
 unfolding place_in
-returns-in-2 c = rw c.in-2.is
+returns-in-2 g c = rw c.in-2.is
 
 pub returns-in-3 : goal.returns-in-3
 unfolding place_in
-returns-in-3 c = rw c.in-3.is
+returns-in-3 g c = rw c.in-3.is
 
 pub returns-in-4 : goal.returns-in-4
 unfolding place_in
-returns-in-4 c = rw c.in-4.is
+returns-in-4 g c = rw c.in-4.is
 
 pub returns-in-5 : goal.returns-in-5
 unfolding place_in
-returns-in-5 c = rw c.in-5.is
+returns-in-5 g c = rw c.in-5.is
 
 pub returns-in-6 : goal.returns-in-6
 unfolding place_in
-returns-in-6 c = rw c.in-6.is
+returns-in-6 g c = rw c.in-6.is
 
 pub returns-in_default : goal.returns-in_default
 unfolding place_in
-returns-in_default c = let r = c.in_default.in_default-own.rest in rw (ne_eqb _ _ r.0.0.0.0.1, ne_eqb _ _ r.0.0.0.1, ne_eqb _ _ r.0.0.1, ne_eqb _ _ r.0.1, ne_eqb _ _ r.1)
+returns-in_default g c = let r = c.in_default.in_default-own.rest in rw (ne_eqb _ _ r.0.0.0.0.1, ne_eqb _ _ r.0.0.0.1, ne_eqb _ _ r.0.0.1, ne_eqb _ _ r.0.1, ne_eqb _ _ r.1)
