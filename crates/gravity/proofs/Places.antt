@@ -3,6 +3,7 @@ use mathlib.Core.Bool.{Bool, true, false, ◌||◌, true≢false}
 use mathlib.Core.List.{List}
 use mathlib.Core.Path.{◌≡◌, refl, sym, ap, ◌∙◌}
 use lib.Ieee.{Float}
+use Rattle.base.specs.declared.Refusal.{Refusal}
 use Rattle.base.specs.Choice.{if◌then◌otherwise◌}
 use Rattle.root.specs.Root.{root_of}
 use Rattle.state.specs.State.{n, used}
@@ -33,7 +34,7 @@ module _ (R : Vector) (m : Float) (by : Pull) where
   no_root P b root e not-used = λ u. absurd (true≢false (sym u ∙ ap used (ap (λ (b : Other). b.m) e ∙ m_of) ∙ not-used))
 
 -- a body with its pull on the centre, or without it if it is not used, is the one that is seen
-module _ (C : Vector) (s : Sight) (R : Vector) (by : Pull) (b : Other) where
+module _ (C : Vector) (s : Sight Refusal) (R : Vector) (by : Pull) (b : Other) where
   pub other_is : b ≡ other_by R s.m by → R ≡ minus s.place C → by ≡ pull_of R s.m → b ≡ other_of C s
   unfolding other_of
   other_is e r p = e ∙ ap (other_by R s.m) p ∙ ap (λ (Q : Vector). other_by Q s.m (pull_of Q s.m)) r

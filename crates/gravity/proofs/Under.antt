@@ -7,8 +7,9 @@ use lib.Dec.{eqb-suc-zero}
 use borrow.Author.Tests.{ne_eqb}
 use native.Mathlib.Omega.{arith}
 use Rattle.std.specs.Prelude.{Ok, Err}
-use Rattle.base.specs.Checks.{Checked, ◌before◌}
+use Rattle.base.specs.Checks.{Checked}
 use Rattle.base.specs.declared.Refusal.{Refusal}
+use Rattle.base.specs.Refusals as refusals
 use Rattle.base.specs.Choice.{if◌then◌otherwise◌, ◌=?◌}
 use Rattle.state.specs.State.{used, coefficient_of, centre_allowed}
 use Rattle.state.specs.declared.Vector.{Vector}
@@ -21,36 +22,36 @@ use Rattle.gravity_terms.specs.Added.{oblate_by, sunlit_by}
 use Rattle.gravity_pull.specs.declared.Pull.{Pull}
 use Rattle.gravity_pull.specs.declared.Other.{Other}
 use Rattle.gravity_bodies.specs.Sky.{Sky, Listed, bodies_of, standing, nowhere, stands, place_of, seen, sky_of, sky}
-use Rattle.gravity_bodies.specs.Looked.{found_of, found_in, place_in, besides, all_checked, all_found}
+use Rattle.gravity_bodies.specs.Looked.{found_of, found_in, place_in, besides, ◌ahead_of◌, all_checked, all_found}
 use Rattle.gravity_bodies.specs.declared.Sight.{Sight}
 use Rattle.gravity_bodies.proofs.Looked.{Looked, unlooked, refused, there, unpulling, sight_of, sights_of, found, looked, placed, used_looked}
 pub use Rattle.gravity_bodies.proofs.Looked.{all_clear, seen_entry}
 use Rattle.gravity.specs.Acceleration.{others, less, all_sound, settled, acceleration_at}
 use Rattle.gravity.proofs.SoFar.{from_centre, finished, whole_rule}
-use Rattle.gravity.specs.Sight.{other_of, others_of, sights, listed, settled_by, finished_by, acceleration_by}
+use Rattle.gravity.specs.Sight.{other_of, others_of, sights, listed, settled_by, settled_for, finished_by, acceleration_by, acceleration_for}
 use Rattle.gravity.proofs.Centres.{One, one, two, three, four, five, six, centre_one}
 use Rattle.gravity.specs.declared.Sights.{Sights}
 
 -- ---- by the refusal: none, or some
 
-module _ (s : Sights) (setting : Setting) (P : Vector) where
+module _ {R : Type 0} (held : Refusal → R) (s : Sights R) (setting : Setting) (P : Vector) where
   pub clear : s.checked ≡ Ok tt
-      → acceleration_by s setting P ≡ settled_by (sunlit_by setting s.sun P (oblate_by setting s.home P (less_all P (start_by P s.own) (listed s.others))))
-  unfolding acceleration_by
+      → acceleration_for held s setting P ≡ settled_for held (sunlit_by setting s.sun P (oblate_by setting s.home P (less_all P (start_by P s.own) (listed s.others))))
+  unfolding acceleration_for
   clear e = rw e
 
-  pub refuses : (k : Refusal) → s.checked ≡ Err k → acceleration_by s setting P ≡ Err k
-  unfolding acceleration_by
+  pub refuses : (k : R) → s.checked ≡ Err k → acceleration_for held s setting P ≡ Err k
+  unfolding acceleration_for
   refuses k h = rw h
 
 -- ---- body by body
 
-less_used : (P : Vector) (sum : Pull) (C : Vector) (s : Sight) → used s.m ≡ true
+less_used : (P : Vector) (sum : Pull) (C : Vector) (s : Sight Refusal) → used s.m ≡ true
     → less_by P sum (other_of C s) ≡ taken_off sum (pull_of (minus P (minus s.place C)) s.m) (pull_of (minus s.place C) s.m)
 unfolding less_by other_of
 less_used P sum C s u = rw (u, u)
 
-less_unused : (P : Vector) (sum : Pull) (C : Vector) (s : Sight) → used s.m ≡ false → less_by P sum (other_of C s) ≡ sum
+less_unused : (P : Vector) (sum : Pull) (C : Vector) (s : Sight Refusal) → used s.m ≡ false → less_by P sum (other_of C s) ≡ sum
 unfolding less_by other_of
 less_unused P sum C s u = rw (u, u)
 
@@ -105,16 +106,16 @@ module _ (b : List ℕ) (st : Setting) (t : ℕ) (P home sun : Vector) (centre :
 
   -- a body and those after it, if those after it are known to agree
   module _ (body : Listed) (rest : List Listed) (later : (s : Pull) → Agree rest s) where
-    skipped : (sum : Pull) (s : Sight) → used s.m ≡ false
+    skipped : (sum : Pull) (s : Sight Refusal) → used s.m ≡ false
         → finished_by st home sun P sum (all_checked (sights_of b t rest)) (other_of C s ∷ others_by b t centre C rest)
         ≡ finished st (minus P home) (minus P sun) P sum.sound (vector_of sum) (from_centre centre C (sky_of b t rest))
     unfolding Agree
     skipped sum s u =
         ap (λ (p : Pull). finished_by st home sun P p (all_checked (sights_of b t rest)) (others_by b t centre C rest)) (less_unused P sum C s u) ∙ later sum
 
-    one_more : (near pulls : Bool) → (body.number =? centre) ≡ near → used body.m ≡ pulls → (sum : Pull) (s : Sight)
+    one_more : (near pulls : Bool) → (body.number =? centre) ≡ near → used body.m ≡ pulls → (sum : Pull) (s : Sight Refusal)
         → Looked b body.number body.m body.for_light t s
-        → finished_by st home sun P sum (s.checked before all_checked (sights_of b t rest))
+        → finished_by st home sun P sum (s.checked ahead_of all_checked (sights_of b t rest))
         (if near then others_by b t centre C rest otherwise other_of C s ∷ others_by b t centre C rest)
         ≡ finished st (minus P home) (minus P sun) P sum.sound (vector_of sum) (from_centre centre C (sky_of b t (body ∷ rest)))
     unfolding Agree pull_of
@@ -184,7 +185,7 @@ module _ (b : List ℕ) (s : Setting) (t : ℕ) (P : Vector) where
       ∙ whole_rule s c (place_of (stands b c t)) sun P sky
 
   pub under_is : (c : ℕ) → centre_allowed s c ≡ true → acceleration_by (sights b s c t) s P ≡ acceleration_at b s c t P
-  unfolding acceleration_by sights acceleration_at sky sights_of others_by sight_of all_found found_in besides others_of place_in coefficient_of centre_allowed all_checked sun_at
+  unfolding acceleration_for sights acceleration_at sky sights_of others_by sight_of all_found found_in besides others_of place_in coefficient_of centre_allowed all_checked sun_at
   under_is c ok = go c (centre_one s c ok) ok
     where
       go : (c : ℕ) → One c → centre_allowed s c ≡ true → acceleration_by (sights b s c t) s P ≡ acceleration_at b s c t P
@@ -197,10 +198,10 @@ module _ (b : List ℕ) (s : Setting) (t : ℕ) (P : Vector) where
 
 -- ---- what follows for the bodies if an acceleration is accepted
 
-pub is_clear : (s : Sights) (setting : Setting) (P a : Vector) → acceleration_by s setting P ≡ Ok a → s.checked ≡ Ok tt
-unfolding acceleration_by
+pub is_clear : (s : Sights Refusal) (setting : Setting) (P a : Vector) → acceleration_by s setting P ≡ Ok a → s.checked ≡ Ok tt
+unfolding acceleration_for
 is_clear s setting P a e = go s.checked refl
   where
     go : (c : Checked) → s.checked ≡ c → c ≡ Ok tt
     go (Ok tt) r = refl
-    go (Err k) r = let no = refuses s setting P k r in cc
+    go (Err k) r = let no = refuses refusals.itself s setting P k r in cc

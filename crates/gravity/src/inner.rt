@@ -16,12 +16,12 @@ ghost use Rattle.gravity.specs.Sight.{
   RootsAt,
   entries_of,
   sights,
-  settled_by,
-  acceleration_by,
+  settled_for,
+  acceleration_for,
 };
 
 use crate::{Guesses, LastSeen, Others, OthersSeen, Seen, Sights};
-use base::Refusal;
+use base::{Reason, Refusal};
 use gravity_bodies::inner::{found, found_two};
 use gravity_bodies::{Besides, Found, all_found, beside, blank_sight, centre_place};
 pub use gravity_pull::pulls::difference;
@@ -225,8 +225,8 @@ pub fn seen_at(
     }
 }
 
-fn settle(sum: Pull) -> Result<Vector, Refusal>
-    ensures { result ≡ settled_by sum }
+fn settle<R: Reason>(sum: Pull) -> Result<Vector, R>
+    ensures { result ≡ settled_for R.held sum }
 {
     let a = Vector {
         x: sum.x,
@@ -238,19 +238,19 @@ fn settle(sum: Pull) -> Result<Vector, Refusal>
             return Ok(a);
         }
     }
-    Err(Refusal::NotFinite)
+    Err(R::held(Refusal::NotFinite))
 }
 
 // The acceleration at p, if the roots for that position are known.
-#[tactic(auto, unfolding(crate::specs::Sight::acceleration_by))]
-pub fn acceleration_by(
-    bodies: Sights,
+#[tactic(auto, unfolding(crate::specs::Sight::acceleration_for))]
+pub fn acceleration_by<R: Reason>(
+    bodies: Sights<R>,
     setting: Setting,
     p: Vector,
     roots: CraftRoots,
-) -> Result<Vector, Refusal>
+) -> Result<Vector, R>
     requires { RootsAt p bodies.others roots }
-    ensures { result ≡ acceleration_by bodies setting p }
+    ensures { result ≡ acceleration_for R.held bodies setting p }
 {
     bodies.checked?;
     let others = bodies.others;
@@ -272,11 +272,15 @@ pub fn acceleration_by(
 
 // The same without known roots. All roots are computed side by side: three, or six if one of the last three bodies is
 // used.
-#[tactic(auto, unfolding(crate::specs::Sight::acceleration_by))]
-pub fn acceleration_under(bodies: Sights, setting: Setting, p: Vector) -> Result<Vector, Refusal>
-    ensures { result ≡ acceleration_by bodies setting p }
+#[tactic(auto, unfolding(crate::specs::Sight::acceleration_for))]
+pub fn acceleration_under<R: Reason>(
+    bodies: Sights<R>,
+    setting: Setting,
+    p: Vector,
+) -> Result<Vector, R>
+    ensures { result ≡ acceleration_for R.held bodies setting p }
 {
-    bodies.checked?;
+    bodies.checked?; // before any root is computed
     let others = bodies.others;
     let first = others.first;
     let second = others.second;

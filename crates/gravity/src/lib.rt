@@ -36,10 +36,10 @@ pub struct Guesses {
 
 // What is kept for a moment about a centre: the refusal of the first body that is refused, the entries found, and
 // the coefficient of the centre. Also the positions of the Earth and the Sun, seen from the centre (02, R-7), and the
-// other bodies.
+// other bodies. The refusal is held as an R, which may be any number.
 #[derive(Clone, Copy)]
-pub struct Sights {
-    pub checked: Result<(), Refusal>,
+pub struct Sights<R = Refusal> {
+    pub checked: Result<(), R>,
     pub entries: Guesses,
     pub own: f64,
     pub home: Vector,

@@ -4,7 +4,7 @@ use Rattle.gravity.proofs.Under.{clear}
 use Rattle.gravity.proofs.inner.acceleration_by.Goals as goal
 
 pub returns : goal.returns
-returns c = let x = c.args in
+returns g c = let x = c.args in
     rw (
       c.settle.ensures,
       c.sunlit_sum.ensures,
@@ -14,4 +14,4 @@ returns c = let x = c.args in
       c.less_by-with_third.ensures,
       c.near_sum_by-near.ensures,
     )
-    (sym (clear x.bodies x.setting x.p c.in_ok-bodies.was))
+    (sym (clear _ x.bodies x.setting x.p c.in_ok-bodies.was))
