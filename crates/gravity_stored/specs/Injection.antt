@@ -16,7 +16,7 @@ abbrev pub rule_at : List ℕ → Setting → Injection → Result Vector Refusa
 rule_at b setting i = acceleration_at b setting i.centre i.moment (starting_position i)
 
 -- the state that the rule makes from an injection, or the rule's own 6 or 7
-abbrev pub kept_by : Injection → Result Vector Refusal → Result State Refusal
+abbrev pub kept_by : {R : Type 0} → Injection → Result Vector R → Result State R
 kept_by i (Ok a) = Ok (carrying i a)
 kept_by i (Err k) = Err k
 

@@ -4,25 +4,25 @@
 ghost use Rattle.std.specs.Prelude.{true, ◌≡◌};
 ghost use Rattle.state.specs.State.{starting_position, centre_allowed};
 ghost use Rattle.book.specs.Passes.{passes};
-ghost use Rattle.gravity.specs.Sight.{acceleration_by};
+ghost use Rattle.gravity.specs.Sight.{acceleration_for};
 ghost use Rattle.gravity_stored.specs.Injection.{kept_by, kept, stored_check_by, stored_check};
 
-use base::{Refusal, require};
+use base::{Reason, Refusal, require};
 use gravity::Sights;
 use gravity::inner::{acceleration_under, rule};
 use state::{
     Injection, Setting, State, Vector, acceleration_of, carrying, position_of, starting_position,
 };
 
-fn keep(i: Injection, answer: Result<Vector, Refusal>) -> Result<State, Refusal>
+fn keep<R: Reason>(i: Injection, answer: Result<Vector, R>) -> Result<State, R>
     ensures { result ≡ kept_by i answer }
 {
     Ok(carrying(i, answer?))
 }
 
 // The bodies at its moment are known already.
-pub fn kept_under(bodies: Sights, setting: Setting, i: Injection) -> Result<State, Refusal>
-    ensures { result ≡ kept_by i (acceleration_by bodies setting (starting_position i)) }
+pub fn kept_under<R: Reason>(bodies: Sights<R>, setting: Setting, i: Injection) -> Result<State, R>
+    ensures { result ≡ kept_by i (acceleration_for R.held bodies setting (starting_position i)) }
 {
     let answer = acceleration_under(bodies, setting, starting_position(i));
     keep(i, answer)

@@ -4,26 +4,26 @@
 ghost use Rattle.std.specs.Prelude.{◌≡◌, ◌<◌};
 ghost use Rattle.base.specs.Limits.{end_of_time};
 ghost use Rattle.state.specs.State.{acceleration};
-ghost use Rattle.step_end.specs.Arrival.{arrive, lastly};
-ghost use Rattle.step_end.specs.Kept.{kept, keeping_under};
+ghost use Rattle.step_end.specs.Arrival.{arrive_for, lastly_for};
+ghost use Rattle.step_end.specs.Kept.{kept, keeping_for};
 
 use crate::Stepped;
-use base::Refusal;
+use base::{Reason, Refusal};
 use gravity::{Guesses, Sights};
 use gravity_stored::inner::kept_under;
 use state::{Injection, Setting, State, Vector};
 use step_sums::{half_of, seconds, sixth_of, toward, weigh_all};
 
 // The new state, with its own acceleration by the bodies at its moment.
-fn arrived(
+fn arrived<R: Reason>(
     setting: Setting,
-    bodies: Sights,
+    bodies: Sights<R>,
     moment: u64,
     centre: u64,
     p: Vector,
     v: Vector,
-) -> Result<Stepped, Refusal>
-    ensures { result ≡ kept bodies.entries (arrive (keeping_under bodies setting) moment centre p v) }
+) -> Result<Stepped, R>
+    ensures { result ≡ kept bodies.entries (arrive_for R.held (keeping_for R.held bodies setting) moment centre p v) }
 {
     if state::vector_is_finite(p) {
         if state::vector_is_finite(v) {
@@ -42,21 +42,21 @@ fn arrived(
             return Ok(Stepped { state, entries });
         }
     }
-    Err(Refusal::NotFinite)
+    Err(R::held(Refusal::NotFinite))
 }
 
 // The weighted sum of the slopes of the four stages.
-pub fn finish(
+pub fn finish<R: Reason>(
     setting: Setting,
     s: State,
     h: u32,
-    bodies: Sights,
+    bodies: Sights<R>,
     a2: Vector,
     a3: Vector,
     a4: Vector,
-) -> Result<Stepped, Refusal>
+) -> Result<Stepped, R>
     requires { s.moment < end_of_time }
-    ensures { result ≡ kept bodies.entries (lastly (keeping_under bodies setting) h s (acceleration s) a2 a3 a4) }
+    ensures { result ≡ kept bodies.entries (lastly_for R.held (keeping_for R.held bodies setting) h s (acceleration s) a2 a3 a4) }
 {
     let half = half_of(h);
     let sixth = sixth_of(h);
