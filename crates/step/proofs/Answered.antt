@@ -23,11 +23,11 @@ use Rattle.step.specs.Entries.{entries_after}
 use Rattle.step_end.specs.declared.Stepped.{Stepped}
 
 -- p is the stage's position P, bodies the bodies at its moment, r what the acceleration under them answered
-pub answered : (b : List ℕ) (s : Setting) (c : ℕ) → centre_allowed s c ≡ true → (t : ℕ) (P p : Vector) (bodies : Sights) (r x : Result Vector Refusal)
+pub answered : (b : List ℕ) (s : Setting) (c : ℕ) → centre_allowed s c ≡ true → (t : ℕ) (P p : Vector) (bodies : Sights Refusal) (r x : Result Vector Refusal)
     → p ≡ P → bodies ≡ sights b s c t → r ≡ acceleration_by bodies s p → r ≡ x → acceleration_at b s c t P ≡ x
 answered b s c ok t P p bodies r x place seen by is =
     sym (under_is b s t P c ok)
-    ∙ ap (λ (k : Sights). acceleration_by k s P) (sym seen)
+    ∙ ap (λ (k : Sights Refusal). acceleration_by k s P) (sym seen)
     ∙ ap (acceleration_by bodies s) (sym place)
     ∙ sym by
     ∙ is
@@ -41,14 +41,14 @@ pub leaves : (q : Result Vector Refusal) (k : Refusal) (next : Vector → Moved)
 leaves q k next entries e = sym (ap (λ (x : Result Vector Refusal). kept entries (and_then x next)) e)
 
 -- the new state's acceleration under the bodies known at its moment is document 02's
-ended : (b : List ℕ) (s : Setting) (c : ℕ) → centre_allowed s c ≡ true → (t : ℕ) (bodies : Sights) → bodies ≡ sights b s c t
+ended : (b : List ℕ) (s : Setting) (c : ℕ) → centre_allowed s c ≡ true → (t : ℕ) (bodies : Sights Refusal) → bodies ≡ sights b s c t
     → (p v : Vector) → kept bodies.entries (arrive (keeping_under bodies s) t c p v) ≡ kept (sights b s c t).entries (arrive (keeping (acceleration_at b s c)) t c p v)
 ended b s c ok t bodies seen p v =
-    ap (λ (k : Sights). kept k.entries (arrive (keeping_under k s) t c p v)) seen
+    ap (λ (k : Sights Refusal). kept k.entries (arrive (keeping_under k s) t c p v)) seen
     ∙ ap (λ (q : Result Vector Refusal). kept (sights b s c t).entries (if finite_vector p && finite_vector v then kept_by (injection_at t c p v) q otherwise Err Refusal.NotFinite))
     (under_is b s t p c ok)
 
-pub ended_lastly : (b : List ℕ) (setting : Setting) (s : State) → centre_allowed setting s.centre ≡ true → (h : ℕ) (bodies : Sights)
+pub ended_lastly : (b : List ℕ) (setting : Setting) (s : State) → centre_allowed setting s.centre ≡ true → (h : ℕ) (bodies : Sights Refusal)
     → bodies ≡ sights b setting s.centre (s.moment + h) → (a1 a2 a3 a4 : Vector)
     → kept bodies.entries (lastly (keeping_under bodies setting) h s a1 a2 a3 a4)
     ≡ kept (entries_after b setting h s) (lastly (keeping (acceleration_at b setting s.centre)) h s a1 a2 a3 a4)
