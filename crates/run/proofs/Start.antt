@@ -28,7 +28,7 @@ may_walk b setting s h target e =
 
 -- past the end of time the target does not matter
 module _ (b : List ℕ) (setting : Setting) (s : State) (given : Guesses) where
-  answer_by : Checked → Reached → RunAnswer
+  answer_by : Checked → Reached → RunAnswer Refusal
   answer_by checks r = checked checks (with_guesses b setting given r) (λ k. refused_at_once k s given)
 
   same_late : (p q c f1 f2 : Bool) (k1 k2 : Checked) (r1 r2 : Reached)

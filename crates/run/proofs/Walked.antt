@@ -80,7 +80,7 @@ module _ (b : List ℕ) (setting : Setting) (start : State) (h target budget : �
     pub walk_in : target < end_of_time → MayStep setting now
     walk_in e = (let r = w.reach in omega arith, w.centred)
 
-    pub walk_ends : (o : Outcome) → run_to (step b setting h) target (budget - n) now ≡ ended o now
+    pub walk_ends : (o : Outcome Refusal) → run_to (step b setting h) target (budget - n) now ≡ ended o now
         → handed_back o n now guesses ≡ with_guesses b setting given (run_to (step b setting h) target budget start)
     walk_ends o e =
         sym

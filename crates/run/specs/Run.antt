@@ -17,11 +17,11 @@ use Rattle.run.specs.declared.RunAnswer.{RunAnswer}
 
 -- the result of a run: its outcome, the steps done and the state reached
 pub record Reached : Type 0 where
-  pub outcome : Outcome
+  pub outcome : Outcome Refusal
   pub steps : ℕ
   pub state : State
 
-abbrev pub ended : Outcome → State → Reached
+abbrev pub ended : Outcome Refusal → State → Reached
 ended o s = record { outcome = o; steps = 0; state = s }
 
 abbrev pub counted : Reached → Reached
@@ -59,22 +59,22 @@ abbrev pub guesses_after : List ℕ → Setting → ℕ → ℕ → Guesses → 
 guesses_after b s n t given = if n =? 0 then given otherwise guesses_at b s t given
 
 -- "answers arrived, going or refused with the number of steps done"
-abbrev pub handed_back : Outcome → ℕ → State → Guesses → RunAnswer
+abbrev pub handed_back : Outcome Refusal → ℕ → State → Guesses → RunAnswer Refusal
 handed_back outcome steps state guesses = record { outcome = outcome; steps = steps; state = state; guesses = guesses }
 
-abbrev pub with_guesses : List ℕ → Setting → Guesses → Reached → RunAnswer
+abbrev pub with_guesses : List ℕ → Setting → Guesses → Reached → RunAnswer Refusal
 with_guesses b s given r = handed_back r.outcome r.steps r.state (guesses_after b s r.steps r.state.moment given)
 
 -- "state as given, 0 steps"
-abbrev pub refused_at_once : Refusal → State → Guesses → RunAnswer
+abbrev pub refused_at_once : Refusal → State → Guesses → RunAnswer Refusal
 refused_at_once k s given = handed_back (Refused k) 0 s given
 
-unfoldable pub run_answer : List ℕ → Setting → State → ℕ → ℕ → ℕ → Guesses → RunAnswer
+unfoldable pub run_answer : List ℕ → Setting → State → ℕ → ℕ → ℕ → Guesses → RunAnswer Refusal
 run_answer b setting s h target budget given =
     checked (start_checks b setting s h target)
     (with_guesses b setting given (run_to (step b setting h) target budget s))
     (λ k. refused_at_once k s given)
 
 -- "A single step is a run with budget 1 and the target one step on"
-abbrev pub single_step_answer : List ℕ → Setting → State → ℕ → Guesses → RunAnswer
+abbrev pub single_step_answer : List ℕ → Setting → State → ℕ → Guesses → RunAnswer Refusal
 single_step_answer b setting s h given = run_answer b setting s h (s.moment + h) 1 given

@@ -13,16 +13,17 @@ use gravity::Guesses;
 use state::{Setting, State};
 pub use step_end::Stepped;
 
+// How a run ended. A refusal is held as a `Refusal`, or as any R, as a number is.
 #[derive(Clone, Copy)]
-pub enum Outcome {
+pub enum Outcome<R = Refusal> {
     Arrived,
     Going,
-    Refused(Refusal),
+    Refused(R),
 }
 
 #[derive(Clone, Copy)]
-pub struct RunAnswer {
-    pub outcome: Outcome,
+pub struct RunAnswer<R = Refusal> {
+    pub outcome: Outcome<R>,
     pub steps: u32,
     pub state: State,
     pub guesses: Guesses,
