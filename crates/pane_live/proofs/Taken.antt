@@ -32,23 +32,23 @@ take_keeps Blank s order = tt
 take_keeps (One a) s order = after_one (One a) a s order
 take_keeps (Two a b) s order = after_one (Two a b) b s order
 
-by_outcome : (o : Outcome) (pane : Pane) (s : State) → InOrder pane → InOrder (after pane (feed_by o pane s))
+by_outcome : {R : Type 0} (o : Outcome R) (pane : Pane) (s : State) → InOrder pane → InOrder (after pane (feed_by o pane s))
 by_outcome outcome.Arrived pane s order = take_keeps pane s order
 by_outcome outcome.Going pane s order = take_keeps pane s order
 by_outcome (outcome.Refused k) pane s order = order
 
-pub feed_keeps : (pane : Pane) (r : RunAnswer) → InOrder pane → InOrder (after pane (feed pane r))
+pub feed_keeps : {R : Type 0} (pane : Pane) (r : RunAnswer R) → InOrder pane → InOrder (after pane (feed pane r))
 unfolding feed
 feed_keeps pane r order = by_outcome r.outcome pane r.state order
 
-pub all_fed : (pane : Pane) (rs : List RunAnswer) → InOrder pane → InOrder (fed pane rs)
+pub all_fed : {R : Type 0} (pane : Pane) (rs : List (RunAnswer R)) → InOrder pane → InOrder (fed pane rs)
 all_fed pane [] order = order
 all_fed pane (r ∷ rs) order = all_fed (after pane (feed pane r)) rs (feed_keeps pane r order)
 
 -- "a refused run leaves the pane as it was"
-pub refused_unchanged : (pane : Pane) (r : RunAnswer) (k : Refusal) → r.outcome ≡ outcome.Refused k → feed pane r ≡ Unchanged
+pub refused_unchanged : {R : Type 0} (pane : Pane) (r : RunAnswer R) (k : R) → r.outcome ≡ outcome.Refused k → feed pane r ≡ Unchanged
 unfolding feed
-refused_unchanged pane r k e = ap (λ (o : Outcome). feed_by o pane r.state) e
+refused_unchanged {R} pane r k e = ap (λ (o : Outcome R). feed_by o pane r.state) e
 
 -- "after `clear` it is empty and takes any centre"
 pub cleared_takes : (s : State) → take clear s ≡ Taken (One s)

@@ -28,6 +28,6 @@ pub record Shown (pane : Pane) (t : ℕ) (p : Vector) : Type 0 where
   pub is : p ≡ figure older newer t
 
 -- the pane after the answers of runs, one after the other
-abbrev pub fed : Pane → List RunAnswer → Pane
+abbrev pub fed : {R : Type 0} → Pane → List (RunAnswer R) → Pane
 fed pane [] = pane
 fed pane (r ∷ rs) = fed (after pane (feed pane r)) rs

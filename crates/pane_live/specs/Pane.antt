@@ -23,21 +23,21 @@ abbrev pub follows : State → State → Bool
 follows newer s = (s.centre =? newer.centre) && (newer.moment <? s.moment)
 
 -- "Refusals: such a state is 18"
-abbrev pub taken_after : State → State → TakeAnswer
+abbrev pub taken_after : State → State → TakeAnswer Refusal
 taken_after newer s = if follows newer s then Taken (Two newer s) otherwise Refused Refusal.NotNext
 
-unfoldable pub take : Pane → State → TakeAnswer
+unfoldable pub take : Pane → State → TakeAnswer Refusal
 take Blank s = Taken (One s)
 take (One a) s = taken_after a s
 take (Two a b) s = taken_after b s
 
--- "a refused run changes nothing in the pane"; any other gives the pane the state reached
-abbrev pub feed_by : Outcome → Pane → State → TakeAnswer
+-- "a refused run changes nothing in the pane", whatever R tells of its refusal; any other gives the pane the state reached
+abbrev pub feed_by : {R : Type 0} → Outcome R → Pane → State → TakeAnswer Refusal
 feed_by outcome.Arrived pane s = take pane s
 feed_by outcome.Going pane s = take pane s
 feed_by (outcome.Refused k) pane s = Unchanged
 
-unfoldable pub feed : Pane → RunAnswer → TakeAnswer
+unfoldable pub feed : {R : Type 0} → Pane → RunAnswer R → TakeAnswer Refusal
 feed pane r = feed_by r.outcome pane r.state
 
 -- "clearing it makes it empty, and then any centre is taken"
@@ -45,7 +45,7 @@ abbrev pub clear : Pane
 clear = Blank
 
 -- the pane after a call
-abbrev pub after : Pane → TakeAnswer → Pane
+abbrev pub after : {R : Type 0} → Pane → TakeAnswer R → Pane
 after pane (Taken next) = next
 after pane Unchanged = pane
 after pane (Refused k) = pane
@@ -85,18 +85,18 @@ figure a b t =
     if t =? b.moment then position b otherwise between a b (t - a.moment) (b.moment - a.moment)
 
 -- "a figure not finite is 7"
-abbrev pub shown : Vector → FrameAnswer Vector
+abbrev pub shown : Vector → FrameAnswer Vector Refusal
 shown p = if finite_vector p then frame.Current p otherwise frame.Refused Refusal.NotFinite
 
 -- "Late: the moment is past the newer state; the pane gives how late, and no position"; "Empty: .. the moment is before the older"; "Current:
 -- the frame's moment lies between them, ends included"
-abbrev pub frame_between : State → State → ℕ → FrameAnswer Vector
+abbrev pub frame_between : State → State → ℕ → FrameAnswer Vector Refusal
 frame_between a b t =
     if b.moment <? t then frame.Late (t - b.moment) otherwise
     if t <? a.moment then frame.Empty otherwise shown (figure a b t)
 
 -- "Empty: fewer than two states"
-unfoldable pub frame_at : Pane → ℕ → FrameAnswer Vector
+unfoldable pub frame_at : Pane → ℕ → FrameAnswer Vector Refusal
 frame_at Blank t = frame.Empty
 frame_at (One a) t = frame.Empty
 frame_at (Two a b) t = frame_between a b t

@@ -20,20 +20,21 @@ pub enum Pane {
     Two(State, State),
 }
 
+// A refusal is held as in the answer of a run.
 #[derive(Clone, Copy)]
-pub enum TakeAnswer {
+pub enum TakeAnswer<R = Refusal> {
     Taken(Pane),
     Unchanged,
-    Refused(Refusal),
+    Refused(R),
 }
 
 // What is shown, how late in milliseconds, nothing, or a refusal. Shown is a position, or more (pane_motion).
 #[derive(Clone, Copy)]
-pub enum FrameAnswer<T> {
+pub enum FrameAnswer<T, R = Refusal> {
     Current(T),
     Late(u64),
     Empty,
-    Refused(Refusal),
+    Refused(R),
 }
 
 fn is_next(newer: State, s: State) -> bool
@@ -69,7 +70,7 @@ pub fn take(pane: Pane, state: State) -> TakeAnswer
     }
 }
 
-fn feed_by(outcome: Outcome, pane: Pane, state: State) -> TakeAnswer
+fn feed_by<R: Copy>(outcome: Outcome<R>, pane: Pane, state: State) -> TakeAnswer
     ensures { result ≡ feed_by outcome pane state }
 {
     match outcome {
@@ -80,7 +81,7 @@ fn feed_by(outcome: Outcome, pane: Pane, state: State) -> TakeAnswer
 }
 
 // Takes the answer of a run: a refused one changes nothing.
-pub fn feed(pane: Pane, answer: RunAnswer) -> TakeAnswer
+pub fn feed<R: Copy>(pane: Pane, answer: RunAnswer<R>) -> TakeAnswer
     ensures { result ≡ feed pane answer }
 {
     let outcome = answer.outcome;
@@ -88,7 +89,7 @@ pub fn feed(pane: Pane, answer: RunAnswer) -> TakeAnswer
 }
 
 // The pane after a call with this answer.
-pub fn after(pane: Pane, answer: TakeAnswer) -> Pane
+pub fn after<R: Copy>(pane: Pane, answer: TakeAnswer<R>) -> Pane
     ensures { result ≡ after pane answer }
 {
     match answer {

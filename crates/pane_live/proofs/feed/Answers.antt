@@ -4,4 +4,4 @@ use Rattle.pane_live.proofs.feed.Goals as goal
 
 pub returns : goal.returns
 unfolding feed
-returns c = c.feed_by.ensures
+returns g c = c.feed_by.ensures

@@ -3,16 +3,16 @@ use Rattle.std.proofs.Common.{rules}
 use Rattle.pane_live.proofs.feed_by.Goals as goal
 
 pub take-requires : goal.take-requires
-take-requires c = search rules
+take-requires g c = search rules
 
 pub take-requires-in-Going : goal.take-requires-in-Going
-take-requires-in-Going c = search rules
+take-requires-in-Going g c = search rules
 
 pub returns-in-Arrived : goal.returns-in-Arrived
-returns-in-Arrived c = rw c.in-Arrived.is c.take.ensures
+returns-in-Arrived g c = rw c.in-Arrived.is c.take.ensures
 
 pub returns-in-Going : goal.returns-in-Going
-returns-in-Going c = rw c.in-Going.is c.take-in-Going.ensures
+returns-in-Going g c = rw c.in-Going.is c.take-in-Going.ensures
 
 pub returns-in-Refused : goal.returns-in-Refused
-returns-in-Refused c = rw c.in-Refused.is
+returns-in-Refused g c = rw c.in-Refused.is
