@@ -1,7 +1,5 @@
 -- An answer is a line of words and numbers, with one space between them.
 use Rattle.std.specs.Prelude.{ℕ, List, [], ◌∷◌, ◌++◌, map, Float}
-use Rattle.base.specs.Refusals.{number_of}
-use Rattle.base.specs.declared.Refusal.{Refusal}
 use Rattle.text_write.specs.Numerals.{decimal_of, float_text}
 use Rattle.text_write.specs.Written.{Wrote}
 use Rattle.line_form.specs.Room.{Between}
@@ -34,8 +32,8 @@ abbrev pub reals : List Float → List Item
 reals = map real
 
 -- "REFUSED" and the number
-abbrev pub refused_items : Refusal → List Item
-refused_items k = word (82 ∷ 69 ∷ 70 ∷ 85 ∷ 83 ∷ 69 ∷ 68 ∷ []) ∷ whole (number_of k) ∷ []
+abbrev pub refused_items : ℕ → List Item
+refused_items n = word (82 ∷ 69 ∷ 70 ∷ 85 ∷ 83 ∷ 69 ∷ 68 ∷ []) ∷ whole n ∷ []
 
 -- a text is written at a place, the rest of the buffer stays, and the place after the text is between two bounds
 pub record Puts (before : List ℕ) (from : ℕ) (text after : List ℕ) (least most end : ℕ) : Type 0 where

@@ -3,8 +3,6 @@
 ghost use Rattle.std.specs.Prelude.{◌+◌, ◌-◌, ◌*◌, ◌≤◌, length, set, ◌≡◌, [], ◌∷◌};
 ghost use Rattle.line_form.specs.Spelled.{word, whole, real, spaced, wholes, reals, refused_items, Puts};
 
-use base::Refusal;
-
 // Answers that are not written out yet. Each has at most 512 bytes.
 pub type Out = [u8; 65536];
 
@@ -48,12 +46,12 @@ pub fn put_floats(out: &mut Out, from: usize, row: &[f64]) -> usize
     at
 }
 
-pub fn put_refused(out: &mut Out, from: usize, refusal: Refusal) -> usize
+pub fn put_refused(out: &mut Out, from: usize, number: u64) -> usize
     requires { from + 29 ≤ 65_536 }
-    ensures { Puts out.old from (spaced (refused_items refusal)) out.new 1 29 result }
+    ensures { Puts out.old from (spaced (refused_items number)) out.new 1 29 result }
 {
     let at = text_write::inner::put_bytes(out, from, b"REFUSED ");
-    put_number(out, at, refusal.number())
+    put_number(out, at, number)
 }
 
 // The last space of an answer becomes the line feed.
