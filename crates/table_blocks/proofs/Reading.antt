@@ -12,6 +12,7 @@ use lib.Seq.{drop-cons}
 use Rattle.std.specs.Prelude.{Option, Some, None}
 use Rattle.base.specs.Choice.{if◌then◌otherwise◌}
 use Rattle.base.specs.Limits.{end_of_time}
+use Rattle.base.specs.Refusals.{number_of}
 use Rattle.base.specs.declared.Refusal.{Refusal}
 use Rattle.base.specs.declared.Refusal.TheVariants.{Listing, Large}
 use Rattle.text_write.specs.Written.{Wrote}
@@ -159,15 +160,15 @@ module _ (place : Place) (scan : Scan) (n : ℕ) (kind : Line) (q : Place) (f : 
         fresh = start_fresh q (n + 1);
       }
 
-  refused_table : (x : Refusal) → r ≡ Some x → (rest : List ℕ) → table_with (Going place scan n) (10 ∷ rest) ≡ behind [] (table_with (Refused (record { refusal = x; line = n })) rest)
+  refused_table : (x : Refusal) → r ≡ Some x → (rest : List ℕ) → table_with (Going place scan n) (10 ∷ rest) ≡ behind [] (table_with (Refused (record { number = number_of x; line = n })) rest)
   unfolding table_with
   refused_table x z rest = ap (table_from place n) (kinds_feed scan rest) ∙ line_refused place n (told scan []) (kinds_from Start rest) x (sym at_line ∙ z)
 
-  pub feeds_refused : (before : List ℕ) (at : ℕ) (x : Refusal) → r ≡ Some x → Feeds (Going place scan n) before at before (record { standing = Refused (record { refusal = x; line = n }); next = at })
+  pub feeds_refused : (before : List ℕ) (at : ℕ) (x : Refusal) → r ≡ Some x → Feeds (Going place scan n) before at before (record { standing = Refused (record { number = number_of x; line = n }); next = at })
   feeds_refused before at x z =
       record {
-        steps = record { text = []; wrote = nothing before at; table = λ rest. refused_table x z rest; short = omega arith; stands = refused_stands (record { refusal = x; line = n }) };
-        fresh = refused_fresh (record { refusal = x; line = n });
+        steps = record { text = []; wrote = nothing before at; table = λ rest. refused_table x z rest; short = omega arith; stands = refused_stands (record { number = number_of x; line = n }) };
+        fresh = refused_fresh (record { number = number_of x; line = n });
       }
 
 -- ---- one byte more

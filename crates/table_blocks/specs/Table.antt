@@ -28,7 +28,7 @@ abbrev pub over : Table
 over = no_rows None
 
 abbrev pub refused_by : Refusal → ℕ → Table
-refused_by refusal line = no_rows (Some (record { refusal = refusal; line = line }))
+refused_by refusal line = no_rows (Some (record { number = number_of refusal; line = line }))
 
 -- the table after some rows
 abbrev pub behind : List ℕ → Table → Table
@@ -80,7 +80,7 @@ refused_text number line = refused_word ++ decimal_of number ++ space ++ decimal
 -- the same of a refusal; nothing if nothing is refused
 unfoldable pub refusal_text : Option RefusedLine → List ℕ
 refusal_text None = []
-refusal_text (Some r) = refused_text (number_of r.refusal) r.line
+refusal_text (Some r) = refused_text r.number r.line
 
 -- what the program writes for the text that it reads: to standard output, and to standard error
 unfoldable pub written : List ℕ → List ℕ

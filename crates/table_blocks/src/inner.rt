@@ -45,7 +45,10 @@ fn end_line(out: &mut [u8], at: usize, place: Place, scan: Scan, line: u64) -> S
             next: put_found(out, at, found),
         },
         Some(refusal) => Step {
-            standing: Standing::Refused(RefusedLine { refusal, line }),
+            standing: Standing::Refused(RefusedLine {
+                number: refusal.number(),
+                line,
+            }),
             next: at,
         },
     }
@@ -130,9 +133,9 @@ fn at_end(place: Place, line: u64, next: usize) -> End
 fn missing(line: u64, next: usize) -> End
     ensures { (no_rows result.refused ≡ refused_by Listing line) × (result.next ≡ next) }
 {
-    let refusal = Refusal::Listing;
+    let number = Refusal::Listing.number();
     End {
-        refused: Some(RefusedLine { refusal, line }),
+        refused: Some(RefusedLine { number, line }),
         next,
     }
 }
@@ -195,7 +198,7 @@ pub fn put_refusal(out: &mut [u8], refused: Option<RefusedLine>) -> usize
     ensures { Wrote out.old 0 (refusal_text refused) out.new result }
 {
     match refused {
-        Some(RefusedLine { refusal, line }) => put_refused(out, refusal.number(), line),
+        Some(RefusedLine { number, line }) => put_refused(out, number, line),
         None => 0,
     }
 }

@@ -15,10 +15,10 @@ use listing_read::inner::is_off;
 use listing_scan::{Row, Scan};
 use table_rows::has_large;
 
-// Why a listing is refused, and the number of its line.
+// Why a listing is refused, as the number that is written, and the number of its line.
 #[derive(Clone, Copy)]
 pub struct RefusedLine {
-    pub refusal: Refusal,
+    pub number: u64,
     pub line: u64,
 }
 

@@ -16,5 +16,5 @@ returns-in-None c = feeds_row _ _ _ _ _ _ _ c.line_end-kind.ensures c.place_afte
     c.in-None.is c.put_found.ensures
 
 pub returns-in-Some : goal.returns-in-Some
-returns-in-Some c = feeds_refused _ _ _ _ _ _ _ c.line_end-kind.ensures c.place_after-after.ensures
-    c.row_of-found.ensures c.refusal_at-refusal.ensures _ _ _ c.in-Some.is
+returns-in-Some c = rw c.number.ensures (feeds_refused _ _ _ _ _ _ _ c.line_end-kind.ensures c.place_after-after.ensures
+    c.row_of-found.ensures c.refusal_at-refusal.ensures _ _ _ c.in-Some.is)

@@ -5,7 +5,7 @@ use Rattle.table_blocks.proofs.inner.put_refusal.Goals as goal
 
 pub returns-in-Some : goal.returns-in-Some
 unfolding refusal_text
-returns-in-Some c = rw (c.in-Some.is, ← c.number.ensures) c.put_refused.ensures
+returns-in-Some c = rw c.in-Some.is c.put_refused.ensures
 
 pub returns-in-None : goal.returns-in-None
 unfolding refusal_text
