@@ -1,4 +1,5 @@
-// The answers of ask, one case for each kind. `line_answers` finds the answer to a line, `line_texts` writes it.
+// The answers of ask, one case for each kind. `line_answers` finds the answer to a line, `line_texts` writes it, with
+// whatever R stands for a refusal.
 
 #![tactic(auto)]
 
@@ -12,20 +13,20 @@ use sine::SineCosine;
 use state::{Injection, State, Vector};
 
 #[derive(Clone, Copy)]
-pub enum Answer {
-    Root(Result<f64, Refusal>),
-    SineCosine(Result<SineCosine, Refusal>),
-    Hour(Result<u64, Refusal>),
-    Date(Result<Calendar, Refusal>),
-    Day(Result<u64, Refusal>),
-    Fixed(Result<EarthFixed, Refusal>),
-    Launched(Result<Injection, Refusal>),
-    Conic(Result<CentredConic, Refusal>),
-    Position(Result<Motion, Refusal>),
-    Acceleration(Result<Vector, Refusal>),
-    Injected(Result<State, Refusal>),
-    Moved(Result<State, Refusal>),
-    Run(RunAnswer),
-    Flown(RunAnswer),
+pub enum Answer<R = Refusal> {
+    Root(Result<f64, R>),
+    SineCosine(Result<SineCosine, R>),
+    Hour(Result<u64, R>),
+    Date(Result<Calendar, R>),
+    Day(Result<u64, R>),
+    Fixed(Result<EarthFixed, R>),
+    Launched(Result<Injection, R>),
+    Conic(Result<CentredConic, R>),
+    Position(Result<Motion, R>),
+    Acceleration(Result<Vector, R>),
+    Injected(Result<State, R>),
+    Moved(Result<State, R>),
+    Run(RunAnswer<R>),
+    Flown(RunAnswer<R>),
     Unreadable,
 }
