@@ -1,5 +1,4 @@
 -- How an answer of `ask` is spelled: its words and numbers, in their order, as one line.
-use Rattle.base.specs.declared.Refusal.{Refusal}
 use Rattle.calendar.specs.declared.Calendar.{Calendar}
 use Rattle.state.specs.declared.Vector.{Vector}
 use Rattle.state.specs.declared.Injection.{Injection}
@@ -39,10 +38,10 @@ going_word = 71 ∷ 79 ∷ 73 ∷ 78 ∷ 71 ∷ []
 abbrev pub unreadable_word : List ℕ
 unreadable_word = 85 ∷ 78 ∷ 82 ∷ 69 ∷ 65 ∷ 68 ∷ 65 ∷ 66 ∷ 76 ∷ 69 ∷ []
 
--- the items of an answer, or "REFUSED" and the number of its refusal
-abbrev pub or_refused : {A : Type 0} → (A → List Item) → Result A Refusal → List Item
-or_refused items (Ok value) = items value
-or_refused items (Err k) = refused_items k
+-- the items of an answer, or "REFUSED" and the number told of its refusal
+abbrev pub or_refused : {A R : Type 0} → (R → ℕ) → (A → List Item) → Result A R → List Item
+or_refused told items (Ok value) = items value
+or_refused told items (Err k) = refused_items (told k)
 
 abbrev pub root_items : Float → List Item
 root_items y = real y ∷ []
@@ -90,32 +89,32 @@ state_items s = whole s.moment ∷ whole s.centre ∷ (coordinate_items s ++ (re
 abbrev pub guess_items : Guesses → List Item
 guess_items g = whole g.moon ∷ whole g.sun ∷ whole g.venus ∷ whole g.mars ∷ whole g.jupiter ∷ []
 
-abbrev pub outcome_items : Outcome → List Item
-outcome_items outcome.Arrived = word arrived_word ∷ []
-outcome_items outcome.Going = word going_word ∷ []
-outcome_items (outcome.Refused k) = refused_items k
+abbrev pub outcome_items : {R : Type 0} → (R → ℕ) → Outcome R → List Item
+outcome_items told outcome.Arrived = word arrived_word ∷ []
+outcome_items told outcome.Going = word going_word ∷ []
+outcome_items told (outcome.Refused k) = refused_items (told k)
 
 -- of the old run: the outcome, STEPS, MOMENT X Y Z VX VY VZ, and G2 .. G6
-abbrev pub run_items : RunAnswer → List Item
-run_items r = outcome_items r.outcome ++ (whole r.steps ∷ whole r.state.moment ∷ (coordinate_items r.state ++ guess_items r.guesses))
+abbrev pub run_items : {R : Type 0} → (R → ℕ) → RunAnswer R → List Item
+run_items told r = outcome_items told r.outcome ++ (whole r.steps ∷ whole r.state.moment ∷ (coordinate_items r.state ++ guess_items r.guesses))
 
 -- of fly: the outcome, STEPS, STATE, and G2 .. G6
-abbrev pub flown_items : RunAnswer → List Item
-flown_items r = outcome_items r.outcome ++ (whole r.steps ∷ (state_items r.state ++ guess_items r.guesses))
+abbrev pub flown_items : {R : Type 0} → (R → ℕ) → RunAnswer R → List Item
+flown_items told r = outcome_items told r.outcome ++ (whole r.steps ∷ (state_items r.state ++ guess_items r.guesses))
 
-abbrev pub answer_items : Answer → List Item
-answer_items (answer.Root a) = or_refused root_items a
-answer_items (answer.SineCosine a) = or_refused sine_items a
-answer_items (answer.Hour a) = or_refused number_items a
-answer_items (answer.Date a) = or_refused date_items a
-answer_items (answer.Day a) = or_refused number_items a
-answer_items (answer.Fixed a) = or_refused fixed_items a
-answer_items (answer.Launched a) = or_refused launched_items a
-answer_items (answer.Conic a) = or_refused conic_items a
-answer_items (answer.Position a) = or_refused position_items a
-answer_items (answer.Acceleration a) = or_refused acceleration_items a
-answer_items (answer.Injected a) = or_refused state_items a
-answer_items (answer.Moved a) = or_refused state_items a
-answer_items (answer.Run a) = run_items a
-answer_items (answer.Flown a) = flown_items a
-answer_items answer.Unreadable = word unreadable_word ∷ []
+abbrev pub answer_items : {R : Type 0} → (R → ℕ) → Answer R → List Item
+answer_items told (answer.Root a) = or_refused told root_items a
+answer_items told (answer.SineCosine a) = or_refused told sine_items a
+answer_items told (answer.Hour a) = or_refused told number_items a
+answer_items told (answer.Date a) = or_refused told date_items a
+answer_items told (answer.Day a) = or_refused told number_items a
+answer_items told (answer.Fixed a) = or_refused told fixed_items a
+answer_items told (answer.Launched a) = or_refused told launched_items a
+answer_items told (answer.Conic a) = or_refused told conic_items a
+answer_items told (answer.Position a) = or_refused told position_items a
+answer_items told (answer.Acceleration a) = or_refused told acceleration_items a
+answer_items told (answer.Injected a) = or_refused told state_items a
+answer_items told (answer.Moved a) = or_refused told state_items a
+answer_items told (answer.Run a) = run_items told a
+answer_items told (answer.Flown a) = flown_items told a
+answer_items told answer.Unreadable = word unreadable_word ∷ []

@@ -4,7 +4,7 @@ ghost use Rattle.std.specs.Prelude.{◌+◌, ◌≤◌};
 ghost use Rattle.line_form.specs.Spelled.{spaced, line_text, Puts};
 ghost use Rattle.line_texts.specs.Text.{or_refused, root_items, sine_items, number_items, date_items, fixed_items, launched_items, figure_items, conic_items, position_items, acceleration_items, coordinate_items, state_items, guess_items, outcome_items, run_items, flown_items, answer_items};
 
-use base::Refusal;
+use base::Reason;
 use book::Motion;
 use calendar::Calendar;
 use conic::{CentredConic, Conic};
@@ -19,67 +19,67 @@ use text_write::inner::put_bytes;
 
 // One function for each kind of value, and none with a closure that lays it out: the closure would need a clause of its
 // own, and that is no shorter.
-fn put_root(out: &mut Out, at: usize, answer: Result<f64, Refusal>) -> usize
+fn put_root<R: Reason>(out: &mut Out, at: usize, answer: Result<f64, R>) -> usize
     requires { at + 512 ≤ 65_536 }
-    ensures { Puts out.old at (spaced (or_refused root_items answer)) out.new 1 512 result }
+    ensures { Puts out.old at (spaced (or_refused R.told root_items answer)) out.new 1 512 result }
 {
     match answer {
         Ok(y) => put_floats(out, at, &[y]),
-        Err(refusal) => put_refused(out, at, refusal),
+        Err(refusal) => put_refused(out, at, refusal.told()),
     }
 }
 
-fn put_sine(out: &mut Out, at: usize, answer: Result<SineCosine, Refusal>) -> usize
+fn put_sine<R: Reason>(out: &mut Out, at: usize, answer: Result<SineCosine, R>) -> usize
     requires { at + 512 ≤ 65_536 }
-    ensures { Puts out.old at (spaced (or_refused sine_items answer)) out.new 1 512 result }
+    ensures { Puts out.old at (spaced (or_refused R.told sine_items answer)) out.new 1 512 result }
 {
     match answer {
         Ok(of) => put_floats(out, at, &[of.sine, of.cosine]),
-        Err(refusal) => put_refused(out, at, refusal),
+        Err(refusal) => put_refused(out, at, refusal.told()),
     }
 }
 
 // An hour, or a day.
-fn put_number(out: &mut Out, at: usize, answer: Result<u64, Refusal>) -> usize
+fn put_number<R: Reason>(out: &mut Out, at: usize, answer: Result<u64, R>) -> usize
     requires { at + 512 ≤ 65_536 }
-    ensures { Puts out.old at (spaced (or_refused number_items answer)) out.new 1 512 result }
+    ensures { Puts out.old at (spaced (or_refused R.told number_items answer)) out.new 1 512 result }
 {
     match answer {
         Ok(number) => put_numbers(out, at, &[number]),
-        Err(refusal) => put_refused(out, at, refusal),
+        Err(refusal) => put_refused(out, at, refusal.told()),
     }
 }
 
-fn put_date(out: &mut Out, at: usize, answer: Result<Calendar, Refusal>) -> usize
+fn put_date<R: Reason>(out: &mut Out, at: usize, answer: Result<Calendar, R>) -> usize
     requires { at + 512 ≤ 65_536 }
-    ensures { Puts out.old at (spaced (or_refused date_items answer)) out.new 1 512 result }
+    ensures { Puts out.old at (spaced (or_refused R.told date_items answer)) out.new 1 512 result }
 {
     match answer {
         Ok(date) => put_numbers(out, at, &[date.year, date.month, date.day]),
-        Err(refusal) => put_refused(out, at, refusal),
+        Err(refusal) => put_refused(out, at, refusal.told()),
     }
 }
 
-fn put_fixed(out: &mut Out, at: usize, answer: Result<EarthFixed, Refusal>) -> usize
+fn put_fixed<R: Reason>(out: &mut Out, at: usize, answer: Result<EarthFixed, R>) -> usize
     requires { at + 512 ≤ 65_536 }
-    ensures { Puts out.old at (spaced (or_refused fixed_items answer)) out.new 1 512 result }
+    ensures { Puts out.old at (spaced (or_refused R.told fixed_items answer)) out.new 1 512 result }
 {
     match answer {
         Ok(f) => put_floats(out, at, &[f.x, f.y, f.z, f.vx, f.vy, f.vz]),
-        Err(refusal) => put_refused(out, at, refusal),
+        Err(refusal) => put_refused(out, at, refusal.told()),
     }
 }
 
-fn put_launched(out: &mut Out, from: usize, answer: Result<Injection, Refusal>) -> usize
+fn put_launched<R: Reason>(out: &mut Out, from: usize, answer: Result<Injection, R>) -> usize
     requires { from + 512 ≤ 65_536 }
-    ensures { Puts out.old from (spaced (or_refused launched_items answer)) out.new 1 512 result }
+    ensures { Puts out.old from (spaced (or_refused R.told launched_items answer)) out.new 1 512 result }
 {
     match answer {
         Ok(s) => {
             let at = put_numbers(out, from, &[s.moment]);
             put_floats(out, at, &[s.x, s.y, s.z, s.vx, s.vy, s.vz])
         }
-        Err(refusal) => put_refused(out, from, refusal),
+        Err(refusal) => put_refused(out, from, refusal.told()),
     }
 }
 
@@ -102,22 +102,22 @@ fn put_figures(out: &mut Out, from: usize, centre: u64, conic: Conic) -> usize
     }
 }
 
-fn put_conic(out: &mut Out, at: usize, answer: Result<CentredConic, Refusal>) -> usize
+fn put_conic<R: Reason>(out: &mut Out, at: usize, answer: Result<CentredConic, R>) -> usize
     requires { at + 512 ≤ 65_536 }
-    ensures { Puts out.old at (spaced (or_refused conic_items answer)) out.new 1 512 result }
+    ensures { Puts out.old at (spaced (or_refused R.told conic_items answer)) out.new 1 512 result }
 {
     match answer {
         Ok(centred) => {
             let conic = centred.conic;
             put_figures(out, at, centred.centre, conic)
         }
-        Err(refusal) => put_refused(out, at, refusal),
+        Err(refusal) => put_refused(out, at, refusal.told()),
     }
 }
 
-fn put_position(out: &mut Out, at: usize, answer: Result<Motion, Refusal>) -> usize
+fn put_position<R: Reason>(out: &mut Out, at: usize, answer: Result<Motion, R>) -> usize
     requires { at + 512 ≤ 65_536 }
-    ensures { Puts out.old at (spaced (or_refused position_items answer)) out.new 1 512 result }
+    ensures { Puts out.old at (spaced (or_refused R.told position_items answer)) out.new 1 512 result }
 {
     match answer {
         Ok(motion) => {
@@ -125,17 +125,17 @@ fn put_position(out: &mut Out, at: usize, answer: Result<Motion, Refusal>) -> us
             let w = motion.velocity;
             put_floats(out, at, &[p.x, p.y, p.z, w.x, w.y, w.z])
         }
-        Err(refusal) => put_refused(out, at, refusal),
+        Err(refusal) => put_refused(out, at, refusal.told()),
     }
 }
 
-fn put_acceleration(out: &mut Out, at: usize, answer: Result<Vector, Refusal>) -> usize
+fn put_acceleration<R: Reason>(out: &mut Out, at: usize, answer: Result<Vector, R>) -> usize
     requires { at + 512 ≤ 65_536 }
-    ensures { Puts out.old at (spaced (or_refused acceleration_items answer)) out.new 1 512 result }
+    ensures { Puts out.old at (spaced (or_refused R.told acceleration_items answer)) out.new 1 512 result }
 {
     match answer {
         Ok(a) => put_floats(out, at, &[a.x, a.y, a.z]),
-        Err(refusal) => put_refused(out, at, refusal),
+        Err(refusal) => put_refused(out, at, refusal.told()),
     }
 }
 
@@ -155,13 +155,13 @@ fn put_state(out: &mut Out, from: usize, s: State) -> usize
     put_floats(out, at, &[s.ax, s.ay, s.az])
 }
 
-fn put_state_answer(out: &mut Out, at: usize, answer: Result<State, Refusal>) -> usize
+fn put_state_answer<R: Reason>(out: &mut Out, at: usize, answer: Result<State, R>) -> usize
     requires { at + 512 ≤ 65_536 }
-    ensures { Puts out.old at (spaced (or_refused state_items answer)) out.new 1 512 result }
+    ensures { Puts out.old at (spaced (or_refused R.told state_items answer)) out.new 1 512 result }
 {
     match answer {
         Ok(s) => put_state(out, at, s),
-        Err(refusal) => put_refused(out, at, refusal),
+        Err(refusal) => put_refused(out, at, refusal.told()),
     }
 }
 
@@ -172,20 +172,20 @@ fn put_guesses(out: &mut Out, at: usize, g: Guesses) -> usize
     put_numbers(out, at, &[g.moon, g.sun, g.venus, g.mars, g.jupiter])
 }
 
-fn put_outcome(out: &mut Out, at: usize, outcome: Outcome) -> usize
+fn put_outcome<R: Reason>(out: &mut Out, at: usize, outcome: Outcome<R>) -> usize
     requires { at + 29 ≤ 65_536 }
-    ensures { Puts out.old at (spaced (outcome_items outcome)) out.new 1 29 result }
+    ensures { Puts out.old at (spaced (outcome_items R.told outcome)) out.new 1 29 result }
 {
     match outcome {
         Outcome::Arrived => put_bytes(out, at, b"ARRIVED "),
         Outcome::Going => put_bytes(out, at, b"GOING "),
-        Outcome::Refused(refusal) => put_refused(out, at, refusal),
+        Outcome::Refused(refusal) => put_refused(out, at, refusal.told()),
     }
 }
 
-fn put_run(out: &mut Out, from: usize, answer: RunAnswer) -> usize
+fn put_run<R: Reason>(out: &mut Out, from: usize, answer: RunAnswer<R>) -> usize
     requires { from + 512 ≤ 65_536 }
-    ensures { Puts out.old from (spaced (run_items answer)) out.new 1 512 result }
+    ensures { Puts out.old from (spaced (run_items R.told answer)) out.new 1 512 result }
 {
     let s = answer.state;
     let outcome = answer.outcome;
@@ -196,9 +196,9 @@ fn put_run(out: &mut Out, from: usize, answer: RunAnswer) -> usize
 }
 
 // The same with the whole state.
-fn put_flown(out: &mut Out, from: usize, answer: RunAnswer) -> usize
+fn put_flown<R: Reason>(out: &mut Out, from: usize, answer: RunAnswer<R>) -> usize
     requires { from + 512 ≤ 65_536 }
-    ensures { Puts out.old from (spaced (flown_items answer)) out.new 1 512 result }
+    ensures { Puts out.old from (spaced (flown_items R.told answer)) out.new 1 512 result }
 {
     let outcome = answer.outcome;
     let mut at = put_outcome(out, from, outcome);
@@ -207,9 +207,9 @@ fn put_flown(out: &mut Out, from: usize, answer: RunAnswer) -> usize
     put_guesses(out, at, answer.guesses)
 }
 
-fn put_items(out: &mut Out, at: usize, answer: Answer) -> usize
+fn put_items<R: Reason>(out: &mut Out, at: usize, answer: Answer<R>) -> usize
     requires { at + 512 ≤ 65_536 }
-    ensures { Puts out.old at (spaced (answer_items answer)) out.new 1 512 result }
+    ensures { Puts out.old at (spaced (answer_items R.told answer)) out.new 1 512 result }
 {
     match answer {
         Answer::Root(a) => put_root(out, at, a),
@@ -231,9 +231,9 @@ fn put_items(out: &mut Out, at: usize, answer: Answer) -> usize
 }
 
 // The line of an answer, and the place behind it.
-pub fn put_line(out: &mut Out, at: usize, answer: Answer) -> usize
+pub fn put_line<R: Reason>(out: &mut Out, at: usize, answer: Answer<R>) -> usize
     requires { at + 512 ≤ 65_536 }
-    ensures { Puts out.old at (line_text (answer_items answer)) out.new 1 512 result }
+    ensures { Puts out.old at (line_text (answer_items R.told answer)) out.new 1 512 result }
 {
     let end = put_items(out, at, answer);
     end_line(out, end);

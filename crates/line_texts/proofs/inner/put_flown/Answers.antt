@@ -7,9 +7,9 @@ use Rattle.line_form.proofs.Spelling.{widened, then_puts}
 use Rattle.line_texts.proofs.inner.put_flown.Goals as goal
 
 pub returns : goal.returns
-returns c = let r = c.args.answer in
+returns g c = let r = c.args.answer in
     widened
-    (then_puts (outcome_items r.outcome) _ c.put_outcome-at.ensures
+    (then_puts (outcome_items g.R.Reason.told r.outcome) _ c.put_outcome-at.ensures
     (then_puts (whole _ ∷ []) _ c.put_numbers-at.ensures
     (then_puts (state_items r.state) (guess_items r.guesses) c.put_state-at.ensures c.put_guesses.ensures)))
     (omega arith)

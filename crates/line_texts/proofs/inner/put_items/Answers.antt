@@ -5,7 +5,7 @@ use Rattle.line_form.proofs.Spelling.{worded}
 use Rattle.line_texts.proofs.inner.put_items.Goals as goal
 
 pub returns-in-Run : goal.returns-in-Run
-returns-in-Run c = rw c.in-Run.is c.put_run.ensures
+returns-in-Run g c = rw c.in-Run.is c.put_run.ensures
 
 pub returns-in-Unreadable : goal.returns-in-Unreadable
-returns-in-Unreadable c = rw c.in-Unreadable.is (worded unreadable_word (omega arith) c.put_bytes.ensures)
+returns-in-Unreadable g c = rw c.in-Unreadable.is (worded unreadable_word (omega arith) c.put_bytes.ensures)

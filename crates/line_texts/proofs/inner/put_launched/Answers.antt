@@ -6,5 +6,5 @@ use Rattle.line_form.proofs.Spelling.{widened, then_puts}
 use Rattle.line_texts.proofs.inner.put_launched.Goals as goal
 
 pub returns-in-Ok : goal.returns-in-Ok
-returns-in-Ok c = rw c.in-Ok.is
+returns-in-Ok g c = rw c.in-Ok.is
     (widened (then_puts (whole _ ∷ []) (real _ ∷ real _ ∷ real _ ∷ real _ ∷ real _ ∷ real _ ∷ []) c.put_numbers-at.ensures c.put_floats.ensures) (omega arith) (omega arith))

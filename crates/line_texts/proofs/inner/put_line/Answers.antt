@@ -5,5 +5,5 @@ use Rattle.line_texts.proofs.Written.{ended}
 use Rattle.line_texts.proofs.inner.put_line.Goals as goal
 
 pub returns : goal.returns
-returns c = rw c.end_line.ensures
-    (ended (answer_items c.args.answer) (let r = c.put_items-end.ensures.room in omega (arith, r.fits, c.requires)) c.put_items-end.ensures)
+returns g c = rw c.end_line.ensures
+    (ended (answer_items g.R.Reason.told c.args.answer) (let r = c.put_items-end.ensures.room in omega (arith, r.fits, c.requires)) c.put_items-end.ensures)
