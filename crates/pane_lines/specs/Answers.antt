@@ -62,12 +62,12 @@ abbrev pub refused_kinds : List ℕ
 refused_kinds = 68 ∷ 68 ∷ 68 ∷ 68 ∷ 80 ∷ 80 ∷ 80 ∷ 80 ∷ 80 ∷ 80 ∷ 80 ∷ 80 ∷ 80 ∷ 68 ∷ 68 ∷ 68 ∷ 68 ∷ 68 ∷ []
 
 -- STEPS STATE G2 .. G6 from a field on: the answer of a run
-abbrev pub run_from : List ℕ → Outcome → ℕ → RunAnswer
+abbrev pub run_from : List ℕ → Outcome Refusal → ℕ → RunAnswer Refusal
 run_from v o i = record { outcome = o; steps = narrow (number v i); state = state_from v (i + 1); guesses = guesses_from v (i + 12) }
 
 -- ---- the answer and the pane after it
 
-abbrev pub told_taken : Pane → TakeAnswer → Told
+abbrev pub told_taken : Pane → TakeAnswer Refusal → Told
 told_taken p a = record { pane = pane.after p a; answer = answer.Taken a }
 
 -- the answer of a refused run, by its number: it changes nothing, and neither does a number of no refusal
@@ -103,7 +103,7 @@ answer_to p line =
     (or_else (call_of line clear_name []) (λ v. told_clear)
     (run_line p line)))
 
--- ---- its words and numbers
+-- ---- its words and numbers, with the number told of a refusal
 
 -- "OK"
 abbrev pub ok_word : List ℕ
@@ -129,19 +129,19 @@ empty_word = 69 ∷ 77 ∷ 80 ∷ 84 ∷ 89 ∷ []
 abbrev pub unreadable_word : List ℕ
 unreadable_word = 85 ∷ 78 ∷ 82 ∷ 69 ∷ 65 ∷ 68 ∷ 65 ∷ 66 ∷ 76 ∷ 69 ∷ []
 
-abbrev pub taken_items : TakeAnswer → List Item
-taken_items (taken.Taken p) = word ok_word ∷ []
-taken_items taken.Unchanged = word unchanged_word ∷ []
-taken_items (taken.Refused k) = refused_items k
+abbrev pub taken_items : {R : Type 0} → (R → ℕ) → TakeAnswer R → List Item
+taken_items told (taken.Taken p) = word ok_word ∷ []
+taken_items told taken.Unchanged = word unchanged_word ∷ []
+taken_items told (taken.Refused k) = refused_items (told k)
 
-abbrev pub frame_items : FrameAnswer Vector → List Item
-frame_items (frame.Current p) = word current_word ∷ real p.x ∷ real p.y ∷ real p.z ∷ []
-frame_items (frame.Late n) = word late_word ∷ whole n ∷ []
-frame_items frame.Empty = word empty_word ∷ []
-frame_items (frame.Refused k) = refused_items k
+abbrev pub frame_items : {R : Type 0} → (R → ℕ) → FrameAnswer Vector R → List Item
+frame_items told (frame.Current p) = word current_word ∷ real p.x ∷ real p.y ∷ real p.z ∷ []
+frame_items told (frame.Late n) = word late_word ∷ whole n ∷ []
+frame_items told frame.Empty = word empty_word ∷ []
+frame_items told (frame.Refused k) = refused_items (told k)
 
-abbrev pub answer_items : Answer → List Item
-answer_items (answer.Taken a) = taken_items a
-answer_items (answer.Frame a) = frame_items a
-answer_items answer.Cleared = word empty_word ∷ []
-answer_items answer.Unreadable = word unreadable_word ∷ []
+abbrev pub answer_items : {R : Type 0} → (R → ℕ) → Answer R → List Item
+answer_items told (answer.Taken a) = taken_items told a
+answer_items told (answer.Frame a) = frame_items told a
+answer_items told answer.Cleared = word empty_word ∷ []
+answer_items told answer.Unreadable = word unreadable_word ∷ []

@@ -17,10 +17,11 @@ use pane_live::{FrameAnswer, Pane, TakeAnswer};
 use run::{Outcome, RunAnswer};
 use state::Vector;
 
+// A refusal is held as in the answers of the pane.
 #[derive(Clone, Copy)]
-pub enum Answer {
-    Taken(TakeAnswer),
-    Frame(FrameAnswer<Vector>),
+pub enum Answer<R = Refusal> {
+    Taken(TakeAnswer<R>),
+    Frame(FrameAnswer<Vector, R>),
     Cleared,
     Unreadable,
 }

@@ -7,10 +7,10 @@ use Rattle.line_form.proofs.Spelling.{worded, after_word}
 use Rattle.pane_lines.proofs.inner.put_frame.Goals as goal
 
 pub returns-in-Current : goal.returns-in-Current
-returns-in-Current c = rw c.in-Current.is (after_word current_word (real _ ∷ real _ ∷ real _ ∷ []) (omega arith) c.put_bytes-at.ensures c.put_floats.ensures)
+returns-in-Current g c = rw c.in-Current.is (after_word current_word (real _ ∷ real _ ∷ real _ ∷ []) (omega arith) c.put_bytes-at.ensures c.put_floats.ensures)
 
 pub returns-in-Late : goal.returns-in-Late
-returns-in-Late c = rw c.in-Late.is (after_word late_word (whole _ ∷ []) (omega arith) c.put_bytes-at-in-Late.ensures c.put_numbers.ensures)
+returns-in-Late g c = rw c.in-Late.is (after_word late_word (whole _ ∷ []) (omega arith) c.put_bytes-at-in-Late.ensures c.put_numbers.ensures)
 
 pub returns-in-Empty : goal.returns-in-Empty
-returns-in-Empty c = rw c.in-Empty.is (worded empty_word (omega arith) c.put_bytes.ensures)
+returns-in-Empty g c = rw c.in-Empty.is (worded empty_word (omega arith) c.put_bytes.ensures)

@@ -5,7 +5,7 @@ use Rattle.line_form.proofs.Spelling.{worded}
 use Rattle.pane_lines.proofs.inner.put_items.Goals as goal
 
 pub returns-in-Cleared : goal.returns-in-Cleared
-returns-in-Cleared c = rw c.in-Cleared.is (worded empty_word (omega arith) c.put_bytes.ensures)
+returns-in-Cleared g c = rw c.in-Cleared.is (worded empty_word (omega arith) c.put_bytes.ensures)
 
 pub returns-in-Unreadable : goal.returns-in-Unreadable
-returns-in-Unreadable c = rw c.in-Unreadable.is (worded unreadable_word (omega arith) c.put_bytes-in-Unreadable.ensures)
+returns-in-Unreadable g c = rw c.in-Unreadable.is (worded unreadable_word (omega arith) c.put_bytes-in-Unreadable.ensures)
