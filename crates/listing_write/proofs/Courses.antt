@@ -65,7 +65,7 @@ module _ (b : List ℕ) (setting : Setting) (h : ℕ) (from : Course) (before : 
     pub stands : MayStep setting now
     stands = (let i = l.on.inside in omega arith, l.on.centred)
 
-    pub ends : (o : Outcome)
+    pub ends : (o : Outcome Refusal)
         → course_text (step b setting h) left did now ≡ remains (step b setting h) (record { state = now; entries = entries; left = left; done = did }) o
         → (o ≡ Going → length out < at + longest_line)
         → Advanced b setting h from before out (portion_of o now entries left did at)

@@ -1,6 +1,7 @@
 -- How the listing of a run is written in portions: the text that is still to be written at a place of the run.
 use Rattle.std.specs.Prelude.{ℕ, zero, suc, ◌+◌, ◌*◌, ◌<◌, ◌≤◌, true, List, ◌++◌, ◌≡◌, length, take, drop, Ok, Err}
 use Rattle.base.specs.Limits.{end_of_time}
+use Rattle.base.specs.declared.Refusal.{Refusal}
 use Rattle.state.specs.State.{centre_allowed}
 use Rattle.state.specs.declared.State.{State}
 use Rattle.state.specs.declared.Setting.{Setting}
@@ -24,7 +25,7 @@ course_text f zero done s = outcome_line Arrived done
 course_text f (suc left) done s = after_step (course_text f left (done + 1)) done (f s)
 
 -- what is left to write after a portion
-abbrev pub remains : (State → Moved) → Course → Outcome → List ℕ
+abbrev pub remains : (State → Moved) → Course → Outcome Refusal → List ℕ
 remains f c Going = course_text f c.left c.done c.state
 remains f c Arrived = outcome_line Arrived c.done
 remains f c (Refused k) = outcome_line (Refused k) c.done
@@ -48,7 +49,7 @@ pub record Advanced (b : List ℕ) (setting : Setting) (h : ℕ) (c : Course) (b
   pub onward : OnCourse b setting h p.course
   pub nearer : p.outcome ≡ Going → longest_line ≤ length out → p.course.left < c.left
 
-abbrev pub portion_of : Outcome → State → Guesses → ℕ → ℕ → ℕ → Portion
+abbrev pub portion_of : Outcome Refusal → State → Guesses → ℕ → ℕ → ℕ → Portion
 portion_of outcome s entries left done written =
     record { outcome = outcome; course = record { state = s; entries = entries; left = left; done = done }; written = written }
 

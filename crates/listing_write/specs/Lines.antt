@@ -1,6 +1,7 @@
 -- Document 01, "strip": the lines that it prints. Each ends in a line feed, and one space separates its parts.
 use Rattle.std.specs.Prelude.{ℕ, List, [], ◌++◌, Float}
 use Rattle.base.specs.Refusals.{number_of}
+use Rattle.base.specs.declared.Refusal.{Refusal}
 use Rattle.state.specs.State.{position, velocity}
 use Rattle.state.specs.declared.Vector.{Vector}
 use Rattle.state.specs.declared.State.{State}
@@ -36,11 +37,14 @@ arrived_line n = numbered arrived_word n
 unfoldable pub refused_line : ℕ → ℕ → List ℕ
 refused_line k n = refused_word ++ decimal_of k ++ numbered space n
 
--- a run with a budget for all its steps never answers going
-abbrev pub outcome_line : Outcome → ℕ → List ℕ
-outcome_line Arrived n = arrived_line n
-outcome_line Going n = []
-outcome_line (Refused k) n = refused_line (number_of k) n
+-- a run with a budget for all its steps never answers going; the refusal may be any whose number is told
+abbrev pub outcome_line_by : {R : Type 0} → (R → ℕ) → Outcome R → ℕ → List ℕ
+outcome_line_by told Arrived n = arrived_line n
+outcome_line_by told Going n = []
+outcome_line_by told (Refused k) n = refused_line (told k) n
+
+abbrev pub outcome_line : Outcome Refusal → ℕ → List ℕ
+outcome_line outcome n = outcome_line_by number_of outcome n
 
 -- "only REFUSED and the number"
 unfoldable pub lone_refusal : ℕ → List ℕ

@@ -2,11 +2,10 @@
 // are inner functions: the caller knows that there is room.
 
 ghost use Rattle.std.specs.Prelude.{◌+◌, ◌≤◌, length};
-ghost use Rattle.base.specs.Refusals.{number_of};
 ghost use Rattle.text_write.specs.Written.{Wrote};
-ghost use Rattle.listing_write.specs.Lines.{numbered, spaced, vector_text, header_line, state_line, arrived_line, refused_line, outcome_line, lone_refusal};
+ghost use Rattle.listing_write.specs.Lines.{numbered, spaced, vector_text, header_line, state_line, arrived_line, refused_line, outcome_line_by, lone_refusal};
 
-use base::Refusal;
+use base::Reason;
 use run::Outcome;
 use state::{State, Vector};
 use text_write::inner::{put_bytes, put_decimal, put_float};
@@ -64,30 +63,30 @@ fn put_arrived(out: &mut [u8], at: usize, steps: u64) -> usize
     put_numbered(out, at, b"ARRIVED ", steps)
 }
 
-fn put_refused(out: &mut [u8], at: usize, refusal: Refusal, steps: u64) -> usize
+fn put_refused(out: &mut [u8], at: usize, refusal: u64, steps: u64) -> usize
     requires { at + 123 ≤ length out.old }
-    ensures { Wrote out.old at (refused_line (number_of refusal) steps) out.new result }
+    ensures { Wrote out.old at (refused_line refusal steps) out.new result }
 {
     let number = put_bytes(out, at, b"REFUSED ");
-    let count = put_decimal(out, number, refusal.number());
+    let count = put_decimal(out, number, refusal);
     put_numbered(out, count, b" ", steps)
 }
 
-pub fn put_outcome(out: &mut [u8], at: usize, outcome: Outcome, steps: u64) -> usize
+pub fn put_outcome<R: Reason>(out: &mut [u8], at: usize, outcome: Outcome<R>, steps: u64) -> usize
     requires { at + 123 ≤ length out.old }
-    ensures { Wrote out.old at (outcome_line outcome steps) out.new result }
+    ensures { Wrote out.old at (outcome_line_by R.told outcome steps) out.new result }
 {
     match outcome {
         Outcome::Arrived => put_arrived(out, at, steps),
-        Outcome::Refused(refusal) => put_refused(out, at, refusal, steps),
+        Outcome::Refused(refusal) => put_refused(out, at, refusal.told(), steps),
         Outcome::Going => at,
     }
 }
 
 #[tactic(auto, unfolding(crate::specs::Lines::lone_refusal))]
-pub fn put_lone_refusal(out: &mut [u8], at: usize, refusal: Refusal) -> usize
+pub fn put_lone_refusal(out: &mut [u8], at: usize, number: u64) -> usize
     requires { at + 123 ≤ length out.old }
-    ensures { Wrote out.old at (lone_refusal (number_of refusal)) out.new result }
+    ensures { Wrote out.old at (lone_refusal number) out.new result }
 {
-    put_numbered(out, at, b"REFUSED ", refusal.number())
+    put_numbered(out, at, b"REFUSED ", number)
 }

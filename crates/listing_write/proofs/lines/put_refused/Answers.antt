@@ -6,11 +6,11 @@ use Rattle.listing_write.specs.Lines.{refused_line}
 use Rattle.listing_write.proofs.lines.put_refused.Goals as goal
 
 pub put_decimal-count-requires : goal.put_decimal-count-requires
-put_decimal-count-requires c = omega (arith, decimal_fits c.number.result (omega arith), decimal_fits c.args.steps (omega arith), c.put_bytes-number)
+put_decimal-count-requires c = omega (arith, decimal_fits c.args.refusal (omega arith), decimal_fits c.args.steps (omega arith), c.put_bytes-number)
 
 pub put_numbered-requires : goal.put_numbered-requires
-put_numbered-requires c = omega (arith, decimal_fits c.number.result (omega arith), decimal_fits c.args.steps (omega arith), c.put_bytes-number, c.put_decimal-count)
+put_numbered-requires c = omega (arith, decimal_fits c.args.refusal (omega arith), decimal_fits c.args.steps (omega arith), c.put_bytes-number, c.put_decimal-count)
 
 pub returns : goal.returns
 unfolding refused_line
-returns c = rw (← c.number.ensures) (both (both c.put_bytes-number.ensures c.put_decimal-count.ensures) c.put_numbered.ensures)
+returns c = both (both c.put_bytes-number.ensures c.put_decimal-count.ensures) c.put_numbered.ensures
