@@ -45,13 +45,13 @@ module _ (b : List ℕ) (setting : Setting) (h target : ℕ) where
       → journey b setting h target s calls ≡ map (met_again k s) calls
   all_again k s [] stuck = refl
   all_again k s (call ∷ calls) stuck =
-      rw (again k s call stuck) (ap (λ (rest : List RunAnswer). met_again k s call ∷ rest) (all_again k s calls stuck))
+      rw (again k s call stuck) (ap (λ (rest : List (RunAnswer Refusal)). met_again k s call ∷ rest) (all_again k s calls stuck))
 
   stuck_by : (s : State) (budget : ℕ) (k : Refusal) → Passed b setting s h target → (run_to (step b setting h) target budget s).outcome ≡ Refused k
       → Stuck b setting h target k (run_to (step b setting h) target budget s).state
   stuck_by s budget k p is = go (run_to (step b setting h) target budget s).outcome refl
     where
-      go : (o : Outcome) → (run_to (step b setting h) target budget s).outcome ≡ o
+      go : (o : Outcome Refusal) → (run_to (step b setting h) target budget s).outcome ≡ o
           → Stuck b setting h target k (run_to (step b setting h) target budget s).state
       go o e =
           let r = run_from b setting h target s budget p in
@@ -68,7 +68,7 @@ module _ (b : List ℕ) (setting : Setting) (h target : ℕ) where
       → Stuck b setting h target k (run_answer b setting s h target budget given).state
   is_stuck s budget given k e is =
       let same = answer_is b setting s h target budget given e in
-      rw same (stuck_by s budget k (passed b setting s h target e) (sym (ap (λ (r : RunAnswer). r.outcome) same) ∙ is))
+      rw same (stuck_by s budget k (passed b setting s h target e) (sym (ap (λ (r : RunAnswer Refusal). r.outcome) same) ∙ is))
 
   -- once a call was refused with k, every later one answers 0 steps, the same number and the same state; without budget it is going
   pub refused_again : (s : State) (budget : ℕ) (given : Guesses) (k : Refusal) (calls : List Call) → start_checks b setting s h target ≡ Ok tt

@@ -22,7 +22,7 @@ use Rattle.run_laws.proofs.Answers.{answer_is, run_from, checks_stay}
 use Rattle.run_laws.proofs.Again.{Stuck, again, is_stuck}
 
 module _ (b : List ℕ) (setting : Setting) (h target : ℕ) where
-  answer : State → Call → RunAnswer
+  answer : State → Call → RunAnswer Refusal
   answer s call = run_answer b setting s h target call.budget call.guesses
 
   module _ (s : State) (call : Call) (p : Passed b setting s h target) where
@@ -30,18 +30,18 @@ module _ (b : List ℕ) (setting : Setting) (h target : ℕ) where
     unfolding answer
     same = answer_is b setting s h target call.budget call.guesses (passes_all b setting s h target p)
 
-    tells_as : (o : Outcome) → (answer s call).outcome ≡ o
+    tells_as : (o : Outcome Refusal) → (answer s call).outcome ≡ o
         → Tells (step b setting h) s target (run_to (step b setting h) target call.budget s).steps call.budget
         (run_to (step b setting h) target call.budget s).steps (run_to (step b setting h) target call.budget s).state o
     tells_as o is =
         subst
         (Tells (step b setting h) s target (run_to (step b setting h) target call.budget s).steps call.budget
         (run_to (step b setting h) target call.budget s).steps (run_to (step b setting h) target call.budget s).state)
-        (sym (ap (λ (a : RunAnswer). a.outcome) same) ∙ is)
+        (sym (ap (λ (a : RunAnswer Refusal). a.outcome) same) ∙ is)
         (run_from b setting h target s call.budget p).tells
 
     moment_of : (answer s call).state.moment ≡ (run_to (step b setting h) target call.budget s).state.moment
-    moment_of = ap (λ (a : RunAnswer). a.state.moment) same
+    moment_of = ap (λ (a : RunAnswer Refusal). a.state.moment) same
 
     passes_on : Passed b setting (answer s call).state h target
     passes_on = rw same (checks_stay b setting h target s call.budget p)
@@ -91,7 +91,7 @@ module _ (b : List ℕ) (setting : Setting) (h target : ℕ) where
     where
       go : (target ≤ (answer s call).state.moment + (budgets calls + last.budget) * h
           → (answer (after b setting h target (answer s call).state calls) last).outcome ≡ Going → ⊥)
-          → (o : Outcome) → (answer s call).outcome ≡ o → (answer (after b setting h target (answer s call).state calls) last).outcome ≡ Going → ⊥
+          → (o : Outcome Refusal) → (answer s call).outcome ≡ o → (answer (after b setting h target (answer s call).state calls) last).outcome ≡ Going → ⊥
       go later Arrived is = let at : (answer s call).state.moment ≡ target = arrived_at s call p is in later (omega arith)
       go later Going is =
           let time = gone_on s call p is in
@@ -119,7 +119,7 @@ module _ (b : List ℕ) (setting : Setting) (h target : ℕ) where
     where
       go : Passed b setting (after b setting h target injection calls) h target
           → ((answer (after b setting h target injection calls) last).outcome ≡ Going → ⊥)
-          → (o : Outcome) → (answer (after b setting h target injection calls) last).outcome ≡ o
+          → (o : Outcome Refusal) → (answer (after b setting h target injection calls) last).outcome ≡ o
           → Over (step b setting h) target (answer (after b setting h target injection calls) last)
       go p never Arrived is = there is (arrived_at _ last p is)
       go p never Going is = absurd (never is)

@@ -26,12 +26,12 @@ use Rattle.run_laws.proofs.Answers.{answer_is, refused_is, run_from, checks_stay
 -- ---- from one outcome to all of them
 
 -- two outcomes that differ
-data Differ : Outcome → Outcome → Type 0 where
+data Differ : Outcome Refusal → Outcome Refusal → Type 0 where
   arrived_going : Differ Arrived Going
   arrived_refused : (k : Refusal) → Differ Arrived (Refused k)
   going_refused : (k : Refusal) → Differ Going (Refused k)
 
-never_equal : {o o' : Outcome} → Differ o o' → (o ≡ o' → ⊥) × (o' ≡ o → ⊥)
+never_equal : {o o' : Outcome Refusal} → Differ o o' → (o ≡ o' → ⊥) × (o' ≡ o → ⊥)
 never_equal arrived_going = (λ e. let z : ◌≡◌ {A = ℕ} 0 1 = cc in omega arith, λ e. let z : ◌≡◌ {A = ℕ} 0 1 = cc in omega arith)
 never_equal (arrived_refused k) = (λ e. let z : ◌≡◌ {A = ℕ} 0 1 = cc in omega arith, λ e. let z : ◌≡◌ {A = ℕ} 0 1 = cc in omega arith)
 never_equal (going_refused k) = (λ e. let z : ◌≡◌ {A = ℕ} 0 1 = cc in omega arith, λ e. let z : ◌≡◌ {A = ℕ} 0 1 = cc in omega arith)
@@ -44,9 +44,9 @@ one_number : (f : State → Moved) (injection : State) (n : ℕ) (j k : Refusal)
     → Refused j ≡ Refused k
 one_number f injection n j k w w' = let same : Err j ≡ Err k = sym w ∙ w' in let number : j ≡ k = cc in ap Refused number
 
-module _ (f : State → Moved) (injection : State) (h target n budget : ℕ) (r : RunAnswer) (walked : walk f n injection ≡ Ok r.state)
+module _ (f : State → Moved) (injection : State) (h target n budget : ℕ) (r : RunAnswer Refusal) (walked : walk f n injection ≡ Ok r.state)
     (clock : r.state.moment ≡ injection.moment + n * h) (within : r.state.moment ≤ target) (spent : r.steps ≤ budget) where
-  holds_by : (o : Outcome) → r.outcome ≡ o → Tells f injection target n budget r.steps r.state o → Holds f injection h target n budget r
+  holds_by : (o : Outcome Refusal) → r.outcome ≡ o → Tells f injection target n budget r.steps r.state o → Holds f injection h target n budget r
   holds_by Arrived is at =
       record {
         walked = walked;
@@ -87,7 +87,7 @@ module _ (f : State → Moved) (injection : State) (h target n budget : ℕ) (r 
 -- ---- the calls of a journey
 
 module _ (b : List ℕ) (setting : Setting) (h target : ℕ) (injection : State) where
-  tells_from : (n : ℕ) (s : State) (m budget : ℕ) (last : State) (o : Outcome) → walk (step b setting h) n injection ≡ Ok s
+  tells_from : (n : ℕ) (s : State) (m budget : ℕ) (last : State) (o : Outcome Refusal) → walk (step b setting h) n injection ≡ Ok s
       → Tells (step b setting h) s target m budget m last o → Tells (step b setting h) injection target (n + m) budget m last o
   tells_from n s m budget last Arrived w t = t
   tells_from n s m budget last Going w t = t
@@ -150,7 +150,7 @@ spent_always b setting s h target budget given = go (start_checks b setting s h 
     go (Err k) e = rw (refused_is b setting s h target budget given k e) (omega arith)
 
 -- the answer without its guesses does not depend on the given guesses
-pub record SameButGuesses (r r' : RunAnswer) : Type 0 where
+pub record SameButGuesses (r r' : RunAnswer Refusal) : Type 0 where
   pub outcome : r.outcome ≡ r'.outcome
   pub steps : r.steps ≡ r'.steps
   pub state : r.state ≡ r'.state

@@ -6,6 +6,7 @@ use native.Mathlib.Numerals.{add-one}
 use native.Mathlib.Decide.{ℕ_discrete}
 use native.Mathlib.Omega.{arith}
 use Rattle.std.specs.Prelude.{Ok, Err}
+use Rattle.base.specs.declared.Refusal.{Refusal}
 use Rattle.state.specs.declared.State.{State}
 use Rattle.run.specs.Step.{Moved}
 use Rattle.run.specs.Walk.{walk}
@@ -18,7 +19,7 @@ use Rattle.run.proofs.Walks.{walk_first, walk_none, walk_last}
 
 -- What an outcome says about the state s, after n steps of the walk f from the injection and a call that did some steps of its budget. One
 -- outcome at a time: `Holds` is the statement for all of them.
-abbrev pub Tells : (State → Moved) → State → ℕ → ℕ → ℕ → ℕ → State → Outcome → Type 0
+abbrev pub Tells : (State → Moved) → State → ℕ → ℕ → ℕ → ℕ → State → Outcome Refusal → Type 0
 Tells f injection target n budget did s Arrived = s.moment ≡ target
 Tells f injection target n budget did s Going = (s.moment ≡ target → ⊥) × (did ≡ budget)
 Tells f injection target n budget did s (Refused k) = (s.moment ≡ target → ⊥) × (did < budget) × (walk f (suc n) injection ≡ Err k)
@@ -43,7 +44,7 @@ module _ (f : State → Moved) (h target : ℕ) (Seen : State → Type 0) (clock
 
   module _ (s : State) (short : s.moment ≡ target → ⊥) where
     -- what a run from the next state says, seen from this one
-    tells_before : (next : State) (n budget : ℕ) (last : State) (o : Outcome) → f s ≡ Ok next → Tells f next target n budget n last o
+    tells_before : (next : State) (n budget : ℕ) (last : State) (o : Outcome Refusal) → f s ≡ Ok next → Tells f next target n budget n last o
         → Tells f s target (n + 1) (suc budget) (n + 1) last o
     tells_before next n budget last Arrived e t = t
     tells_before next n budget last Going e t = (t.0, let same = t.1 in omega arith)
@@ -73,7 +74,7 @@ module _ (f : State → Moved) (h target : ℕ) (Seen : State → Type 0) (clock
           tells = tells_before next r.steps budget r.state r.outcome e ih.tells;
         }
 
-  still : (s : State) (budget left : ℕ) (o : Outcome) → s.moment + left * h ≡ target → Tells f s target 0 budget 0 s o → Ran s budget (ended o s)
+  still : (s : State) (budget left : ℕ) (o : Outcome Refusal) → s.moment + left * h ≡ target → Tells f s target 0 budget 0 s o → Ran s budget (ended o s)
   still s budget left o reach tells =
       record {
         walked = walk_none f s;

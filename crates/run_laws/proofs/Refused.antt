@@ -36,7 +36,7 @@ off_by ok (Ok s) = true
 off_by ok (Err k) = ok k
 
 -- an outcome whose refusal, if it is one, meets the test
-abbrev pub outcome_by : (Refusal → Bool) → Outcome → Bool
+abbrev pub outcome_by : (Refusal → Bool) → Outcome Refusal → Bool
 outcome_by ok outcome.Arrived = true
 outcome_by ok outcome.Going = true
 outcome_by ok (outcome.Refused k) = ok k

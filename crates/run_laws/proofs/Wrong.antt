@@ -25,6 +25,7 @@ use Rattle.run.specs.declared.RunAnswer.{RunAnswer}
 use Rattle.run.proofs.OneStep.{done}
 use Rattle.run.proofs.Runs.{run_arrived, run_on}
 use Rattle.base.proofs.Bools.{left, right}
+use Rattle.base.specs.declared.Refusal.{Refusal}
 use Rattle.run_laws.specs.Wrong.{RunCall, Promised, RefusesEverything, AnswersAConstant, OwnStateAsArrived, OwnStateAsGoing, OnlyTheClock}
 use Rattle.run_laws.specs.Wrong.{InventsACount, example_book, example_setting, example_state, example_h, no_guesses}
 use Rattle.run_laws.proofs.Answers.{answer_is}
@@ -50,12 +51,12 @@ f = step example_book example_setting example_h
 -- the answer of a run of the example, with the target at its own moment
 arrives_here : (run_answer example_book example_setting example_state example_h 0 1 no_guesses).outcome ≡ Arrived
 unfolding run_to
-arrives_here = ap (λ (r : RunAnswer). r.outcome) (answer_is example_book example_setting example_state example_h 0 1 no_guesses passes_here)
+arrives_here = ap (λ (r : RunAnswer Refusal). r.outcome) (answer_is example_book example_setting example_state example_h 0 1 no_guesses passes_here)
 
 -- and short of it, with no budget
 goes_there : (run_answer example_book example_setting example_state example_h 2000 0 no_guesses).outcome ≡ Going
 unfolding run_to
-goes_there = ap (λ (r : RunAnswer). r.outcome) (answer_is example_book example_setting example_state example_h 2000 0 no_guesses passes_there)
+goes_there = ap (λ (r : RunAnswer Refusal). r.outcome) (answer_is example_book example_setting example_state example_h 2000 0 no_guesses passes_there)
 
 -- the second step goes on: y is below 5 after the first step and not after the second
 abbrev low : State → Bool
@@ -78,7 +79,7 @@ module _ (call : RunCall) (promised : Promised call) where
   not_everything_refused refuses =
       let r = refuses example_book example_setting example_state example_h 0 1 no_guesses in
       let same : Arrived ≡ Refused r.0 =
-      sym arrives_here ∙ ap (λ (a : RunAnswer). a.outcome) (sym (promised example_book example_setting example_state example_h 0 1 no_guesses)) ∙ r.1 in
+      sym arrives_here ∙ ap (λ (a : RunAnswer Refusal). a.outcome) (sym (promised example_book example_setting example_state example_h 0 1 no_guesses)) ∙ r.1 in
       let z : ◌≡◌ {A = ℕ} 0 1 = cc in
       omega arith
 
@@ -86,10 +87,10 @@ module _ (call : RunCall) (promised : Promised call) where
   not_a_constant (c, always) =
       let same : Arrived ≡ Going =
       sym arrives_here
-      ∙ ap (λ (a : RunAnswer). a.outcome) (sym (promised example_book example_setting example_state example_h 0 1 no_guesses))
-      ∙ ap (λ (a : RunAnswer). a.outcome) (always example_book example_setting example_state example_h 0 1 no_guesses)
-      ∙ ap (λ (a : RunAnswer). a.outcome) (sym (always example_book example_setting example_state example_h 2000 0 no_guesses))
-      ∙ ap (λ (a : RunAnswer). a.outcome) (promised example_book example_setting example_state example_h 2000 0 no_guesses)
+      ∙ ap (λ (a : RunAnswer Refusal). a.outcome) (sym (promised example_book example_setting example_state example_h 0 1 no_guesses))
+      ∙ ap (λ (a : RunAnswer Refusal). a.outcome) (always example_book example_setting example_state example_h 0 1 no_guesses)
+      ∙ ap (λ (a : RunAnswer Refusal). a.outcome) (sym (always example_book example_setting example_state example_h 2000 0 no_guesses))
+      ∙ ap (λ (a : RunAnswer Refusal). a.outcome) (promised example_book example_setting example_state example_h 2000 0 no_guesses)
       ∙ goes_there in
       let z : ◌≡◌ {A = ℕ} 0 1 = cc in
       omega arith
@@ -98,7 +99,7 @@ module _ (call : RunCall) (promised : Promised call) where
   not_its_own_state_as_arrived own =
       let same : Going ≡ Arrived =
       sym goes_there
-      ∙ ap (λ (a : RunAnswer). a.outcome)
+      ∙ ap (λ (a : RunAnswer Refusal). a.outcome)
       (sym (promised example_book example_setting example_state example_h 2000 0 no_guesses)
       ∙ own example_book example_setting example_state example_h 2000 0 no_guesses passes_there) in
       let z : ◌≡◌ {A = ℕ} 0 1 = cc in
@@ -108,7 +109,7 @@ module _ (call : RunCall) (promised : Promised call) where
   not_its_own_state_as_going own =
       let same : Arrived ≡ Going =
       sym arrives_here
-      ∙ ap (λ (a : RunAnswer). a.outcome)
+      ∙ ap (λ (a : RunAnswer Refusal). a.outcome)
       (sym (promised example_book example_setting example_state example_h 0 1 no_guesses)
       ∙ own example_book example_setting example_state example_h 0 1 no_guesses passes_here) in
       let z : ◌≡◌ {A = ℕ} 0 1 = cc in
@@ -118,9 +119,9 @@ module _ (call : RunCall) (promised : Promised call) where
   no_invented_count i =
       let same = promised i.b i.setting i.s i.h i.target i.budget i.given in
       i.invented
-      (ap (λ (a : RunAnswer). a.state.moment) same
+      (ap (λ (a : RunAnswer Refusal). a.state.moment) same
       ∙ clock_always i.b i.setting i.s i.h i.target i.budget i.given
-      ∙ ap (λ (a : RunAnswer). i.s.moment + a.steps * i.h) (sym same))
+      ∙ ap (λ (a : RunAnswer Refusal). i.s.moment + a.steps * i.h) (sym same))
 
   pub not_only_the_clock : OnlyTheClock call → ⊥
   not_only_the_clock only = go (f example_state) refl both_taken
@@ -142,7 +143,7 @@ module _ (call : RunCall) (promised : Promised call) where
       clash first second one two before after =
           let is = answer first second one two in
           let frozen = (only example_book example_setting example_state first example_h 2000 2 no_guesses one (rw is (omega arith))).0 in
-          let same : second.y ≡ first.y = sym (ap (λ (a : RunAnswer). a.state.y) is) ∙ ap (λ (v : Vector). v.y) frozen in
+          let same : second.y ≡ first.y = sym (ap (λ (a : RunAnswer Refusal). a.state.y) is) ∙ ap (λ (v : Vector). v.y) frozen in
           let still : low second ≡ true = ap (λ (y : Float). lt y (whole 5)) same ∙ before in
           true≢false (sym after ∙ ap not still)
 

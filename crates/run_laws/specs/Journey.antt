@@ -17,7 +17,7 @@ pub record Call : Type 0 where
   pub guesses : Guesses
 
 -- the answers of the calls, each made from the state that the last one returned
-abbrev pub journey : List ℕ → Setting → ℕ → ℕ → State → List Call → List RunAnswer
+abbrev pub journey : List ℕ → Setting → ℕ → ℕ → State → List Call → List (RunAnswer Refusal)
 journey b setting h target s [] = []
 journey b setting h target s (call ∷ calls) =
     let r = run_answer b setting s h target call.budget call.guesses in
@@ -35,7 +35,7 @@ budgets [] = 0
 budgets (call ∷ calls) = call.budget + budgets calls
 
 -- One answer of a call with this budget, after n steps of the walk f from the injection in all.
-pub record Holds (f : State → Moved) (injection : State) (h target n budget : ℕ) (r : RunAnswer) : Type 0 where
+pub record Holds (f : State → Moved) (injection : State) (h target n budget : ℕ) (r : RunAnswer Refusal) : Type 0 where
   -- "The state equals, to the bit, the plain walk from the injection"
   pub walked : walk f n injection ≡ Ok r.state
   pub clock : r.state.moment ≡ injection.moment + n * h
@@ -50,7 +50,7 @@ pub record Holds (f : State → Moved) (injection : State) (h target n budget : 
   pub refused : (k : Refusal) → r.outcome ≡ Refused k ↔ (r.state.moment < target) × (r.steps < budget) × (walk f (suc n) injection ≡ Err k)
 
 -- every answer of a journey, one for each call, after n steps before them
-abbrev pub AllHold : (State → Moved) → State → ℕ → ℕ → ℕ → List Call → List RunAnswer → Type 0
+abbrev pub AllHold : (State → Moved) → State → ℕ → ℕ → ℕ → List Call → List (RunAnswer Refusal) → Type 0
 AllHold f injection h target n [] [] = Unit {0}
 AllHold f injection h target n [] (r ∷ answers) = ⊥
 AllHold f injection h target n (call ∷ calls) [] = ⊥
@@ -59,11 +59,11 @@ AllHold f injection h target n (call ∷ calls) (r ∷ answers) =
 
 -- "A refused step costs nothing and is met again by each later call with budget": the answer of a call from the state s, if the next step
 -- is refused with k. Without budget the answer is going.
-abbrev pub met_again : Refusal → State → Call → RunAnswer
+abbrev pub met_again : Refusal → State → Call → RunAnswer Refusal
 met_again k s call =
     record { outcome = if call.budget =? 0 then Going otherwise Refused k; steps = 0; state = s; guesses = call.guesses }
 
 -- an answer that ends a journey: arrived at the target, or refused with the number of the step that cannot be taken
-pub data Over (f : State → Moved) (target : ℕ) (r : RunAnswer) : Type 0 where
+pub data Over (f : State → Moved) (target : ℕ) (r : RunAnswer Refusal) : Type 0 where
   there : r.outcome ≡ Arrived → r.state.moment ≡ target → Over f target r
   off : (k : Refusal) → r.outcome ≡ Refused k → f r.state ≡ Err k → Over f target r

@@ -16,7 +16,7 @@ use Rattle.run.specs.declared.RunAnswer.{RunAnswer}
 
 -- a run call: book, setting, state, h, target, budget and guesses to an answer
 abbrev pub RunCall : Type 0
-RunCall = List ℕ → Setting → State → ℕ → ℕ → ℕ → Guesses → RunAnswer
+RunCall = List ℕ → Setting → State → ℕ → ℕ → ℕ → Guesses → RunAnswer Refusal
 
 -- the promise of `run`, for every input
 abbrev pub Promised : RunCall → Type 0
@@ -33,7 +33,7 @@ RefusesEverything call =
 -- "one answering a constant"
 abbrev pub AnswersAConstant : RunCall → Type 0
 AnswersAConstant call =
-    (c : RunAnswer)
+    (c : RunAnswer Refusal)
     × ((b : List ℕ) (setting : Setting) (s : State) (h target budget : ℕ) (given : Guesses) → call b setting s h target budget given ≡ c)
 
 -- "one handing its state back as 'arrived'", whenever the checks pass

@@ -19,7 +19,7 @@ run_before b setting s h target budget =
     (run_to (step_before (acceleration_before b setting) h) target budget s)
     (λ k. ended (Refused k) s)
 
-abbrev pub reached_by : RunAnswer → Reached
+abbrev pub reached_by : RunAnswer Refusal → Reached
 reached_by r = record { outcome = r.outcome; steps = r.steps; state = r.state }
 
 -- The result r of a run, and its result q before: "all bits stay as they were". R-8 moves one thing: "a step whose new state has none is
