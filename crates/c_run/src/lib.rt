@@ -7,8 +7,9 @@ pub mod calls;
 
 ghost use Rattle.std.specs.Prelude.{◌≡◌};
 ghost use Rattle.c_run.specs.Lent.{guesses_of};
-ghost use Rattle.c_run.specs.Answers.{outcome_number, run_memory, of_run_in, of_run, of_flight};
+ghost use Rattle.c_run.specs.Answers.{number_by, run_memory, of_run_in, of_run_by, of_flight_by};
 
+use base::Reason;
 use c_state::{coordinates_in, whole_in};
 pub use c_state::{injection_of, setting_of, state_of};
 use gravity::Guesses;
@@ -28,27 +29,27 @@ pub fn guesses_of(g: [u64; 5]) -> Guesses
     }
 }
 
-fn outcome_number(outcome: Outcome) -> u64
-    ensures { result ≡ outcome_number outcome }
+fn outcome_number<R: Reason>(outcome: Outcome<R>) -> u64
+    ensures { result ≡ number_by R.told outcome }
 {
     match outcome {
         Outcome::Arrived => 0,
         Outcome::Going => GOING,
-        Outcome::Refused(refusal) => refusal.number(),
+        Outcome::Refused(refusal) => refusal.told(),
     }
 }
 
 // A refused run returns these too: the last state reached, in these coordinates, and the steps done.
-fn hand_back_in<const N: usize>(
+fn hand_back_in<R: Reason, const N: usize>(
     coordinates: [f64; N],
-    answer: RunAnswer,
+    answer: RunAnswer<R>,
     reached: &mut u64,
     there: &mut [f64; N],
     entries: &mut [u64; 5],
     steps: &mut u32,
 ) -> u64
     ensures { run_memory result reached.new there.new entries.new steps.new
-        ≡ of_run_in coordinates.entry answer }
+        ≡ of_run_in R.told coordinates.entry answer }
 {
     *reached = answer.state.moment;
     *there = coordinates;
@@ -59,30 +60,30 @@ fn hand_back_in<const N: usize>(
 }
 
 // Position and velocity of the last state reached.
-pub fn hand_back(
-    answer: RunAnswer,
+pub fn hand_back<R: Reason>(
+    answer: RunAnswer<R>,
     reached: &mut u64,
     there: &mut [f64; 6],
     entries: &mut [u64; 5],
     steps: &mut u32,
 ) -> u64
     ensures { run_memory result reached.new there.new entries.new steps.new
-        ≡ of_run answer }
+        ≡ of_run_by R.told answer }
 {
     let six = coordinates_in(answer.state);
     hand_back_in(six, answer, reached, there, entries, steps)
 }
 
 // The same with the whole state.
-pub fn hand_back_whole(
-    answer: RunAnswer,
+pub fn hand_back_whole<R: Reason>(
+    answer: RunAnswer<R>,
     reached: &mut u64,
     there: &mut [f64; 9],
     entries: &mut [u64; 5],
     steps: &mut u32,
 ) -> u64
     ensures { run_memory result reached.new there.new entries.new steps.new
-        ≡ of_flight answer }
+        ≡ of_flight_by R.told answer }
 {
     let nine = whole_in(answer.state);
     hand_back_in(nine, answer, reached, there, entries, steps)
