@@ -80,11 +80,11 @@ pane_in pane = kept_in (numbers_in pane) (places_in pane)
 -- ---- states taken
 
 -- what a run returned: 0 arrived, 100 going, or a refusal number
-abbrev pub refused_with : Option Refusal → Option Outcome
+abbrev pub refused_with : Option Refusal → Option (Outcome Refusal)
 refused_with (Some refusal) = Some (Outcome.Refused refusal)
 refused_with None = None
 
-abbrev pub outcome_of : ℕ → Option Outcome
+abbrev pub outcome_of : ℕ → Option (Outcome Refusal)
 outcome_of returned =
     if returned =? 0 then Some Outcome.Arrived otherwise
     if returned =? going then Some Outcome.Going otherwise refused_with (refusal_of returned)
@@ -93,23 +93,26 @@ abbrev pub no_guesses : Guesses
 no_guesses = record { moon = 0; sun = 0; venus = 0; mars = 0; jupiter = 0 }
 
 -- the answer of a run without steps and guesses, which the pane does not read
-abbrev pub flown : Outcome → State → RunAnswer
+abbrev pub flown : Outcome Refusal → State → RunAnswer Refusal
 flown outcome s = record { outcome = outcome; steps = 0; state = s; guesses = no_guesses }
 
 -- what the pane says to it. A number that no run returns changes nothing, as a refused run does.
-abbrev pub fed_with_outcome : Pane → State → Option Outcome → TakeAnswer
+abbrev pub fed_with_outcome : Pane → State → Option (Outcome Refusal) → TakeAnswer Refusal
 fed_with_outcome pane s (Some outcome) = feed pane (flown outcome s)
 fed_with_outcome pane s None = taken.Unchanged
 
-abbrev pub fed_with : Pane → ℕ → State → TakeAnswer
+abbrev pub fed_with : Pane → ℕ → State → TakeAnswer Refusal
 fed_with pane returned s = fed_with_outcome pane s (outcome_of returned)
 
 abbrev pub unchanged : ℕ
 unchanged = 101
 
 -- if a state is taken: 0 and the new pane. Otherwise 101 or the refusal number, and the memory is unchanged, even if it was not a valid
--- pane.
-abbrev pub left : Kept → TakeAnswer → Handed Kept
-left before (taken.Taken next) = handed 0 (pane_in next)
-left before taken.Unchanged = handed unchanged before
-left before (taken.Refused k) = handed (number_of k) before
+-- pane. The refusal may be any whose number is told.
+abbrev pub left_by : {R : Type 0} → (R → ℕ) → Kept → TakeAnswer R → Handed Kept
+left_by told before (taken.Taken next) = handed 0 (pane_in next)
+left_by told before taken.Unchanged = handed unchanged before
+left_by told before (taken.Refused k) = handed (told k) before
+
+abbrev pub left : Kept → TakeAnswer Refusal → Handed Kept
+left before answer = left_by number_of before answer

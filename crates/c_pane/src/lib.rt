@@ -6,9 +6,9 @@
 ghost use Rattle.std.specs.Prelude.{◌≡◌};
 ghost use Rattle.c_answer.specs.Handed.{handed};
 ghost use Rattle.pane_live.specs.Pane.{frame_at};
-ghost use Rattle.c_pane.specs.Lent.{kept_in, older_of, newer_of, pane_of, numbers_in, places_in, outcome_of, flown, fed_with, left};
+ghost use Rattle.c_pane.specs.Lent.{kept_in, older_of, newer_of, pane_of, numbers_in, places_in, outcome_of, flown, fed_with, left_by};
 
-use base::Refusal;
+use base::{Reason, Refusal};
 use gravity::Guesses;
 use pane_live::{FrameAnswer, Pane, TakeAnswer};
 use run::{Outcome, RunAnswer};
@@ -98,8 +98,8 @@ pub fn places_in(pane: Pane) -> [f64; 18]
 }
 
 // If a state is not taken, the memory stays unchanged.
-pub fn keep(answer: TakeAnswer, pane: &mut [u64; 5], places: &mut [f64; 18]) -> u64
-    ensures { handed result (kept_in pane.new places.new) ≡ left (kept_in pane.old places.old) answer }
+pub fn keep<R: Reason>(answer: TakeAnswer<R>, pane: &mut [u64; 5], places: &mut [f64; 18]) -> u64
+    ensures { handed result (kept_in pane.new places.new) ≡ left_by R.told (kept_in pane.old places.old) answer }
 {
     match answer {
         TakeAnswer::Taken(next) => {
@@ -108,7 +108,7 @@ pub fn keep(answer: TakeAnswer, pane: &mut [u64; 5], places: &mut [f64; 18]) -> 
             0
         }
         TakeAnswer::Unchanged => UNCHANGED,
-        TakeAnswer::Refused(refusal) => refusal.number(),
+        TakeAnswer::Refused(refusal) => refusal.told(),
     }
 }
 
