@@ -1,5 +1,6 @@
 -- What `ask` answers to a line, by the book that it has: one definition of the line and the book.
 use Rattle.std.specs.Prelude.{ℕ, ◌+◌, List, [], ◌∷◌, ◌++◌}
+use Rattle.base.specs.declared.Refusal.{Refusal}
 use Rattle.calendar.specs.Answers.{date_answer, day_answer}
 use Rattle.hour.specs.Hour.{hour_answer, sidereal_answer}
 use Rattle.root.specs.Root.{root_answer}
@@ -56,10 +57,10 @@ guess_kinds = D ∷ D ∷ D ∷ D ∷ D ∷ []
 pub record Question : Type 0 where
   pub name : List ℕ
   pub kinds : List ℕ
-  pub answer : List ℕ → Answer
+  pub answer : List ℕ → Answer Refusal
 
 -- H TARGET BUDGET G2 .. G6 from a field on: the run from a state
-abbrev pub run_from : List ℕ → Setting → State → List ℕ → ℕ → RunAnswer
+abbrev pub run_from : List ℕ → Setting → State → List ℕ → ℕ → RunAnswer Refusal
 run_from book setting state v i =
     run_answer book setting state (narrow (number v i)) (number v (i + 1)) (narrow (number v (i + 2))) (guesses_from v (i + 3))
 
@@ -228,12 +229,12 @@ fly_call book =
 -- ---- the answer
 
 -- the answer to the numbers of a call; a line that is no such call goes to the later ones
-abbrev pub or_else : Call → (List ℕ → Answer) → Answer → Answer
+abbrev pub or_else : Call → (List ℕ → Answer Refusal) → Answer Refusal → Answer Refusal
 or_else (These v) answered later = answered v
 or_else Unreadable answered later = later
 
 -- the answer of the first that the line is a call of, or UNREADABLE
-unfoldable pub answer_of : List Question → List ℕ → Answer
+unfoldable pub answer_of : List Question → List ℕ → Answer Refusal
 answer_of [] line = answer.Unreadable
 answer_of (q ∷ qs) line = or_else (call_of line q.name q.kinds) q.answer (answer_of qs line)
 
@@ -259,5 +260,5 @@ questions book =
     ∷ fly_call book
     ∷ []
 
-abbrev pub answer_to : List ℕ → List ℕ → Answer
+abbrev pub answer_to : List ℕ → List ℕ → Answer Refusal
 answer_to book line = answer_of (questions book) line
