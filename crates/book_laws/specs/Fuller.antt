@@ -20,27 +20,27 @@ abbrev pub Unless : {A : Type 0} → A → A → A → Type 0
 Unless gap x y = (x ≡ gap) ⊎ (x ≡ y)
 
 -- "same bits, same count": two runs that differ in their guesses alone
-pub record SameRun (r q : RunAnswer) : Type 0 where
+pub record SameRun (r q : RunAnswer Refusal) : Type 0 where
   pub outcome : r.outcome ≡ q.outcome
   pub steps : r.steps ≡ q.steps
   pub state : r.state ≡ q.state
 
 -- a run from s that refuses under the first book, b, for lack of cover, and the same run under the second, c. It "goes at least as many
 -- steps under the second", with the same states on the way.
-pub record GoesFurther (b c : List ℕ) (setting : Setting) (h : ℕ) (s : State) (r q : RunAnswer) : Type 0 where
+pub record GoesFurther (b c : List ℕ) (setting : Setting) (h : ℕ) (s : State) (r q : RunAnswer Refusal) : Type 0 where
   pub uncovered : r.outcome ≡ Refused Refusal.Cover
   pub further : r.steps ≤ q.steps
   pub way : walk (step c setting h) r.steps s ≡ Ok r.state
 
-abbrev pub FullerRun : List ℕ → List ℕ → Setting → ℕ → State → RunAnswer → RunAnswer → Type 0
+abbrev pub FullerRun : List ℕ → List ℕ → Setting → ℕ → State → RunAnswer Refusal → RunAnswer Refusal → Type 0
 FullerRun b c setting h s r q = SameRun r q ⊎ GoesFurther b c setting h s r q
 
 -- the answers of the calls of a journey, one by one from the same state: the same, until the first book lacks cover
-pub data Alongside (b c : List ℕ) (setting : Setting) (h : ℕ) : State → List RunAnswer → List RunAnswer → Type 0 where
+pub data Alongside (b c : List ℕ) (setting : Setting) (h : ℕ) : State → List (RunAnswer Refusal) → List (RunAnswer Refusal) → Type 0 where
   none : (s : State) → Alongside b c setting h s [] []
-  same : (s : State) (r q : RunAnswer) (rs qs : List RunAnswer) → SameRun r q → Alongside b c setting h r.state rs qs
+  same : (s : State) (r q : RunAnswer Refusal) (rs qs : List (RunAnswer Refusal)) → SameRun r q → Alongside b c setting h r.state rs qs
       → Alongside b c setting h s (r ∷ rs) (q ∷ qs)
-  gap : (s : State) (r q : RunAnswer) (rs qs : List RunAnswer) → GoesFurther b c setting h s r q → Alongside b c setting h s (r ∷ rs) (q ∷ qs)
+  gap : (s : State) (r q : RunAnswer Refusal) (rs qs : List (RunAnswer Refusal)) → GoesFurther b c setting h s r q → Alongside b c setting h s (r ∷ rs) (q ∷ qs)
 
 -- "Guesses may differ": the same calls with other guesses, and legs of such calls
 abbrev pub SameBudgets : List Call → List Call → Type 0
