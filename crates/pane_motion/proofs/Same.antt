@@ -22,10 +22,11 @@ use Rattle.pane_motion.specs.declared.Motion.{Motion}
 
 -- ---- what is shown with a velocity v, for each answer of a frame
 
-current_of : (f : FrameAnswer Vector) (v : Vector) (m : Motion) → with_velocity f v ≡ Current m → f ≡ Current m.position
+current_of : (f : FrameAnswer Vector Refusal) (v : Vector) (m : Motion) → with_velocity f v ≡ Current m → f ≡ Current m.position
 current_of (Current p) v m e = by (finite_vector v) e
   where
-    by : (fin : Bool) → (if fin then Current (moving p v) otherwise Refused Refusal.NotFinite) ≡ Current m → Current p ≡ Current m.position
+    by : (fin : Bool) → (if fin then Current (moving p v) otherwise Refused Refusal.NotFinite) ≡ Current m
+        → ◌≡◌ {A = FrameAnswer Vector Refusal} (Current p) (Current m.position)
     by true e = let same : moving p v ≡ m = cc in ap (λ (x : Motion). Current x.position) same
     by false e = let z : ◌≡◌ {A = ℕ} 0 1 = cc in absurd (omega arith)
 current_of (Late ms) v m e = let z : ◌≡◌ {A = ℕ} 0 1 = cc in absurd (omega arith)
@@ -33,14 +34,14 @@ current_of Empty v m e = let z : ◌≡◌ {A = ℕ} 0 1 = cc in absurd (omega a
 current_of (Refused k) v m e = let z : ◌≡◌ {A = ℕ} 0 1 = cc in absurd (omega arith)
 
 -- an answer that no current frame gives
-not_current : (p v : Vector) (answer : FrameAnswer Motion) → ((m : Motion) → Current m ≡ answer → ⊥) → (Refused Refusal.NotFinite ≡ answer → ⊥) → with_velocity (Current p) v ≡ answer → ⊥
+not_current : (p v : Vector) (answer : FrameAnswer Motion Refusal) → ((m : Motion) → Current m ≡ answer → ⊥) → (Refused Refusal.NotFinite ≡ answer → ⊥) → with_velocity (Current p) v ≡ answer → ⊥
 not_current p v answer no-motion no_refusal = by (finite_vector v)
   where
     by : (fin : Bool) → (if fin then Current (moving p v) otherwise Refused Refusal.NotFinite) ≡ answer → ⊥
     by true e = no-motion (moving p v) e
     by false e = no_refusal e
 
-late_of : (f : FrameAnswer Vector) (v : Vector) (ms : ℕ) → with_velocity f v ≡ Late ms → f ≡ Late ms
+late_of : (f : FrameAnswer Vector Refusal) (v : Vector) (ms : ℕ) → with_velocity f v ≡ Late ms → f ≡ Late ms
 late_of (Current p) v ms e =
     absurd
     (not_current p v (Late ms) (λ m e. let z : ◌≡◌ {A = ℕ} 0 1 = cc in omega arith) (λ e. let z : ◌≡◌ {A = ℕ} 0 1 = cc in omega arith) e)
@@ -48,7 +49,7 @@ late_of (Late by) v ms e = cc
 late_of Empty v ms e = let z : ◌≡◌ {A = ℕ} 0 1 = cc in absurd (omega arith)
 late_of (Refused k) v ms e = let z : ◌≡◌ {A = ℕ} 0 1 = cc in absurd (omega arith)
 
-empty_of : (f : FrameAnswer Vector) (v : Vector) → with_velocity f v ≡ Empty → f ≡ Empty
+empty_of : (f : FrameAnswer Vector Refusal) (v : Vector) → with_velocity f v ≡ Empty → f ≡ Empty
 empty_of (Current p) v e =
     absurd
     (not_current p v Empty (λ m e. let z : ◌≡◌ {A = ℕ} 0 1 = cc in omega arith) (λ e. let z : ◌≡◌ {A = ℕ} 0 1 = cc in omega arith) e)
@@ -57,13 +58,13 @@ empty_of Empty v e = refl
 empty_of (Refused k) v e = let z : ◌≡◌ {A = ℕ} 0 1 = cc in absurd (omega arith)
 
 -- 7 only because of the velocity
-record Alone (f : FrameAnswer Vector) (v : Vector) (k : Refusal) : Type 0 where
+record Alone (f : FrameAnswer Vector Refusal) (v : Vector) (k : Refusal) : Type 0 where
   seven : k ≡ Refusal.NotFinite
   place : Vector
   shows : f ≡ Current place
   unfit : finite_vector v ≡ false
 
-refused_of : (f : FrameAnswer Vector) (v : Vector) (k : Refusal) → with_velocity f v ≡ Refused k → (f ≡ Refused k) ⊎ Alone f v k
+refused_of : (f : FrameAnswer Vector Refusal) (v : Vector) (k : Refusal) → with_velocity f v ≡ Refused k → (f ≡ Refused k) ⊎ Alone f v k
 refused_of (Current p) v k e = by (finite_vector v) refl e
   where
     by : (fin : Bool) → finite_vector v ≡ fin → (if fin then Current (moving p v) otherwise Refused Refusal.NotFinite) ≡ Refused k → (Current p ≡ Refused k) ⊎ Alone (Current p) v k
@@ -94,9 +95,9 @@ nothing_same pane t f g =
 
 module _ (a b : State) (t : ℕ) where
   -- what the frame shows, with the velocity
-  pub of_frame_lem : (f : FrameAnswer Vector) → frame_at (Two a b) t ≡ f → motion_at (Two a b) t ≡ with_velocity f (frame_velocity a b t)
+  pub of_frame_lem : (f : FrameAnswer Vector Refusal) → frame_at (Two a b) t ≡ f → motion_at (Two a b) t ≡ with_velocity f (frame_velocity a b t)
   unfolding motion_at
-  of_frame_lem f e = ap (λ (g : FrameAnswer Vector). with_velocity g (frame_velocity a b t)) e
+  of_frame_lem f e = ap (λ (g : FrameAnswer Vector Refusal). with_velocity g (frame_velocity a b t)) e
 
   unfit_refused : NoVelocity (Two a b) t → motion_at (Two a b) t ≡ Refused Refusal.NotFinite
   unfit_refused n =
@@ -146,7 +147,7 @@ same_frame (One a) t = nothing_same (One a) t refl refl
 same_frame (Two a b) t = two_same a b t
 
 -- the velocity that is shown is the rate of the same cubic
-velocity_with : (f : FrameAnswer Vector) (v : Vector) (m : Motion) → with_velocity f v ≡ Current m → m.velocity ≡ v
+velocity_with : (f : FrameAnswer Vector Refusal) (v : Vector) (m : Motion) → with_velocity f v ≡ Current m → m.velocity ≡ v
 velocity_with (Current p) v m e = by (finite_vector v) e
   where
     by : (fin : Bool) → (if fin then Current (moving p v) otherwise Refused Refusal.NotFinite) ≡ Current m → m.velocity ≡ v

@@ -43,17 +43,17 @@ abbrev pub moving : Vector → Vector → Motion
 moving p v = record { position = p; velocity = v }
 
 -- "Any of the six numbers that is not finite is 7": the frame has checked the first three
-abbrev pub shown_motion : Vector → Vector → FrameAnswer Motion
+abbrev pub shown_motion : Vector → Vector → FrameAnswer Motion Refusal
 shown_motion p v = if finite_vector v then Current (moving p v) otherwise Refused Refusal.NotFinite
 
 -- the frame, with the velocity v if it is current
-abbrev pub with_velocity : FrameAnswer Vector → Vector → FrameAnswer Motion
+abbrev pub with_velocity : FrameAnswer Vector Refusal → Vector → FrameAnswer Motion Refusal
 with_velocity (Current p) v = shown_motion p v
 with_velocity (Late ms) v = Late ms
 with_velocity Empty v = Empty
 with_velocity (Refused k) v = Refused k
 
-unfoldable pub motion_at : Pane → ℕ → FrameAnswer Motion
+unfoldable pub motion_at : Pane → ℕ → FrameAnswer Motion Refusal
 motion_at Blank t = Empty
 motion_at (One a) t = Empty
 motion_at (Two a b) t = with_velocity (frame_at (Two a b) t) (frame_velocity a b t)
