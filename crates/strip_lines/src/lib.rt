@@ -40,7 +40,7 @@ fn print(rt: &(impl Print + Eprint), form: Form, part: &[u8]) -> bool {
 
 fn print_lone_refusal(rt: &(impl Print + Eprint), form: Form, refusal: Refusal) {
     let mut line = [0u8; 128];
-    let n = put_lone_refusal(&mut line, 0, refusal);
+    let n = put_lone_refusal(&mut line, 0, refusal.number());
     print(rt, form, &line[..n]);
 }
 
