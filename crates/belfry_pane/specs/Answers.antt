@@ -2,6 +2,7 @@
 use Rattle.std.specs.Prelude.{ℕ, List, [], ◌∷◌, Float}
 use Rattle.std.specs.Float.{nan}
 use Rattle.base.specs.Refusals.{number_of}
+use Rattle.base.specs.declared.Refusal.{Refusal}
 use Rattle.state.specs.declared.Vector.{Vector}
 use Rattle.pane_live.specs.declared.FrameAnswer.{FrameAnswer}
 use Rattle.pane_live.specs.declared.FrameAnswer.TheVariants as frame
@@ -30,28 +31,28 @@ abbrev pub nothing : List Float
 nothing = nan ∷ nan ∷ nan ∷ []
 
 -- the number returned, at every type of what is shown: 0, 102 for late, 103 for empty, or the refusal number
-abbrev pub frame_number : {A : Type 0} → FrameAnswer A → ℕ
+abbrev pub frame_number : {A : Type 0} → FrameAnswer A Refusal → ℕ
 frame_number (frame.Current x) = 0
 frame_number (frame.Late ms) = late
 frame_number frame.Empty = empty
 frame_number (frame.Refused k) = number_of k
 
 -- how late, in milliseconds
-abbrev pub frame_late : {A : Type 0} → FrameAnswer A → ℕ
+abbrev pub frame_late : {A : Type 0} → FrameAnswer A Refusal → ℕ
 frame_late (frame.Current x) = 0
 frame_late (frame.Late ms) = ms
 frame_late frame.Empty = 0
 frame_late (frame.Refused k) = 0
 
 -- the coordinates of what is shown, and if the frame is not current, NaNs
-abbrev pub current_or : {A : Type 0} → (A → List Float) → List Float → FrameAnswer A → List Float
+abbrev pub current_or : {A : Type 0} → (A → List Float) → List Float → FrameAnswer A Refusal → List Float
 current_or written none (frame.Current x) = written x
 current_or written none (frame.Late ms) = none
 current_or written none frame.Empty = none
 current_or written none (frame.Refused k) = none
 
 -- both places are always written
-abbrev pub of_frame : FrameAnswer Vector → FrameMemory
+abbrev pub of_frame : FrameAnswer Vector Refusal → FrameMemory
 of_frame shown = framed (frame_number shown) (current_or vector_in nothing shown) (frame_late shown)
 
 -- ---- a frame with velocity
@@ -74,5 +75,5 @@ abbrev pub no_motion : List Float
 no_motion = nan ∷ nan ∷ nan ∷ nan ∷ nan ∷ nan ∷ []
 
 -- the same numbers as a frame returns, and both places are always written
-abbrev pub of_motion : FrameAnswer Motion → MotionMemory
+abbrev pub of_motion : FrameAnswer Motion Refusal → MotionMemory
 of_motion shown = in_motion (frame_number shown) (current_or six_in no_motion shown) (frame_late shown)
