@@ -49,12 +49,12 @@ takes Blank newest s is same later = absurd is
 takes (One a) newest s is same later = rw (is, eq-eqb _ _ same, lt-ltb _ _ later)
 takes (Two a b) newest s is same later = rw (is, eq-eqb _ _ same, lt-ltb _ _ later)
 
-feeds : (pane : Pane) (newest : State) (r : RunAnswer) → NotRefused r → Newest pane newest → r.state.centre ≡ newest.centre → newest.moment < r.state.moment
+feeds : (pane : Pane) (newest : State) (r : RunAnswer Refusal) → NotRefused r → Newest pane newest → r.state.centre ≡ newest.centre → newest.moment < r.state.moment
     → after pane (feed pane r) ≡ Two newest r.state
 unfolding feed
 feeds pane newest r goes is same later = go r.outcome refl
   where
-    go : (o : Outcome) → r.outcome ≡ o → after pane (feed_by o pane r.state) ≡ Two newest r.state
+    go : (o : Outcome Refusal) → r.outcome ≡ o → after pane (feed_by o pane r.state) ≡ Two newest r.state
     go outcome.Arrived e = ap (after pane) (takes pane newest r.state is same later)
     go outcome.Going e = ap (after pane) (takes pane newest r.state is same later)
     go (outcome.Refused k) e = absurd (goes k e)
@@ -78,7 +78,7 @@ finite_there_lem b setting s h target budget given goes = go (start_checks b set
     go (Ok tt) e =
         rw (answer_is b setting s h target budget given e)
         (left _ (finite_vector (velocity (run_to (step b setting h) target budget s).state)) (checks_stay b setting h target s budget (passed b setting s h target e)).finite)
-    go (Err k) e = absurd (goes k (ap (λ (r : RunAnswer). r.outcome) (refused_is b setting s h target budget given k e)))
+    go (Err k) e = absurd (goes k (ap (λ (r : RunAnswer Refusal). r.outcome) (refused_is b setting s h target budget given k e)))
 
 module _ (setting : Setting) (h : ℕ) (injection : State) (b : List ℕ) (made : List Move) where
   -- the picture comes back, or continues: a run that is not refused and goes past the newest state of the pane is on air

@@ -141,12 +141,12 @@ module _ (b : List ℕ) (setting : Setting) (h : ℕ) where
   taken_on start (One a) s all r = after_one start (One a) a s all all r
   taken_on start (Two a c) s all r = after_one start (Two a c) c s all all.1 r
 
-  by_outcome : (start : State) (o : Outcome) (pane : Pane) (s : State) → PaneReached start pane → Reached start s → PaneReached start (after pane (feed_by o pane s))
+  by_outcome : {R : Type 0} (start : State) (o : Outcome R) (pane : Pane) (s : State) → PaneReached start pane → Reached start s → PaneReached start (after pane (feed_by o pane s))
   by_outcome start outcome.Arrived pane s all r = taken_on start pane s all r
   by_outcome start outcome.Going pane s all r = taken_on start pane s all r
   by_outcome start (outcome.Refused k) pane s all r = all
 
-  pub fed_on : (start : State) (pane : Pane) (answer : RunAnswer) → PaneReached start pane → Reached start answer.state
+  pub fed_on : {R : Type 0} (start : State) (pane : Pane) (answer : RunAnswer R) → PaneReached start pane → Reached start answer.state
       → PaneReached start (after pane (feed pane answer))
   unfolding feed
   fed_on start pane answer all r = by_outcome start answer.outcome pane answer.state all r

@@ -125,7 +125,7 @@ module _ (setting : Setting) (h : ℕ) (injection : State) (b : List ℕ) (made 
   off_air_moving desk start last n k t moved walked off past =
       go (frame_at pane t) refl (off_air desk start last n k t moved walked off past)
     where
-      go : (answer : FrameAnswer Vector) → frame_at pane t ≡ answer → OffAir b setting h start last t answer → OffAirMoving b setting h start last t (motion_at pane t)
+      go : (answer : FrameAnswer Vector Refusal) → frame_at pane t ≡ answer → OffAir b setting h start last t answer → OffAirMoving b setting h start last t (motion_at pane t)
       go answer e empty = subst (OffAirMoving b setting h start last t) (sym ((same_frame pane t).empty.1 e)) empty_moving
       go answer e (late m s reached within gone) =
           subst (OffAirMoving b setting h start last t) (sym (((same_frame pane t).late (t - s.moment)).1 e)) (late_moving m s reached within gone)

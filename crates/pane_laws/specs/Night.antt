@@ -43,7 +43,7 @@ Newest (One a) s = a ≡ s
 Newest (Two a b) s = b ≡ s
 
 -- a run that was not refused
-abbrev pub NotRefused : RunAnswer → Type 0
+abbrev pub NotRefused : RunAnswer Refusal → Type 0
 NotRefused r = (k : Refusal) → r.outcome ≡ outcome.Refused k → ⊥
 
 -- the answer of a run on air, once it is fed: from the newest state of the pane to that of the answer

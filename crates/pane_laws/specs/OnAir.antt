@@ -1,5 +1,6 @@
 -- What a frame may show, compared with the plain walk from the injection with the moves that the desk made.
 use Rattle.std.specs.Prelude.{List, ◌≡◌, ℕ, ◌-◌, ◌≤◌, ◌<◌, Ok}
+use Rattle.base.specs.declared.Refusal.{Refusal}
 use Rattle.state.specs.declared.State.{State}
 use Rattle.state.specs.declared.Setting.{Setting}
 use Rattle.state.specs.declared.Vector.{Vector}
@@ -33,7 +34,7 @@ pub record OnAir (b : List ℕ) (setting : Setting) (h : ℕ) (injection : State
   pub is : p ≡ figure older newer t
 
 -- Off air at t: the frame is empty, or late by the time since a state of the walk from start, no later than `last`. It shows no position.
-pub data OffAir (b : List ℕ) (setting : Setting) (h : ℕ) (start last : State) (t : ℕ) : FrameAnswer Vector → Type 0 where
+pub data OffAir (b : List ℕ) (setting : Setting) (h : ℕ) (start last : State) (t : ℕ) : FrameAnswer Vector Refusal → Type 0 where
   empty : OffAir b setting h start last t frame.Empty
   late : (n : ℕ) (s : State) → walk (step b setting h) n start ≡ Ok s → s.moment ≤ last.moment → s.moment < t
       → OffAir b setting h start last t (frame.Late (t - s.moment))
@@ -45,7 +46,7 @@ pub record OnAirMoving (b : List ℕ) (setting : Setting) (h : ℕ) (injection :
   pub place : OnAir b setting h injection made t m.position
   pub speed : m.velocity ≡ frame_velocity place.older place.newer t
 
-pub data OffAirMoving (b : List ℕ) (setting : Setting) (h : ℕ) (start last : State) (t : ℕ) : FrameAnswer Motion → Type 0 where
+pub data OffAirMoving (b : List ℕ) (setting : Setting) (h : ℕ) (start last : State) (t : ℕ) : FrameAnswer Motion Refusal → Type 0 where
   empty_moving : OffAirMoving b setting h start last t frame.Empty
   late_moving : (n : ℕ) (s : State) → walk (step b setting h) n start ≡ Ok s → s.moment ≤ last.moment → s.moment < t
       → OffAirMoving b setting h start last t (frame.Late (t - s.moment))
