@@ -62,7 +62,7 @@ use Rattle.c_laws.proofs.Panes.{pane_reads_back, fed_as_answered}
 -- ---- what a call wrote, read again
 
 -- the memory after a call reads as the pane after it, for any earlier contents of the memory
-left_reads : (kept : Kept) (answer : TakeAnswer)
+left_reads : (kept : Kept) (answer : TakeAnswer Refusal)
     → pane_of (left kept answer).memory.numbers (left kept answer).memory.places ≡ after (pane_of kept.numbers kept.places) answer
 left_reads kept (taken.Taken next) = pane_reads_back next
 left_reads kept taken.Unchanged = refl
@@ -94,7 +94,7 @@ module _ (m extras : List Float) (dut rule : ℕ) where
   abbrev setting : Setting
   setting = setting_in m extras dut rule
 
-  abbrev answer_of : List ℕ → ℕ → ℕ → Held → LinkedCall → RunAnswer
+  abbrev answer_of : List ℕ → ℕ → ℕ → Held → LinkedCall → RunAnswer Refusal
   answer_of b h target s call = run_answer b setting (state_in s) h target call.budget (guesses_of call.guesses)
 
   flight_reads : (b : List ℕ) (h target : ℕ) (s : Held) (call : LinkedCall)
@@ -180,23 +180,23 @@ module _ (m extras : List Float) (dut rule : ℕ) where
       pub on_air_in_memory : (frame_in kept t).returned ≡ 0 → OnAirIn m extras dut rule b h injection made t (frame_in kept t)
       on_air_in_memory zero = go (frame_at (pane_of kept.numbers kept.places) t) refl zero
         where
-          go : (answer : FrameAnswer Vector) → frame_at (pane_of kept.numbers kept.places) t ≡ answer → (of_frame (frame_at (pane_of kept.numbers kept.places) t)).returned ≡ 0
+          go : (answer : FrameAnswer Vector Refusal) → frame_at (pane_of kept.numbers kept.places) t ≡ answer → (of_frame (frame_at (pane_of kept.numbers kept.places) t)).returned ≡ 0
               → OnAirIn m extras dut rule b h injection made t (frame_in kept t)
           go (frame.Current p) e none =
               record {
                 p = p;
-                written = ap (λ (a : FrameAnswer Vector). (of_frame a).position) e;
+                written = ap (λ (a : FrameAnswer Vector Refusal). (of_frame a).position) e;
                 shown =
                     on_air setting h (state_in injection) b made (map state_in hand) (pane_of kept.numbers kept.places) (as_desk b made hand kept d) t p e;
               }
           go (frame.Late ms) e none =
-              let clash : ◌≡◌ {A = ℕ} 102 0 = sym (ap (λ (a : FrameAnswer Vector). (of_frame a).returned) e) ∙ none in
+              let clash : ◌≡◌ {A = ℕ} 102 0 = sym (ap (λ (a : FrameAnswer Vector Refusal). (of_frame a).returned) e) ∙ none in
               absurd (omega arith)
           go frame.Empty e none =
-              let clash : ◌≡◌ {A = ℕ} 103 0 = sym (ap (λ (a : FrameAnswer Vector). (of_frame a).returned) e) ∙ none in
+              let clash : ◌≡◌ {A = ℕ} 103 0 = sym (ap (λ (a : FrameAnswer Vector Refusal). (of_frame a).returned) e) ∙ none in
               absurd (omega arith)
           go (frame.Refused k) e none =
-              let number : number_of k ≡ 0 = sym (ap (λ (a : FrameAnswer Vector). (of_frame a).returned) e) ∙ none in
+              let number : number_of k ≡ 0 = sym (ap (λ (a : FrameAnswer Vector Refusal). (of_frame a).returned) e) ∙ none in
               let seven : number_of k ≡ 7 = ap number_of (by_seven (pane_of kept.numbers kept.places) t k e) in
               absurd (omega arith)
 
@@ -208,7 +208,7 @@ module _ (m extras : List Float) (dut rule : ℕ) where
           go (frame_at (pane_of kept.numbers kept.places) t)
           (off_air setting h (state_in injection) b made (map state_in hand) (pane_of kept.numbers kept.places) (as_desk b made hand kept d) start last n k t moved walked off past)
         where
-          go : (answer : FrameAnswer Vector) → OffAir b setting h start last t answer → OffAirIn m extras dut rule b h start last t (of_frame answer)
+          go : (answer : FrameAnswer Vector Refusal) → OffAir b setting h start last t answer → OffAirIn m extras dut rule b h start last t (of_frame answer)
           go answer air.empty = empty_in
           go answer (air.late n s walked within gone) = late_in n s walked within gone
 
@@ -216,23 +216,23 @@ module _ (m extras : List Float) (dut rule : ℕ) where
       pub on_air_moving_in_memory : (motion_in kept t).returned ≡ 0 → OnAirMovingIn m extras dut rule b h injection made t (motion_in kept t)
       on_air_moving_in_memory zero = go (motion_at (pane_of kept.numbers kept.places) t) refl zero
         where
-          go : (answer : FrameAnswer Motion) → motion_at (pane_of kept.numbers kept.places) t ≡ answer → (of_motion (motion_at (pane_of kept.numbers kept.places) t)).returned ≡ 0
+          go : (answer : FrameAnswer Motion Refusal) → motion_at (pane_of kept.numbers kept.places) t ≡ answer → (of_motion (motion_at (pane_of kept.numbers kept.places) t)).returned ≡ 0
               → OnAirMovingIn m extras dut rule b h injection made t (motion_in kept t)
           go (frame.Current x) e none =
               record {
                 motion = x;
-                written = ap (λ (a : FrameAnswer Motion). (of_motion a).motion) e;
+                written = ap (λ (a : FrameAnswer Motion Refusal). (of_motion a).motion) e;
                 shown =
                     on_air_moving setting h (state_in injection) b made (map state_in hand) (pane_of kept.numbers kept.places) (as_desk b made hand kept d) t x e;
               }
           go (frame.Late ms) e none =
-              let clash : ◌≡◌ {A = ℕ} 102 0 = sym (ap (λ (a : FrameAnswer Motion). (of_motion a).returned) e) ∙ none in
+              let clash : ◌≡◌ {A = ℕ} 102 0 = sym (ap (λ (a : FrameAnswer Motion Refusal). (of_motion a).returned) e) ∙ none in
               absurd (omega arith)
           go frame.Empty e none =
-              let clash : ◌≡◌ {A = ℕ} 103 0 = sym (ap (λ (a : FrameAnswer Motion). (of_motion a).returned) e) ∙ none in
+              let clash : ◌≡◌ {A = ℕ} 103 0 = sym (ap (λ (a : FrameAnswer Motion Refusal). (of_motion a).returned) e) ∙ none in
               absurd (omega arith)
           go (frame.Refused k) e none =
-              let number : number_of k ≡ 0 = sym (ap (λ (a : FrameAnswer Motion). (of_motion a).returned) e) ∙ none in
+              let number : number_of k ≡ 0 = sym (ap (λ (a : FrameAnswer Motion Refusal). (of_motion a).returned) e) ∙ none in
               let seven : number_of k ≡ 7 = ap number_of (moving_by_seven (pane_of kept.numbers kept.places) t k e) in
               absurd (omega arith)
 
@@ -243,7 +243,7 @@ module _ (m extras : List Float) (dut rule : ℕ) where
           go (motion_at (pane_of kept.numbers kept.places) t)
           (off_air_moving setting h (state_in injection) b made (map state_in hand) (pane_of kept.numbers kept.places) (as_desk b made hand kept d) start last n k t moved walked off past)
         where
-          go : (answer : FrameAnswer Motion) → OffAirMoving b setting h start last t answer → OffAirMovingIn m extras dut rule b h start last t (of_motion answer)
+          go : (answer : FrameAnswer Motion Refusal) → OffAirMoving b setting h start last t answer → OffAirMovingIn m extras dut rule b h start last t (of_motion answer)
           go answer air.empty_moving = empty_moving_in
           go answer (air.late_moving n s walked within gone) = late_moving_in n s walked within gone
 

@@ -21,7 +21,7 @@ use Rattle.run_laws.specs.Journey.{Call, journey}
 use Rattle.run_laws.proofs.Answers.{answer_is, refused_is, run_from, centre_stays}
 use Rattle.run_laws.proofs.Order.{run_launched}
 use Rattle.c_run.specs.Lent.{setting_of, no_extras, injection_of, state_of, guesses_of, coordinates_in, whole_in}
-use Rattle.c_run.specs.Answers.{RunMemory, of_run, of_flight}
+use Rattle.c_run.specs.Answers.{RunMemory, of_run, of_flight, of_flight_by}
 use Rattle.c_laws.specs.Linked.{LinkedCall, as_call, linked_journey, old_journey}
 
 -- a run stays about its centre
@@ -42,8 +42,8 @@ state_reads_back b setting s h target budget given =
     let r = run_answer b setting s h target budget given in
     ap (λ (c : ℕ). state_of (of_flight r).moment c (of_flight r).coordinates) (sym (centre_stays_lem b setting s h target budget given))
 
-pub guesses_read_back : (r : RunAnswer) → guesses_of (of_flight r).guesses ≡ r.guesses
-guesses_read_back r = refl
+pub guesses_read_back : {R : Type 0} (told : R → ℕ) (r : RunAnswer R) → guesses_of (of_flight_by told r).guesses ≡ r.guesses
+guesses_read_back told r = refl
 
 module _ (b : List ℕ) (m extras : List Float) (dut rule centre h target : ℕ) where
   pub is_a_journey : (moment : ℕ) (coordinates : List Float) (calls : List LinkedCall)

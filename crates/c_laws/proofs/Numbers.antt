@@ -57,7 +57,7 @@ pub told : {A : Type 0} (answer : Result A Refusal) → in_table answer ≡ true
 told (Ok value) = refl
 told (Err k) = number_told k
 
-outcome_is_told : (o : Outcome) → outcome_told o ≡ true
+outcome_is_told : (o : Outcome Refusal) → outcome_told o ≡ true
 outcome_is_told Outcome.Arrived = refl
 outcome_is_told Outcome.Going = refl
 outcome_is_told (Outcome.Refused k) = number_told k

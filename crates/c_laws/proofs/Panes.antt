@@ -4,12 +4,15 @@ use mathlib.Core.Bool.{Bool, true}
 use mathlib.Core.List.{List, [], ◌∷◌, map}
 use mathlib.Core.Path.{◌≡◌, refl, ap, ◌∙◌}
 use Prim.Native.Nat.{ℕ, ◌-◌, ◌≤◌, ◌<◌}
+use native.Mathlib.Omega.{arith}
 use lib.Ieee.{Float}
+use borrow.Author.Tests.{leb-true, ne_eqb}
 use Rattle.std.specs.Prelude.{Some}
 use Rattle.base.specs.Refusals.{number_of}
 use Rattle.base.specs.declared.Refusal.{Refusal}
-use Rattle.base.specs.Choice.{◌<?◌, ◌=?◌}
+use Rattle.base.specs.Choice.{◌<?◌, ◌≤?◌, ◌=?◌}
 use Rattle.base.proofs.Cases.{by_if}
+use Rattle.base.proofs.Bools as bools
 use Rattle.state.specs.State.{finite_vector}
 use Rattle.state.specs.declared.State.{State}
 use Rattle.state.specs.declared.Setting.{Setting}
@@ -26,10 +29,11 @@ use Rattle.pane_live.specs.declared.TakeAnswer.TheVariants as taken
 use Rattle.state.specs.declared.Vector.{Vector}
 use Rattle.pane_live.specs.declared.FrameAnswer.{FrameAnswer}
 use Rattle.c_run.specs.Lent.{setting_of, state_of, guesses_of, whole_in}
-use Rattle.c_run.specs.Answers.{going, outcome_number}
+use Rattle.c_run.specs.Answers.{going, number_by, outcome_number}
 use Rattle.c_pane.specs.Lent.{Kept, pane_of, numbers_in, places_in, pane_in, outcome_of, fed_with_outcome, fed_with, left}
 use Rattle.c_pane.proofs.Fed.{fed_with_number}
 use Rattle.belfry_pane.specs.Answers.{of_frame}
+use Rattle.c_laws.specs.Table.{outcome_told_by}
 use Rattle.c_laws.specs.Linked.{LinkedCall, as_call, linked_journey}
 use Rattle.c_laws.specs.Panes.{fed_in, taken_or18, fed_or18, frame_told}
 use Rattle.c_laws.proofs.Journeys.{state_reads_back}
@@ -60,17 +64,33 @@ refusal_reads_back Refusal.Short = refl
 refusal_reads_back Refusal.Large = refl
 refusal_reads_back Refusal.NotNext = refl
 
-outcome_reads_back : (o : Outcome) → outcome_of (outcome_number o) ≡ Some o
+outcome_reads_back : (o : Outcome Refusal) → outcome_of (outcome_number o) ≡ Some o
 outcome_reads_back Outcome.Arrived = refl
 outcome_reads_back Outcome.Going = refl
 outcome_reads_back (Outcome.Refused k) = refusal_reads_back k
 
 -- "`feed` takes what ask's `fly` answers": steps and guesses are not read
-pub fed_as_answered : (pane : Pane) (r : RunAnswer) → fed_with pane (outcome_number r.outcome) r.state ≡ feed pane r
+pub fed_as_answered : (pane : Pane) (r : RunAnswer Refusal) → fed_with pane (outcome_number r.outcome) r.state ≡ feed pane r
 unfolding feed
 fed_as_answered pane r = ap (fed_with_outcome pane r.state) (outcome_reads_back r.outcome)
 
-left_is : (pane : Pane) (answer : TakeAnswer) → (left (pane_in pane) answer).memory ≡ pane_in (after pane answer)
+-- the same where the answer holds any refusal whose number is told, and is one of the table
+told_back : {R : Type 0} (told : R → ℕ) (pane : Pane) (s : State) (o : Outcome R) → outcome_told_by told o ≡ true
+    → fed_with pane (number_by told o) s ≡ feed_by o pane s
+unfolding feed
+told_back told pane s Outcome.Arrived e = refl
+told_back told pane s Outcome.Going e = refl
+told_back told pane s (Outcome.Refused k) e =
+    let least : 1 ≤ told k = leb-true 1 (told k) (bools.left (1 ≤? told k) (told k ≤? 18) e) in
+    let most : told k ≤ 18 = leb-true (told k) 18 (bools.right (1 ≤? told k) (told k ≤? 18) e) in
+    fed_with_number pane (told k) s ∙ rw (ne_eqb (told k) 0 (λ z. absurd (omega arith)), ne_eqb (told k) 100 (λ z. absurd (omega arith)))
+
+pub fed_as_answered_by : {R : Type 0} (told : R → ℕ) (pane : Pane) (r : RunAnswer R) → outcome_told_by told r.outcome ≡ true
+    → fed_with pane (number_by told r.outcome) r.state ≡ feed pane r
+unfolding feed
+fed_as_answered_by told pane r e = told_back told pane r.state r.outcome e
+
+left_is : (pane : Pane) (answer : TakeAnswer Refusal) → (left (pane_in pane) answer).memory ≡ pane_in (after pane answer)
 left_is pane (taken.Taken next) = refl
 left_is pane taken.Unchanged = refl
 left_is pane (taken.Refused k) = refl
@@ -79,7 +99,7 @@ module _ (b : List ℕ) (m extras : List Float) (dut rule centre h target : ℕ)
   abbrev setting : Setting
   setting = setting_of m extras dut rule
 
-  abbrev flight : ℕ → List Float → LinkedCall → RunAnswer
+  abbrev flight : ℕ → List Float → LinkedCall → RunAnswer Refusal
   flight moment coordinates call = run_answer b setting (state_of moment centre coordinates) h target call.budget (guesses_of call.guesses)
 
   fed_once : (pane : Pane) (moment : ℕ) (coordinates : List Float) (call : LinkedCall)
@@ -92,7 +112,7 @@ module _ (b : List ℕ) (m extras : List Float) (dut rule centre h target : ℕ)
       ap (λ (p : Pane). (left (pane_in pane) (fed_with p (outcome_number r.outcome) (state_of r.state.moment centre (whole_in r.state)))).memory) (pane_reads_back pane)
       ∙ ap (λ (reached : State). (left (pane_in pane) (fed_with pane (outcome_number r.outcome) reached)).memory)
       (state_reads_back b setting s h target call.budget (guesses_of call.guesses))
-      ∙ ap (λ (answer : TakeAnswer). (left (pane_in pane) answer).memory)
+      ∙ ap (λ (answer : TakeAnswer Refusal). (left (pane_in pane) answer).memory)
       (fed_as_answered pane r)
       ∙ left_is pane (feed pane r)
 
@@ -113,14 +133,14 @@ module _ (b : List ℕ) (m extras : List Float) (dut rule centre h target : ℕ)
 
 -- the numbers that the calls return: only 0 means that a state is taken or a position shown, and no refusal is 101, 102 or 103
 module _ (before : Kept) where
-  abbrev taking : TakeAnswer → Bool
+  abbrev taking : TakeAnswer Refusal → Bool
   taking answer = taken_or18 (left before answer).returned
 
-  abbrev feeding : TakeAnswer → Bool
+  abbrev feeding : TakeAnswer Refusal → Bool
   feeding answer = fed_or18 (left before answer).returned
 
   -- a state offered, by any test that 0 and 18 meet
-  offered : (p : TakeAnswer → Bool) (pane : Pane) (s : State) → ((next : Pane) → p (taken.Taken next) ≡ true) → p (taken.Refused Refusal.NotNext) ≡ true → p (take pane s) ≡ true
+  offered : (p : TakeAnswer Refusal → Bool) (pane : Pane) (s : State) → ((next : Pane) → p (taken.Taken next) ≡ true) → p (taken.Refused Refusal.NotNext) ≡ true → p (take pane s) ≡ true
   unfolding take
   offered p Blank s took left_out = took _
   offered p (One a) s took left_out = by_if p (follows a s) (took _) left_out
@@ -129,12 +149,12 @@ module _ (before : Kept) where
   pub take_told : (pane : Pane) (s : State) → taken_or18 (left before (take pane s)).returned ≡ true
   take_told pane s = offered taking pane s (λ next. refl) refl
 
-  by_outcome : (o : Outcome) (pane : Pane) (s : State) → fed_or18 (left before (feed_by o pane s)).returned ≡ true
+  by_outcome : {R : Type 0} (o : Outcome R) (pane : Pane) (s : State) → fed_or18 (left before (feed_by o pane s)).returned ≡ true
   by_outcome Outcome.Arrived pane s = offered feeding pane s (λ next. refl) refl
   by_outcome Outcome.Going pane s = offered feeding pane s (λ next. refl) refl
   by_outcome (Outcome.Refused k) pane s = refl
 
-  pub feed_told : (pane : Pane) (r : RunAnswer) → fed_or18 (left before (feed pane r)).returned ≡ true
+  pub feed_told : {R : Type 0} (pane : Pane) (r : RunAnswer R) → fed_or18 (left before (feed pane r)).returned ≡ true
   unfolding feed
   feed_told pane r = by_outcome r.outcome pane r.state
 
@@ -144,7 +164,7 @@ module _ (before : Kept) where
       let taken_told : feeding (take pane s) ≡ true = offered feeding pane s (λ next. refl) refl in
       rw (fed_with_number pane n s) (by_if feeding (n =? 0) taken_told (by_if feeding (n =? going) taken_told refl))
 
-abbrev framing : FrameAnswer Vector → Bool
+abbrev framing : FrameAnswer Vector Refusal → Bool
 framing answer = frame_told (of_frame answer).returned
 
 pub frame_told_lem : (pane : Pane) (t : ℕ) → frame_told (of_frame (frame_at pane t)).returned ≡ true

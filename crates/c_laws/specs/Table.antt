@@ -13,7 +13,11 @@ tabled k = 1 ≤? k && k ≤? 18
 abbrev pub in_table : {A : Type 0} → Result A Refusal → Bool
 in_table answer = refused_by (λ k. tabled (number_of k)) answer
 
-abbrev pub outcome_told : Outcome → Bool
-outcome_told Outcome.Arrived = true
-outcome_told Outcome.Going = true
-outcome_told (Outcome.Refused k) = tabled (number_of k)
+-- of a run, for any refusal whose number is told
+abbrev pub outcome_told_by : {R : Type 0} → (R → ℕ) → Outcome R → Bool
+outcome_told_by told Outcome.Arrived = true
+outcome_told_by told Outcome.Going = true
+outcome_told_by told (Outcome.Refused k) = tabled (told k)
+
+abbrev pub outcome_told : Outcome Refusal → Bool
+outcome_told outcome = outcome_told_by number_of outcome
