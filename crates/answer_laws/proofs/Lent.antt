@@ -3,6 +3,10 @@
 use mathlib.Core.List.{List}
 use mathlib.Core.Path.{refl}
 use lib.Ieee.{Float}
+use denote.RattleType.{RattleType}
+use mir.Syntax.{Dict}
+use Rattle.std.specs.declared.clone.Clone as clone
+use Rattle.base.specs.declared.Reason.{Ghosts}
 use Rattle.base.proofs.OneAnswer.{Tell, OneOutcome, one_outcome}
 use Rattle.gravity.specs.Acceleration.{acceleration_answer}
 use Rattle.gravity_stored.specs.Injection.{injection_answer}
@@ -12,7 +16,7 @@ use Rattle.c_answer.specs.Handed.{Handed, handed, answered}
 use Rattle.c_run.specs.Lent.{setting_of, vector_of, injection_of, unkept_of}
 use Rattle.c_earth.specs.Earth.{of_fixed}
 use Rattle.c_conic.specs.Figures.{Both, both_in, of_conic}
-use Rattle.c_run.specs.Answers.{of_acceleration, of_injection, RunMemory, run_memory, of_run, of_flight}
+use Rattle.c_run.specs.Answers.{of_acceleration, of_injection, RunMemory, run_memory, of_run_by, of_flight_by}
 use Rattle.c_gravity.specs.contracts.pull as pull
 use Rattle.c_gravity.specs.contracts.inject as inject
 use Rattle.c_earth.specs.contracts.turned as turned
@@ -66,16 +70,16 @@ orbit_answers_once =
     answered (both_in out.0.now out.1.0.now) (of_conic (conic_answer inputs.0 (unkept_of inputs.1.0 inputs.1.1.0 inputs.1.1.1.0.now))))
     (λ M 𝓤 𝓛 mem run κs inputs g r after. refl)
 
-abbrev tell_run : Tell hand_back.ended (λ κs. RunMemory)
-tell_run κs r after = let out = after.1 in run_memory r out.0.now out.1.0.now out.1.1.0.now out.1.1.1.0.now
+abbrev tell_run : (R : RattleType) (g : Ghosts R.Denot) (d : Dict) (copied : clone.Ghosts R.Denot) (d' : Dict) → Tell (hand_back.ended R g d copied d') (λ κs. RunMemory)
+tell_run R g d copied d' κs r after = let out = after.1 in run_memory r out.0.now out.1.0.now out.1.1.0.now out.1.1.1.0.now
 
-pub hand_back_answers_once : OneOutcome hand_back.ended (λ M 𝓤 𝓛. hand_back.clauses 𝓛) (λ κs. RunMemory) tell_run
-hand_back_answers_once =
-    one_outcome (λ κs. RunMemory) tell_run (λ κs inputs. of_run inputs.0) (λ M 𝓤 𝓛 mem run κs inputs g r after. refl)
+pub hand_back_answers_once : (R : RattleType) (g : Ghosts R.Denot) (d : Dict) (copied : clone.Ghosts R.Denot) (d' : Dict) → OneOutcome (hand_back.ended R g d copied d') (λ M 𝓤 𝓛. hand_back.clauses R g d copied d' 𝓛) (λ κs. RunMemory) (tell_run R g d copied d')
+hand_back_answers_once R g d copied d' =
+    one_outcome (λ κs. RunMemory) (tell_run R g d copied d') (λ κs inputs. of_run_by g.told inputs.0) (λ M 𝓤 𝓛 mem run κs inputs g' r after. refl)
 
-abbrev tell_flight : Tell hand_back_whole.ended (λ κs. RunMemory)
-tell_flight κs r after = let out = after.1 in run_memory r out.0.now out.1.0.now out.1.1.0.now out.1.1.1.0.now
+abbrev tell_flight : (R : RattleType) (g : Ghosts R.Denot) (d : Dict) (copied : clone.Ghosts R.Denot) (d' : Dict) → Tell (hand_back_whole.ended R g d copied d') (λ κs. RunMemory)
+tell_flight R g d copied d' κs r after = let out = after.1 in run_memory r out.0.now out.1.0.now out.1.1.0.now out.1.1.1.0.now
 
-pub hand_back_whole_answers_once : OneOutcome hand_back_whole.ended (λ M 𝓤 𝓛. hand_back_whole.clauses 𝓛) (λ κs. RunMemory) tell_flight
-hand_back_whole_answers_once =
-    one_outcome (λ κs. RunMemory) tell_flight (λ κs inputs. of_flight inputs.0) (λ M 𝓤 𝓛 mem run κs inputs g r after. refl)
+pub hand_back_whole_answers_once : (R : RattleType) (g : Ghosts R.Denot) (d : Dict) (copied : clone.Ghosts R.Denot) (d' : Dict) → OneOutcome (hand_back_whole.ended R g d copied d') (λ M 𝓤 𝓛. hand_back_whole.clauses R g d copied d' 𝓛) (λ κs. RunMemory) (tell_flight R g d copied d')
+hand_back_whole_answers_once R g d copied d' =
+    one_outcome (λ κs. RunMemory) (tell_flight R g d copied d') (λ κs inputs. of_flight_by g.told inputs.0) (λ M 𝓤 𝓛 mem run κs inputs g' r after. refl)
