@@ -24,16 +24,16 @@
      belfry_book_holds               80       136
      belfry_position                 80       152
      belfry_repair                10336     10392
-     belfry_acceleration           1792      2168
-     belfry_run                    3840      5112
-     belfry_single_step            3840      5096
+     belfry_acceleration           1792      2152
+     belfry_run                    3840      5240
+     belfry_single_step            3840      5224
      belfry_earth_fixed             224       120
      belfry_from_sphere             368       344
      belfry_conic                   120       272
-     belfry_pull                   1904      2200
-     belfry_inject                 1840      2136
-     belfry_move                   2016      2312
-     belfry_fly                    3376      4632
+     belfry_pull                   1904      2168
+     belfry_inject                 1840      2104
+     belfry_move                   2016      2280
+     belfry_fly                    3376      4760
      belfry_turn                     16       120
      belfry_orbit                   128       272
      belfry_clear                    16         8
